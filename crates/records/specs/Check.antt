@@ -1,0 +1,110 @@
+-- Rows 1 to 8 of the table of refusals, and the vocabulary check.
+use Prim.Native.Nat.{ℕ, zero, suc, _-_, _%_}
+use mathlib.Core.Bool.{Bool, true, false, not, _&&_, _||_}
+use mathlib.Core.List.{List}
+use lib.ListN.{length}
+use lib.Dec.{ltb, leb, eqb}
+use Rattle.records.specs.Outcome.{Outcome, Check, accepted, pass, _then_, require, inTurn}
+use Rattle.records.specs.Format.{recordAt, count, firstStatement, roleCount}
+use Rattle.records.specs.Kinds.{isTerm, isStatement, sortsOf}
+use Rattle.records.specs.declared.fields.Record.{Record}
+use Rattle.records.specs.declared.kinds.Sort.{Sort}
+use Rattle.records.specs.declared.kinds.Sort.the-variants.{Spare, Term, Role, Label, Link}
+use Rattle.records.specs.declared.kinds.Sorts.{Sorts}
+
+-- Row 1: "under 8, over 4,096 or no multiple of 8"
+abbrev pub lengthFits : List ℕ → Bool
+lengthFits v = leb 8 (length v) && (leb (length v) 4096 && eqb (length v % 8) 0)
+
+abbrev pub lengthCheck : List ℕ → Check
+lengthCheck v = require (lengthFits v) 1 0
+
+-- Row 2: "kind, second byte, role count or next" of the header: "kind 16, second byte 1, .. B the number of roles (0 to 64), next 0"
+abbrev pub headerFits : Record → Bool
+headerFits r = eqb (r .kind) 16 && (eqb (r .second) 1 && (leb (r .b) 64 && eqb (r .next) 0))
+
+abbrev pub headerCheck : List ℕ → Check
+headerCheck v = require (headerFits (recordAt v 0)) 2 0
+
+-- Row 3: "kind not 1 to 9, or second byte"
+abbrev pub kindFits : Record → Bool
+kindFits r = leb 1 (r .kind) && (leb (r .kind) 9 && eqb (r .second) 0)
+
+abbrev pub kindCheck : Record → ℕ → Check
+kindCheck r i = require (kindFits r) 3 i
+
+-- Whether a test holds at one of i, i + 1, .., n of them.
+unfoldable pub anyFrom : (ℕ → Bool) → ℕ → ℕ → Bool
+anyFrom test i zero = false
+anyFrom test i (suc n) = test i || anyFrom test (suc i) n
+
+-- record j is a name with this label
+abbrev pub named : List ℕ → ℕ → ℕ → Bool
+named v label j = eqb (recordAt v j .kind) 3 && eqb (recordAt v j .a) label
+
+-- "label of an earlier name"
+abbrev pub labelled : List ℕ → ℕ → ℕ → Bool
+labelled v i label = anyFrom (named v label) 1 (i - 1)
+
+-- "A term number in a field is 1 or more, below the record's own number, and names a term."
+abbrev pub termFits : List ℕ → ℕ → ℕ → Bool
+termFits v i x = leb 1 x && (ltb x i && isTerm (recordAt v x .kind))
+
+-- "0 [or] a later statement"
+abbrev pub linkFits : List ℕ → ℕ → ℕ → Bool
+linkFits v i x = eqb x 0 || (ltb i x && (ltb x (count v) && isStatement (recordAt v x .kind)))
+
+-- Whether x may stand in a field of record i that holds this sort.
+abbrev pub fits : List ℕ → ℕ → Sort → ℕ → Bool
+fits v i Spare x = eqb x 0
+fits v i Term x = termFits v i x
+fits v i Role x = ltb x (roleCount v)
+fits v i Label x = not (labelled v i x)
+fits v i Link x = linkFits v i x
+
+-- The row that speaks of a field of this sort: 4 "unused field not zero", 5 "term number", 6 "role not below the count",
+-- 7 "label of an earlier name", 8 "not 0 and not a later statement".
+abbrev pub row : Sort → ℕ
+row Spare = 4
+row Term = 5
+row Role = 6
+row Label = 7
+row Link = 8
+
+-- Row n has nothing against x in a field of record i that holds this sort.
+abbrev pub clear : List ℕ → ℕ → ℕ → Sort → ℕ → Bool
+clear v i n sort x = not (eqb (row sort) n) || fits v i sort x
+
+abbrev pub rowFits : List ℕ → ℕ → ℕ → Sorts → Record → Bool
+rowFits v i n s r = clear v i n (s .a) (r .a) && (clear v i n (s .b) (r .b) && clear v i n (s .next) (r .next))
+
+abbrev pub rowCheck : List ℕ → ℕ → ℕ → Sorts → Record → Check
+rowCheck v i n s r = require (rowFits v i n s r) n i
+
+-- Rows 3 to 7, at one record
+abbrev pub fieldsCheck : List ℕ → ℕ → Record → Check
+fieldsCheck v i r =
+    kindCheck r i
+    then rowCheck v i 4 (sortsOf (r .kind)) r
+    then rowCheck v i 5 (sortsOf (r .kind)) r
+    then rowCheck v i 6 (sortsOf (r .kind)) r
+    then rowCheck v i 7 (sortsOf (r .kind)) r
+
+unfoldable pub recordCheck : List ℕ → ℕ → Check
+recordCheck v i = fieldsCheck v i (recordAt v i)
+
+-- Row 8: "Header A, then each statement's next"; "A statement off the chain is checked"
+unfoldable pub linkCheck : List ℕ → ℕ → Check
+linkCheck v i = require (not (isStatement (recordAt v i .kind)) || linkFits v i (recordAt v i .next)) 8 i
+
+abbrev pub linksCheck : List ℕ → Check
+linksCheck v = require (linkFits v 0 (firstStatement v)) 8 0 then inTurn (linkCheck v) 1 (count v - 1)
+
+-- The vocabulary check "answers the number of records, header included": row 1, row 2, rows 3 to 7 at "each record in turn", row 8.
+unfoldable pub vocabularyCheck : List ℕ → Outcome ℕ
+vocabularyCheck v =
+    lengthCheck v
+    then headerCheck v
+    then inTurn (recordCheck v) 1 (count v - 1)
+    then linksCheck v
+    then accepted (count v)

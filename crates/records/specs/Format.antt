@@ -1,0 +1,31 @@
+-- The bytes of a vocabulary.
+use Prim.Native.Nat.{ℕ, _+_, _*_, _/_}
+use mathlib.Core.List.{List}
+use lib.ListN.{length, getD, take, drop}
+use Rattle.records.specs.declared.fields.Record.{Record}
+
+-- "Numbers in files are 16-bit, low byte first."
+abbrev pub wordAt : List ℕ → ℕ → ℕ
+wordAt s i = getD s i 0 + 256 * getD s (i + 1) 0
+
+-- "A record is 8 bytes: kind, a second byte, A, B, next (two bytes each)."
+abbrev pub recordOf : List ℕ → Record
+recordOf s = record { kind = getD s 0 0; second = getD s 1 0; a = wordAt s 2; b = wordAt s 4; next = wordAt s 6 }
+
+-- the eight bytes of record i
+abbrev pub partAt : List ℕ → ℕ → List ℕ
+partAt v i = take 8 (drop (8 * i) v)
+
+unfoldable pub recordAt : List ℕ → ℕ → Record
+recordAt v i = recordOf (partAt v i)
+
+-- the number of records, header included
+abbrev pub count : List ℕ → ℕ
+count v = length v / 8
+
+-- "Record 0 is the header: .. A the first statement or 0, B the number of roles"
+abbrev pub firstStatement : List ℕ → ℕ
+firstStatement v = recordAt v 0 .a
+
+abbrev pub roleCount : List ℕ → ℕ
+roleCount v = recordAt v 0 .b

@@ -1,0 +1,53 @@
+// A record's bytes as numbers.
+ghost use mathlib.Core.Path.{_≡_};
+ghost use Prim.Native.Nat.{_+_, _*_, _≤_};
+ghost use lib.ListN.{length};
+ghost use Rattle.records.specs.Format.{recordOf, recordAt};
+
+pub struct Record {
+    pub kind: u8,
+    pub second: u8,
+    pub a: u16,
+    pub b: u16,
+    pub next: u16,
+}
+
+impl Record {
+    // Bytes of a record.
+    pub const SIZE: usize = 8;
+    // Records of a vocabulary, header included.
+    pub const LIMIT: usize = 512;
+    // Roles of a vocabulary.
+    pub const ROLES: u16 = 64;
+
+    // The record that eight bytes hold.
+    pub fn read(part: &[u8]) -> Self
+        requires { ⌜ length (now part) ≡ 8 ⌝ }
+        ensures { λ r. ⌜ r ≡ recordOf (now (part .entry)) ⌝ }
+    {
+        Record {
+            kind: part[0],
+            second: part[1],
+            a: word(part[2], part[3]),
+            b: word(part[4], part[5]),
+            next: word(part[6], part[7]),
+        }
+    }
+}
+
+// A number in a file: low byte first.
+fn word(low: u8, high: u8) -> u16
+    ensures { λ r. ⌜ r ≡ low + 256 * high ⌝ }
+{
+    low as u16 + 256 * (high as u16)
+}
+
+// Record i of a vocabulary that has it.
+pub fn read_at(v: &[u8], i: usize) -> Record
+    requires { ⌜ 8 * i + 8 ≤ length (now v) ⌝ }
+    ensures { λ r. ⌜ r ≡ recordAt (now (v .entry)) i ⌝ }
+{
+    let at = Record::SIZE * i;
+    let end = at + Record::SIZE;
+    Record::read(&v[at..end])
+}
