@@ -1,18 +1,88 @@
 -- Bounds on what the calls answer: what a caller needs to index a vocabulary, or to pack an answer into a word.
---   record-within    the record call's offset leaves room for a record
+--   vocabulary-count   the vocabulary check's count
+--   vocabulary-small   its count or place is at most 512
+--   record-within      the record call's offset leaves room for a record
+--   record-small       its offset or place is at most 4,096 or the number asked for
 -- Assumes nothing.
-use Prim.Native.Nat.{ℕ, _+_, _*_, _≤_, _<_}
+use Prim.Native.Nat.{ℕ, zero, suc, _+_, _-_, _*_, _≤_, _<_, max}
 use native.Mathlib.Omega.{arith}
-use mathlib.Core.Path.{_≡_, _∙_, sym}
+use mathlib.Core.Path.{_≡_, refl, _∙_, sym, ap, subst}
+use mathlib.Core.Bool.{Bool, true, false}
 use mathlib.Core.List.{List}
 use lib.ListN.{length}
 use lib.Dec.{ltb}
 use borrow.Author.Tests.{ltb-true}
-use Rattle.records.specs.Outcome.{accepted, _then_, require}
-use Rattle.records.specs.Format.{count}
-use Rattle.records.specs.Check.{lengthCheck}
+use Rattle.records.specs.Outcome.{Outcome, Check, accepted, refused, pass, _then_, require, inTurn}
+use Rattle.records.specs.Format.{count, recordAt, firstStatement}
+use Rattle.records.specs.Kinds.{isStatement, sortsOf}
+use Rattle.records.specs.Check.{lengthFits, lengthCheck, headerFits, headerCheck, kindFits, kindCheck, rowCheck, rowFits, recordCheck, linkFits, nextFits, linkCheck, linksCheck, vocabularyCheck}
 use Rattle.records.specs.Call.{recordCall}
-use Rattle.records.proofs.Passed.{require-passed, then-passed}
+use Rattle.records.proofs.Passed.{Sized, require-passed, then-passed, length-passed}
+
+-- An outcome whose value, or place, is at most m.
+abbrev pub Small : ℕ → Outcome ℕ → Type 0
+Small m (accepted n) = n ≤ m
+Small m (refused k p) = p ≤ m
+
+-- A check whose place is at most m.
+abbrev Near : ℕ → Check → Type 0
+Near m (accepted u) = Unit {0}
+Near m (refused k p) = p ≤ m
+
+module _ (m : ℕ) where
+  require-near : (b : Bool) (n p : ℕ) → p ≤ m → Near m (require b n p)
+  require-near true n p h = tt
+  require-near false n p h = h
+
+  then-near : (a b : Check) → Near m a → Near m b → Near m (a then b)
+  then-near (accepted u) b x y = y
+  then-near (refused k p) b x y = x
+
+  then-small : (a : Check) (b : Outcome ℕ) → Near m a → (a ≡ pass → Small m b) → Small m (a then b)
+  then-small (accepted u) b x y = y refl
+  then-small (refused k p) b x y = x
+
+  turns-near : (check : ℕ → Check) (n i : ℕ) → i + n ≤ m → ((k : ℕ) → k ≤ m → Near m (check k)) → Near m (inTurn check i n)
+  unfolding inTurn
+  turns-near check zero i h near = tt
+  turns-near check (suc n) i h near = then-near (check i) (inTurn check (suc i) n) (near i (omega arith)) (turns-near check n (suc i) (omega arith) near)
+
+module _ (m : ℕ) (v : List ℕ) where
+  record-near : (i : ℕ) → i ≤ m → Near m (recordCheck v i)
+  unfolding recordCheck
+  record-near i h =
+      let r = recordAt v i in
+      let s = sortsOf (r .kind) in
+      let row : (n : ℕ) → Near m (rowCheck v i n s r) = λ n. require-near m (rowFits v i n s r) n i h in
+      then-near m (kindCheck r i) _ (require-near m (kindFits r) 3 i h)
+      (then-near m (rowCheck v i 4 s r) _ (row 4)
+      (then-near m (rowCheck v i 5 s r) _ (row 5)
+      (then-near m (rowCheck v i 6 s r) _ (row 6) (row 7))))
+
+  link-near : (i : ℕ) → i ≤ m → Near m (linkCheck v i)
+  unfolding linkCheck
+  link-near i h = require-near m (nextFits v i) 8 i h
+
+pub vocabulary-count : (v : List ℕ) (n : ℕ) → vocabularyCheck v ≡ accepted n → n ≡ count v
+unfolding vocabularyCheck
+vocabulary-count v n e =
+    let records = inTurn (recordCheck v) 1 (count v - 1) in
+    let a = then-passed (lengthCheck v) _ n e .1 in
+    let b = then-passed (headerCheck v) _ n a .1 in
+    let c = then-passed records _ n b .1 in
+    let d : accepted (count v) ≡ accepted n = then-passed (linksCheck v) _ n c .1 in
+    cc
+
+pub vocabulary-small : (v : List ℕ) → Small 512 (vocabularyCheck v)
+unfolding vocabularyCheck
+vocabulary-small v =
+    then-small 512 (lengthCheck v) _ (require-near 512 (lengthFits v) 1 0 (omega arith))
+    (λ e. let sized = length-passed v e in
+    then-small 512 (headerCheck v) _ (require-near 512 (headerFits (recordAt v 0)) 2 0 (omega arith))
+    (λ _. then-small 512 (inTurn (recordCheck v) 1 (count v - 1)) _ (turns-near 512 (recordCheck v) (count v - 1) 1 (omega arith) (record-near 512 v))
+    (λ _. then-small 512 (linksCheck v) _
+    (then-near 512 (require (linkFits v 0 (firstStatement v)) 8 0) (inTurn (linkCheck v) 1 (count v - 1)) (require-near 512 (linkFits v 0 (firstStatement v)) 8 0 (omega arith)) (turns-near 512 (linkCheck v) (count v - 1) 1 (omega arith) (link-near 512 v)))
+    (λ _. omega arith))))
 
 pub record-within : (v : List ℕ) (n at : ℕ) → recordCall v n ≡ accepted at → at + 8 ≤ length v
 unfolding recordCall
@@ -23,3 +93,11 @@ record-within v n at e =
     let below : n < count v = ltb-true _ _ (require-passed (ltb n (count v)) 9 n (known .0)) in
     let same : 8 * n ≡ at = cc in
     omega arith
+
+pub record-small : (v : List ℕ) (n : ℕ) → Small (max 4096 n) (recordCall v n)
+unfolding recordCall
+record-small v n =
+    then-small (max 4096 n) (lengthCheck v) _ (require-near (max 4096 n) (lengthFits v) 1 0 (omega arith))
+    (λ e. let sized = length-passed v e in
+    then-small (max 4096 n) (require (ltb n (count v)) 9 n) _ (require-near (max 4096 n) (ltb n (count v)) 9 n (omega arith))
+    (λ p. let below : n < count v = ltb-true _ _ (require-passed (ltb n (count v)) 9 n p) in omega arith))

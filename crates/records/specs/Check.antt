@@ -94,8 +94,11 @@ unfoldable pub recordCheck : List ℕ → ℕ → Check
 recordCheck v i = fieldsCheck v i (recordAt v i)
 
 -- Row 8: "Header A, then each statement's next"; "A statement off the chain is checked"
+abbrev pub nextFits : List ℕ → ℕ → Bool
+nextFits v i = not (isStatement (recordAt v i .kind)) || linkFits v i (recordAt v i .next)
+
 unfoldable pub linkCheck : List ℕ → ℕ → Check
-linkCheck v i = require (not (isStatement (recordAt v i .kind)) || linkFits v i (recordAt v i .next)) 8 i
+linkCheck v i = require (nextFits v i) 8 i
 
 abbrev pub linksCheck : List ℕ → Check
 linksCheck v = require (linkFits v 0 (firstStatement v)) 8 0 then inTurn (linkCheck v) 1 (count v - 1)

@@ -1,0 +1,32 @@
+/* The vocabulary check and the record call of paper 01 in plain C, for comparison.
+ * The answers are packed as in judge.h. */
+#ifndef PLAIN_H
+#define PLAIN_H
+
+#include <stddef.h>
+#include <stdint.h>
+
+enum { RECORD_BYTES = 8, MAX_RECORDS = 512, MAX_ROLES = 64 };
+
+enum kind {
+    TOP = 1, BOTTOM, NAME, NOT, AND, OR, SOME, ALL, STATEMENT,
+    HEADER = 16
+};
+
+/* Refusals by their numbers in the paper. */
+enum refusal {
+    ACCEPTED = 0,
+    BAD_LENGTH, BAD_HEADER, BAD_KIND, BAD_UNUSED, BAD_TERM, BAD_ROLE, BAD_LABEL, BAD_NEXT,
+    PAST_END
+};
+
+/* Bits 0-7 the refusal, bits 8-39 the place or, where accepted, the value. */
+static inline uint64_t pack_answer(enum refusal refusal, uint32_t value)
+{
+    return (uint64_t)refusal | (uint64_t)value << 8;
+}
+
+uint64_t plain_check_vocabulary(const uint8_t *vocabulary, size_t vocabulary_len);
+uint64_t plain_record(const uint8_t *vocabulary, size_t vocabulary_len, uint32_t number);
+
+#endif

@@ -1,0 +1,2 @@
+-- The numbers that the calls from C answer.
+pub mod Packed
