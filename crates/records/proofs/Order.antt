@@ -1,19 +1,20 @@
 -- The order of checks: what a chain of checks answers, and what a run of checks or tests in turn does at one turn.
 --   stops, stopped, goes   a chain `a then b` where the first check refuses, or passes
+--   asked                  a row whose test was made by a call
 --   passed                 a check whose answer is `Fine`
 --   fails, rests           a conjunction whose first test was made
 --   turn-refused, turn-passed, turns-end   `inTurn` at one turn, and past its end
---   any-found, any-next, any-end           the same for `anyFrom`
+--   any-hit, any-miss      a search, one number further
 -- Assumes nothing.
 use Prim.Native.Nat.{ℕ, suc, _+_, _-_, _<_, _≤_}
 use native.Mathlib.Numerals.{add-one}
 use native.Mathlib.Omega.{arith}
 use mathlib.Core.Path.{_≡_, refl, sym, _∙_}
-use mathlib.Core.Bool.{Bool, true, false, not, _&&_, _||_}
+use mathlib.Core.Bool.{Bool, true, false, not, _&&_, or-true, or-false}
 use borrow.Author.Tests.{not-true, not-false}
-use Rattle.records.specs.Outcome.{Outcome, Check, pass, _then_, inTurn}
+use Rattle.records.specs.Outcome.{Outcome, Check, pass, _then_, require, inTurn}
 use Rattle.records.specs.Answers.{checked}
-use Rattle.records.specs.Check.{anyFrom}
+use Rattle.records.specs.Check.{anyBelow}
 use Rattle.records.specs.declared.answers.Checked.{Checked}
 use Rattle.records.specs.declared.answers.Checked.the-variants.{Fine, Refused}
 
@@ -24,6 +25,9 @@ module _ (k : Checked) {B : Type 0} (a : Check) (b : Outcome B) where
 
   pub goes : (o : Outcome B) → checked k ≡ a → k ≡ Fine → o ≡ b → o ≡ (a then b)
   goes o e r q = q ∙ rw (← e, r)
+
+pub asked : (o : Check) (t x : Bool) (n p : ℕ) → o ≡ require t n p → t ≡ x → o ≡ require x n p
+asked o t x n p h e = h ∙ rw e
 
 pub passed : (k : Checked) (a : Check) → checked k ≡ a → k ≡ Fine → a ≡ pass
 passed k a e r = sym e ∙ rw r
@@ -47,24 +51,19 @@ module _ (check : ℕ → Check) (i n : ℕ) where
       → inTurn check i (n - i) ≡ inTurn check (i + 1) (n - (i + 1))
   turn-passed k h e r = turn h ∙ sym (goes k (check i) _ _ e r refl)
 
-module _ (test : ℕ → Bool) (i n : ℕ) (h : i < n) where
-  any-turn : anyFrom test i (n - i) ≡ (test i || anyFrom test (i + 1) (n - (i + 1)))
-  unfolding anyFrom
-  any-turn = let e : n - i ≡ suc (n - (i + 1)) = omega arith in rw (e, add-one)
-
-  pub any-found : test i ≡ true → anyFrom test i (n - i) ≡ true
-  any-found e = any-turn ∙ rw e
-
-  pub any-next : test i ≡ false → anyFrom test i (n - i) ≡ anyFrom test (i + 1) (n - (i + 1))
-  any-next e = any-turn ∙ rw e
-
-pub any-end : (test : ℕ → Bool) (i n : ℕ) → n ≤ i → anyFrom test i (n - i) ≡ false
-unfolding anyFrom
-any-end test i n h = let e : n - i ≡ 0 = omega arith in rw e
-
 -- A conjunction whose first test was made: it fails, or the rest decides.
 pub fails : (r a b : Bool) → r ≡ a → not r ≡ true → false ≡ (a && b)
 fails r a b e h = rw (← e, not-true r h)
 
 pub rests : (r a b o : Bool) → r ≡ a → not r ≡ false → o ≡ b → o ≡ (a && b)
 rests r a b o e h q = q ∙ rw (← e, not-false r h)
+
+-- A search over the numbers below n, one number further.
+module _ (test : ℕ → Bool) (n : ℕ) where
+  pub any-hit : test n ≡ true → true ≡ anyBelow test (n + 1)
+  unfolding anyBelow
+  any-hit e = rw (add-one, e) (sym (or-true (anyBelow test n)))
+
+  pub any-miss : (found : Bool) → found ≡ anyBelow test n → test n ≡ false → found ≡ anyBelow test (n + 1)
+  unfolding anyBelow
+  any-miss found f e = rw (add-one, e) (f ∙ sym (or-false (anyBelow test n)))

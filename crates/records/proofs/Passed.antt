@@ -1,4 +1,4 @@
--- What a passed check tells: the inversions of `require`, `then`, `inTurn` and `anyFrom`, and of the length check.
+-- What a passed check tells: the inversions of `require`, `then`, `inTurn` and `anyBelow`, and of the length check.
 --   both-left, both-right, either-left, either-right   the parts of a true conjunction, or of a false disjunction
 --   require-passed, then-passed                        a row that passed; both checks of a chain that was accepted
 --   turn-at, any-at                                    each check of a run that passed; each test of a search that failed
@@ -14,7 +14,7 @@ use lib.ListN.{length}
 use lib.Dec.{leb, eqb}
 use borrow.Author.Tests.{leb-true, eqb-true}
 use Rattle.records.specs.Outcome.{Outcome, Check, accepted, refused, pass, _then_, require, inTurn}
-use Rattle.records.specs.Check.{anyFrom, lengthCheck, lengthFits}
+use Rattle.records.specs.Check.{anyBelow, lengthCheck, lengthFits}
 
 pub both-left : (a b : Bool) → (a && b) ≡ true → a ≡ true
 both-left true b e = refl
@@ -50,15 +50,15 @@ turn-at check (suc n) i e k l h =
     at (yes q) r = subst (λ (j : ℕ). check j ≡ pass) q (then-passed (check i) (inTurn check (suc i) n) tt e .0)
     at (no q) r = r (omega arith) (omega arith)
 
-pub any-at : (test : ℕ → Bool) (n i : ℕ) → anyFrom test i n ≡ false → (k : ℕ) → i ≤ k → k < i + n → test k ≡ false
-unfolding anyFrom
-any-at test zero i e k l h = absurd (omega arith)
-any-at test (suc n) i e k l h =
-    at (ℕ-discrete i k) (any-at test n (suc i) (either-right (test i) (anyFrom test (suc i) n) e) k)
+pub any-at : (test : ℕ → Bool) (n : ℕ) → anyBelow test n ≡ false → (k : ℕ) → k < n → test k ≡ false
+unfolding anyBelow
+any-at test zero e k h = absurd (omega arith)
+any-at test (suc n) e k h =
+    at (ℕ-discrete k n) (any-at test n (either-left (anyBelow test n) (test n) e) k)
   where
-    at : Dec (i ≡ k) → (suc i ≤ k → k < suc i + n → test k ≡ false) → test k ≡ false
-    at (yes q) r = subst (λ (j : ℕ). test j ≡ false) q (either-left (test i) (anyFrom test (suc i) n) e)
-    at (no q) r = r (omega arith) (omega arith)
+    at : Dec (k ≡ n) → (k < n → test k ≡ false) → test k ≡ false
+    at (yes q) r = subst (λ (j : ℕ). test j ≡ false) (sym q) (either-right (anyBelow test n) (test n) e)
+    at (no q) r = r (omega arith)
 
 -- Row 1 passed: 8 to 4,096 bytes, a multiple of 8.
 pub record Sized (v : List ℕ) : Type 0 where

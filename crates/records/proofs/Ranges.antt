@@ -1,6 +1,5 @@
 -- Kinds by ranges: the tests of a `match` over kind ranges, and what they say of the definitions by kind.
---   sorts-pair, sorts-role, sorts-low, sorts-high   what the fields of the kinds of a range hold
---   term-in, term-low, term-high                    which kinds are terms
+--   sorts-name, -negation, -junction, -restriction, -inclusion, -low, -high   what the fields of the kinds of an arm hold
 --   atom-role, atom-not                             which kinds are atoms
 -- Assumes nothing.
 use Prim.Native.Nat.{ℕ, zero, suc, _+_, _<_, _≤_}
@@ -11,8 +10,7 @@ use mathlib.Core.Bool.{Bool, true, false}
 use mathlib.Core.Logic.{_⊎_, inl, inr, ⊎-elim}
 use lib.ListN.{List·getD-eq-default}
 use borrow.Author.Tests.{le-leb, lt-leb, eq-eqb, ne-eqb}
-use Rattle.records.specs.Kinds.{sortsOf, isTerm, isAtom, holds, none, kinds}
-use Rattle.records.specs.declared.kinds.Sort.the-variants.{Spare, Term, Role, Label, Link}
+use Rattle.records.specs.Kinds.{sortsOf, isTerm, isAtom, constant, name, negation, junction, restriction, inclusion, kinds}
 
 -- the two kinds of a range of two
 pub one-of-two : (k a : ℕ) → a ≤ k → k < a + 2 → (k ≡ a) ⊎ (k ≡ a + 1)
@@ -22,24 +20,36 @@ one-of-two k a l h = pick (ℕ-discrete k a)
     pick (yes e) = inl e
     pick (no n) = inr (omega arith)
 
-pub sorts-pair : (k : ℕ) → 5 ≤ k → k < 7 → holds Term Term Spare ≡ sortsOf k
+pub sorts-name : (k : ℕ) → k ≡ 3 → name ≡ sortsOf k
 unfolding sortsOf
-sorts-pair k l h = ⊎-elim (λ e. rw e) (λ e. rw e) (one-of-two k 5 l h)
+sorts-name k e = rw e
 
-pub sorts-role : (k : ℕ) → 7 ≤ k → k < 9 → holds Role Term Spare ≡ sortsOf k
+pub sorts-negation : (k : ℕ) → k ≡ 4 → negation ≡ sortsOf k
 unfolding sortsOf
-sorts-role k l h = ⊎-elim (λ e. rw e) (λ e. rw e) (one-of-two k 7 l h)
+sorts-negation k e = rw e
 
-pub sorts-low : (k : ℕ) → k < 3 → none ≡ sortsOf k
+pub sorts-inclusion : (k : ℕ) → k ≡ 9 → inclusion ≡ sortsOf k
+unfolding sortsOf
+sorts-inclusion k e = rw e
+
+pub sorts-junction : (k : ℕ) → 5 ≤ k → k < 7 → junction ≡ sortsOf k
+unfolding sortsOf
+sorts-junction k l h = ⊎-elim (λ e. rw e) (λ e. rw e) (one-of-two k 5 l h)
+
+pub sorts-restriction : (k : ℕ) → 7 ≤ k → k < 9 → restriction ≡ sortsOf k
+unfolding sortsOf
+sorts-restriction k l h = ⊎-elim (λ e. rw e) (λ e. rw e) (one-of-two k 7 l h)
+
+pub sorts-low : (k : ℕ) → k < 3 → constant ≡ sortsOf k
 unfolding sortsOf
 sorts-low zero h = refl
 sorts-low (suc zero) h = refl
 sorts-low (suc (suc zero)) h = refl
 sorts-low (suc (suc (suc k))) h = absurd (omega arith)
 
-pub sorts-high : (k : ℕ) → 10 ≤ k → none ≡ sortsOf k
+pub sorts-high : (k : ℕ) → 10 ≤ k → constant ≡ sortsOf k
 unfolding sortsOf
-sorts-high k h = sym (List·getD-eq-default kinds none h)
+sorts-high k h = sym (List·getD-eq-default kinds constant h)
 
 pub atom-role : (k : ℕ) → 7 ≤ k → k < 9 → true ≡ isAtom k
 atom-role k l h = ⊎-elim (λ e. rw e) (λ e. rw e) (one-of-two k 7 l h)

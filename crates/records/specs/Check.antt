@@ -6,11 +6,8 @@ use lib.ListN.{length}
 use lib.Dec.{ltb, leb, eqb}
 use Rattle.records.specs.Outcome.{Outcome, Check, accepted, pass, _then_, require, inTurn}
 use Rattle.records.specs.Format.{recordAt, count, firstStatement, roleCount}
-use Rattle.records.specs.Kinds.{isTerm, isStatement, sortsOf}
+use Rattle.records.specs.Kinds.{Sort, Spare, Term, Role, Label, Link, Sorts, isTerm, isStatement, sortsOf}
 use Rattle.records.specs.declared.fields.Record.{Record}
-use Rattle.records.specs.declared.kinds.Sort.{Sort}
-use Rattle.records.specs.declared.kinds.Sort.the-variants.{Spare, Term, Role, Label, Link}
-use Rattle.records.specs.declared.kinds.Sorts.{Sorts}
 
 -- Row 1: "under 8, over 4,096 or no multiple of 8"
 abbrev pub lengthFits : List ℕ → Bool
@@ -33,18 +30,18 @@ kindFits r = leb 1 (r .kind) && (leb (r .kind) 9 && eqb (r .second) 0)
 abbrev pub kindCheck : Record → ℕ → Check
 kindCheck r i = require (kindFits r) 3 i
 
--- Whether a test holds at one of i, i + 1, .., n of them.
-unfoldable pub anyFrom : (ℕ → Bool) → ℕ → ℕ → Bool
-anyFrom test i zero = false
-anyFrom test i (suc n) = test i || anyFrom test (suc i) n
+-- Whether a test holds at a number below n.
+unfoldable pub anyBelow : (ℕ → Bool) → ℕ → Bool
+anyBelow test zero = false
+anyBelow test (suc n) = anyBelow test n || test n
 
 -- record j is a name with this label
 abbrev pub named : List ℕ → ℕ → ℕ → Bool
 named v label j = eqb (recordAt v j .kind) 3 && eqb (recordAt v j .a) label
 
--- "label of an earlier name"
+-- "label of an earlier name" than record i
 abbrev pub labelled : List ℕ → ℕ → ℕ → Bool
-labelled v i label = anyFrom (named v label) 1 (i - 1)
+labelled v i label = anyBelow (named v label) i
 
 -- "A term number in a field is 1 or more, below the record's own number, and names a term."
 abbrev pub termFits : List ℕ → ℕ → ℕ → Bool
@@ -81,14 +78,13 @@ rowFits v i n s r = clear v i n (s .a) (r .a) && (clear v i n (s .b) (r .b) && c
 abbrev pub rowCheck : List ℕ → ℕ → ℕ → Sorts → Record → Check
 rowCheck v i n s r = require (rowFits v i n s r) n i
 
--- Rows 3 to 7, at one record
+-- Rows 4 to 7, at one record
+abbrev pub rowsCheck : List ℕ → ℕ → Sorts → Record → Check
+rowsCheck v i s r = rowCheck v i 4 s r then rowCheck v i 5 s r then rowCheck v i 6 s r then rowCheck v i 7 s r
+
+-- Rows 3 to 7
 abbrev pub fieldsCheck : List ℕ → ℕ → Record → Check
-fieldsCheck v i r =
-    kindCheck r i
-    then rowCheck v i 4 (sortsOf (r .kind)) r
-    then rowCheck v i 5 (sortsOf (r .kind)) r
-    then rowCheck v i 6 (sortsOf (r .kind)) r
-    then rowCheck v i 7 (sortsOf (r .kind)) r
+fieldsCheck v i r = kindCheck r i then rowsCheck v i (sortsOf (r .kind)) r
 
 unfoldable pub recordCheck : List ℕ → ℕ → Check
 recordCheck v i = fieldsCheck v i (recordAt v i)

@@ -4,35 +4,57 @@ use mathlib.Core.Bool.{Bool, _&&_, _||_}
 use mathlib.Core.List.{List, [], _∷_}
 use lib.ListN.{getD}
 use lib.Dec.{leb, eqb}
-use Rattle.records.specs.declared.kinds.Sort.{Sort}
-use Rattle.records.specs.declared.kinds.Sort.the-variants.{Spare, Term, Role, Label, Link}
-use Rattle.records.specs.declared.kinds.Sorts.{Sorts}
+
+-- What a field holds: nothing ("Fields not mentioned are zero"), a term number, a role number, a name's label,
+-- or the number of the chain's next statement.
+pub data Sort : Type 0 where
+  Spare Term Role Label Link : Sort
+
+-- The sorts of the fields A, B and next.
+pub record Sorts : Type 0 where
+  pub a : Sort
+  pub b : Sort
+  pub next : Sort
 
 abbrev pub holds : Sort → Sort → Sort → Sorts
 holds a b next = record { a = a; b = b; next = next }
 
--- "Fields not mentioned are zero."
-abbrev pub none : Sorts
-none = holds Spare Spare Spare
+abbrev pub constant : Sorts
+constant = holds Spare Spare Spare
+
+abbrev pub name : Sorts
+name = holds Label Spare Spare
+
+abbrev pub negation : Sorts
+negation = holds Term Spare Spare
+
+abbrev pub junction : Sorts
+junction = holds Term Term Spare
+
+abbrev pub restriction : Sorts
+restriction = holds Role Term Spare
+
+abbrev pub inclusion : Sorts
+inclusion = holds Term Term Link
 
 -- "Kinds 1 to 8 are terms: 1 top; 2 bottom; 3 name, A its label; 4 not A; 5 A and B; 6 A or B; 7 some role A to B;
--- 8 all role A to B. Kind 9 is the statement": what A, B and next hold, kind by kind from 0.
+-- 8 all role A to B. Kind 9 is the statement "A lies within B"": the fields' sorts, kind by kind from 0, which no record has.
 abbrev pub kinds : List Sorts
 kinds =
-    none
-    ∷ none
-    ∷ none
-    ∷ holds Label Spare Spare
-    ∷ holds Term Spare Spare
-    ∷ holds Term Term Spare
-    ∷ holds Term Term Spare
-    ∷ holds Role Term Spare
-    ∷ holds Role Term Spare
-    ∷ holds Term Term Link
+    constant
+    ∷ constant
+    ∷ constant
+    ∷ name
+    ∷ negation
+    ∷ junction
+    ∷ junction
+    ∷ restriction
+    ∷ restriction
+    ∷ inclusion
     ∷ []
 
 unfoldable pub sortsOf : ℕ → Sorts
-sortsOf kind = getD kinds kind none
+sortsOf kind = getD kinds kind constant
 
 abbrev pub isTerm : ℕ → Bool
 isTerm kind = leb 1 kind && leb kind 8

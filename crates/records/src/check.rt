@@ -3,18 +3,18 @@ use crate::answers::Checked;
 use crate::answers::pass_if;
 use crate::fields::Record;
 use crate::fields::read_at;
-use crate::kinds::Sort;
-use crate::kinds::Sorts;
 use crate::kinds::is_statement;
 use crate::kinds::is_term;
-use crate::kinds::sorts_of;
 ghost use mathlib.Core.Path.{_≡_};
 ghost use Prim.Native.Nat.{_+_, _*_, _-_, _≤_};
+ghost use mathlib.Core.Bool.{_&&_};
+ghost use lib.Dec.{eqb};
 ghost use lib.ListN.{length};
 ghost use Rattle.records.specs.Outcome.{inTurn};
 ghost use Rattle.records.specs.Answers.{checked};
 ghost use Rattle.records.specs.Format.{recordAt, recordOf, roleCount, count};
-ghost use Rattle.records.specs.Check.{lengthFits, lengthCheck, headerFits, headerCheck, kindFits, kindCheck, anyFrom, named, labelled, termFits, linkFits, fits, row, clear, rowFits, rowCheck, fieldsCheck, recordCheck, linkCheck, linksCheck};
+ghost use Rattle.records.specs.Kinds.{sortsOf, constant, name, negation, junction, restriction, inclusion};
+ghost use Rattle.records.specs.Check.{lengthFits, lengthCheck, headerFits, headerCheck, kindFits, kindCheck, named, labelled, termFits, linkFits, rowsCheck, fieldsCheck, recordCheck, linkCheck, linksCheck};
 
 fn length_fits(v: &[u8]) -> bool
     ensures { λ r. ⌜ r ≡ lengthFits (now (v .entry)) ⌝ }
@@ -86,19 +86,21 @@ fn is_named(v: &[u8], label: u16, j: usize) -> bool
     fields.a == label
 }
 
-// Whether an earlier name than record i has this label.
+// Whether an earlier name than record i has this label. The loop runs to its end, so that the compiler can compare several
+// records at once.
 fn is_labelled(v: &[u8], i: usize, label: u16) -> bool
     requires { ⌜ 8 * i ≤ length (now v) ⌝ }
     ensures { λ r. ⌜ r ≡ labelled (now (v .entry)) i label ⌝ }
 {
-    let mut j = 1;
+    let mut found = false;
+    let mut j = 0;
     while j < i {
         if is_named(v, label, j) {
-            return true;
+            found = true;
         }
         j += 1;
     }
-    false
+    found
 }
 
 fn term_fits(v: &[u8], i: usize, number: u16) -> bool
@@ -131,70 +133,106 @@ fn link_fits(v: &[u8], i: usize, next: u16) -> bool
     false
 }
 
-// Whether x may stand in a field of record i that holds this sort.
-fn field_fits(v: &[u8], i: usize, roles: u16, sort: Sort, x: u16) -> bool
+fn terms_fit(v: &[u8], i: usize, a: u16, b: u16) -> bool
     requires { ⌜ 8 * i ≤ length (now v) ⌝ }
-    requires { ⌜ roles ≡ roleCount (now v) ⌝ }
-    ensures { λ r. ⌜ r ≡ fits (now (v .entry)) i sort x ⌝ }
+    ensures { λ r. ⌜ r ≡ (termFits (now (v .entry)) i a && termFits (now (v .entry)) i b) ⌝ }
 {
-    match sort {
-        Sort::Spare => x == 0,
-        Sort::Term => term_fits(v, i, x),
-        Sort::Role => x < roles,
-        Sort::Label => !is_labelled(v, i, x),
-        Sort::Link => link_fits(v, i, x),
-    }
-}
-
-// The row of the table that speaks of a field of this sort.
-fn row_of(sort: Sort) -> u8
-    ensures { λ r. ⌜ r ≡ row sort ⌝ }
-{
-    match sort {
-        Sort::Spare => 4,
-        Sort::Term => 5,
-        Sort::Role => 6,
-        Sort::Label => 7,
-        Sort::Link => 8,
-    }
-}
-
-// Whether row n has nothing against x in a field of record i that holds this sort.
-fn is_clear(v: &[u8], i: usize, roles: u16, n: u8, sort: Sort, x: u16) -> bool
-    requires { ⌜ 8 * i ≤ length (now v) ⌝ }
-    requires { ⌜ roles ≡ roleCount (now v) ⌝ }
-    ensures { λ r. ⌜ r ≡ clear (now (v .entry)) i n sort x ⌝ }
-{
-    let row = row_of(sort);
-    if row == n {
-        return field_fits(v, i, roles, sort, x);
-    }
-    true
-}
-
-fn row_fits(v: &[u8], i: usize, roles: u16, n: u8, sorts: Sorts, fields: Record) -> bool
-    requires { ⌜ 8 * i ≤ length (now v) ⌝ }
-    requires { ⌜ roles ≡ roleCount (now v) ⌝ }
-    ensures { λ r. ⌜ r ≡ rowFits (now (v .entry)) i n sorts fields ⌝ }
-{
-    let a = sorts.a;
-    if !is_clear(v, i, roles, n, a, fields.a) {
+    if !term_fits(v, i, a) {
         return false;
     }
-    let b = sorts.b;
-    if !is_clear(v, i, roles, n, b, fields.b) {
-        return false;
-    }
-    let next = sorts.next;
-    is_clear(v, i, roles, n, next, fields.next)
+    term_fits(v, i, b)
 }
 
-fn check_row(v: &[u8], i: usize, roles: u16, n: u8, sorts: Sorts, fields: Record) -> Checked
+// Whether fields that hold nothing are zero. For a field that holds something, 0 is passed.
+fn spare_fits(a: u16, b: u16, next: u16) -> bool
+    ensures { λ r. ⌜ r ≡ (eqb a 0 && (eqb b 0 && eqb next 0)) ⌝ }
+{
+    if a != 0 {
+        return false;
+    }
+    if b != 0 {
+        return false;
+    }
+    next == 0
+}
+
+fn check_constant(v: &[u8], i: usize, fields: Record) -> Checked
+    ensures { λ r. ⌜ checked r ≡ rowsCheck (now (v .entry)) i constant fields ⌝ }
+{
+    pass_if(spare_fits(fields.a, fields.b, fields.next), 4, i)
+}
+
+fn check_name(v: &[u8], i: usize, fields: Record) -> Checked
+    requires { ⌜ 8 * i ≤ length (now v) ⌝ }
+    ensures { λ r. ⌜ checked r ≡ rowsCheck (now (v .entry)) i name fields ⌝ }
+{
+    let spare = pass_if(spare_fits(0, fields.b, fields.next), 4, i);
+    let Checked::Fine = spare else {
+        return spare;
+    };
+    pass_if(!is_labelled(v, i, fields.a), 7, i)
+}
+
+fn check_negation(v: &[u8], i: usize, fields: Record) -> Checked
+    requires { ⌜ 8 * i ≤ length (now v) ⌝ }
+    ensures { λ r. ⌜ checked r ≡ rowsCheck (now (v .entry)) i negation fields ⌝ }
+{
+    let spare = pass_if(spare_fits(0, fields.b, fields.next), 4, i);
+    let Checked::Fine = spare else {
+        return spare;
+    };
+    pass_if(term_fits(v, i, fields.a), 5, i)
+}
+
+fn check_junction(v: &[u8], i: usize, fields: Record) -> Checked
+    requires { ⌜ 8 * i ≤ length (now v) ⌝ }
+    ensures { λ r. ⌜ checked r ≡ rowsCheck (now (v .entry)) i junction fields ⌝ }
+{
+    let spare = pass_if(spare_fits(0, 0, fields.next), 4, i);
+    let Checked::Fine = spare else {
+        return spare;
+    };
+    pass_if(terms_fit(v, i, fields.a, fields.b), 5, i)
+}
+
+fn check_restriction(v: &[u8], i: usize, roles: u16, fields: Record) -> Checked
     requires { ⌜ 8 * i ≤ length (now v) ⌝ }
     requires { ⌜ roles ≡ roleCount (now v) ⌝ }
-    ensures { λ r. ⌜ checked r ≡ rowCheck (now (v .entry)) i n sorts fields ⌝ }
+    ensures { λ r. ⌜ checked r ≡ rowsCheck (now (v .entry)) i restriction fields ⌝ }
 {
-    pass_if(row_fits(v, i, roles, n, sorts, fields), n, i)
+    let spare = pass_if(spare_fits(0, 0, fields.next), 4, i);
+    let Checked::Fine = spare else {
+        return spare;
+    };
+    let filler = pass_if(term_fits(v, i, fields.b), 5, i);
+    let Checked::Fine = filler else {
+        return filler;
+    };
+    pass_if(fields.a < roles, 6, i)
+}
+
+fn check_inclusion(v: &[u8], i: usize, fields: Record) -> Checked
+    requires { ⌜ 8 * i ≤ length (now v) ⌝ }
+    ensures { λ r. ⌜ checked r ≡ rowsCheck (now (v .entry)) i inclusion fields ⌝ }
+{
+    pass_if(terms_fit(v, i, fields.a, fields.b), 5, i)
+}
+
+// Rows 4 to 7: the kind selects the field checks.
+fn check_rows(v: &[u8], i: usize, roles: u16, fields: Record) -> Checked
+    requires { ⌜ 8 * i ≤ length (now v) ⌝ }
+    requires { ⌜ roles ≡ roleCount (now v) ⌝ }
+    ensures { λ r. ⌜ checked r ≡ rowsCheck (now (v .entry)) i (sortsOf (fields .kind)) fields ⌝ }
+{
+    let kind = fields.kind;
+    match kind {
+        3 => check_name(v, i, fields),
+        4 => check_negation(v, i, fields),
+        5..=6 => check_junction(v, i, fields),
+        7..=8 => check_restriction(v, i, roles, fields),
+        9 => check_inclusion(v, i, fields),
+        _ => check_constant(v, i, fields),
+    }
 }
 
 // Rows 3 to 7 at record i, whose eight bytes are `part`.
@@ -209,20 +247,7 @@ fn check_fields(v: &[u8], part: &[u8], i: usize, roles: u16) -> Checked
     let Checked::Fine = kind else {
         return kind;
     };
-    let sorts = sorts_of(fields.kind);
-    let spare = check_row(v, i, roles, 4, sorts, fields);
-    let Checked::Fine = spare else {
-        return spare;
-    };
-    let term = check_row(v, i, roles, 5, sorts, fields);
-    let Checked::Fine = term else {
-        return term;
-    };
-    let role = check_row(v, i, roles, 6, sorts, fields);
-    let Checked::Fine = role else {
-        return role;
-    };
-    check_row(v, i, roles, 7, sorts, fields)
+    check_rows(v, i, roles, fields)
 }
 
 fn check_record(v: &[u8], i: usize, roles: u16) -> Checked

@@ -1,8 +1,11 @@
+use denote.Ref.{now}
+use mathlib.Core.Bool.{true, false}
+use mathlib.Core.Logic.{⊎-elim}
+use Rattle.records.specs.Check.{anyBelow, named, labelled}
+use Prim.Native.Nat.{_-_, _≤_}
+use mathlib.Core.Path.{_≡_, refl, _∙_, sym, ap}
+use Rattle.records.proofs.Order.{any-hit, any-miss}
 use native.Mathlib.Omega.{arith}
-use Rattle.records.proofs.Order.{any-found, any-next, any-end}
-use mathlib.Core.Path.{_≡_, refl, _∙_, sym}
-use Prim.Native.Nat.{_-_}
-use Rattle.records.specs.Check.{anyFrom, named, labelled}
 use Rattle.records.proofs.check.is_labelled.Statement.{statement}
 use Rattle.records.proofs.check.is_labelled.Tie as tie
 use Rattle.records.proofs.check.is_labelled.Reads as reads
@@ -10,49 +13,43 @@ use Rattle.records.proofs.check.is_labelled.Lts as lts
 use Rattle.records.proofs.check.is_named.Reads as is-named-reads
 
 abbrev Inv-loop : tie.InvT-loop
-Inv-loop v i label j₀ j = labelled v i label ≡ anyFrom (named v label) j (i - j)
+Inv-loop v i label found₀ j₀ found j = (j ≤ i) × (found ≡ anyBelow (named v label) j)
 
 abbrev μ-loop : tie.MeasureT-loop
-μ-loop v i label j₀ j = i - j
+μ-loop v i label found₀ j₀ found j = i - j
 
--- src/check.rt:96:5
+-- src/check.rt:97:5
 loop-holds : tie.Need-loop-holds Inv-loop μ-loop
-loop-holds c = refl
+unfolding anyBelow
+loop-holds c = (omega arith, refl)
 
--- src/check.rt:97:12
+-- src/check.rt:98:12
 is-named-requires : tie.Need-is-named-requires Inv-loop μ-loop
 is-named-requires c κs = omega arith
 
--- src/check.rt:98:13
-returns : tie.Need-returns Inv-loop μ-loop
-returns c = sym (c .before .before .before .loop .inv ∙ any-found _ _ _ (c .before .before .loop-test .taken) (sym (c .before .is-named .ensures) ∙ c .if1 .taken))
-
--- src/check.rt:100:9
+-- src/check.rt:101:9
 add-j : tie.Need-add-j Inv-loop μ-loop
 add-j c = omega arith
 
--- src/check.rt:96:5
+-- src/check.rt:97:5
 loop-less : tie.Need-loop-less Inv-loop μ-loop
 loop-less c = omega arith
 
--- src/check.rt:96:5
+-- src/check.rt:97:5
 loop-again : tie.Need-loop-again Inv-loop μ-loop
-loop-again c = c .before .before .before .loop .inv ∙ any-next _ _ _ (c .before .before .loop-test .taken) (sym (c .before .is-named .ensures) ∙ c .if1 .left)
+loop-again c = (
+  omega arith,
+  ⊎-elim
+      (λ w. w .1 ∙ any-hit (named (now (c .before .before .before .before .before .args .v)) (c .before .before .before .before .before .args .label)) (c .before .before .before .loop .j) (sym (c .before .is-named .ensures) ∙ w .0 .taken))
+      (λ w. w .1 ∙ any-miss (named (now (c .before .before .before .before .before .args .v)) (c .before .before .before .before .before .args .label)) (c .before .before .before .loop .j) _ (c .before .before .before .loop .inv .1) (sym (c .before .is-named .ensures) ∙ w .0 .left))
+      (c .if1 .came),
+)
 
 -- src/check.rt:91:1
-returns-2 : tie.Need-returns-2 Inv-loop μ-loop
-returns-2 c = sym (c .before .loop .inv ∙ any-end _ _ _ (c .loop-test .left))
+returns : tie.Need-returns Inv-loop μ-loop
+returns c = let e : c .before .loop .j ≡ c .before .before .before .args .i = omega arith in c .before .loop .inv .1 ∙ ap (anyBelow (named (now (c .before .before .before .args .v)) (c .before .before .before .args .label))) e
 
 pub is-labelled-spec : {M : Type 1} → statement M
 is-labelled-spec =
     tie.close
-    (tie.spec
-    Inv-loop
-    μ-loop
-    loop-holds
-    is-named-requires
-    returns
-    add-j
-    loop-less
-    loop-again
-    returns-2)
+    (tie.spec Inv-loop μ-loop loop-holds is-named-requires add-j loop-less loop-again returns)
