@@ -4,3 +4,4 @@ pub mod Ranges
 pub mod Rows
 pub mod Passed
 pub mod Bounds
+pub mod Accepted

@@ -10,7 +10,7 @@ use mathlib.Core.List.{List}
 use lib.Dec.{ltb, eqb}
 use Rattle.records.specs.Outcome.{Check, accepted, refused, pass, _then_, require}
 use Rattle.records.specs.Format.{recordAt, firstStatement, roleCount}
-use Rattle.records.specs.Kinds.{constant, name, negation, junction, restriction, inclusion, Sorts, sortsOf}
+use Rattle.records.specs.Kinds.{constantFields, nameFields, negationFields, junctionFields, restrictionFields, inclusionFields, Sorts, sortsOf}
 use Rattle.records.specs.Check.{termFits, labelled, rowsCheck, linkFits}
 use Rattle.records.specs.declared.fields.Record.{Record}
 
@@ -19,24 +19,24 @@ then-pass (accepted u) = refl
 then-pass (refused n p) = refl
 
 module _ (v : List ℕ) (i : ℕ) (r : Record) where
-  pub constant-rows : rowsCheck v i constant r ≡ require (eqb (r .a) 0 && (eqb (r .b) 0 && eqb (r .next) 0)) 4 i
+  pub constant-rows : rowsCheck v i constantFields r ≡ require (eqb (r .a) 0 && (eqb (r .b) 0 && eqb (r .next) 0)) 4 i
   constant-rows = then-pass _
 
   pub name-rows :
-      rowsCheck v i name r ≡ (require (eqb (r .b) 0 && eqb (r .next) 0) 4 i then require (not (labelled v i (r .a))) 7 i)
+      rowsCheck v i nameFields r ≡ (require (eqb (r .b) 0 && eqb (r .next) 0) 4 i then require (not (labelled v i (r .a))) 7 i)
   name-rows = rw (and-true (not (labelled v i (r .a))))
 
   pub negation-rows :
-      rowsCheck v i negation r ≡ (require (eqb (r .b) 0 && eqb (r .next) 0) 4 i then require (termFits v i (r .a)) 5 i)
+      rowsCheck v i negationFields r ≡ (require (eqb (r .b) 0 && eqb (r .next) 0) 4 i then require (termFits v i (r .a)) 5 i)
   negation-rows = rw (and-true (termFits v i (r .a)), then-pass (require (termFits v i (r .a)) 5 i))
 
   pub junction-rows :
-      rowsCheck v i junction r
+      rowsCheck v i junctionFields r
       ≡ (require (eqb (r .next) 0) 4 i then require (termFits v i (r .a) && termFits v i (r .b)) 5 i)
   junction-rows = rw (and-true (termFits v i (r .b)), then-pass (require (termFits v i (r .a) && termFits v i (r .b)) 5 i))
 
   pub restriction-rows :
-      rowsCheck v i restriction r
+      rowsCheck v i restrictionFields r
       ≡ (require (eqb (r .next) 0) 4 i then require (termFits v i (r .b)) 5 i then require (ltb (r .a) (roleCount v)) 6 i)
   restriction-rows =
       rw (
@@ -45,7 +45,7 @@ module _ (v : List ℕ) (i : ℕ) (r : Record) where
         then-pass (require (ltb (r .a) (roleCount v)) 6 i),
       )
 
-  pub inclusion-rows : rowsCheck v i inclusion r ≡ require (termFits v i (r .a) && termFits v i (r .b)) 5 i
+  pub inclusion-rows : rowsCheck v i inclusionFields r ≡ require (termFits v i (r .a) && termFits v i (r .b)) 5 i
   inclusion-rows = rw (and-true (termFits v i (r .b)), then-pass (require (termFits v i (r .a) && termFits v i (r .b)) 5 i))
 
 pub rows-at : (v : List ℕ) (i : ℕ) (r : Record) (s : Sorts) (o : Check)

@@ -13,7 +13,7 @@ ghost use lib.ListN.{length};
 ghost use Rattle.records.specs.Outcome.{inTurn};
 ghost use Rattle.records.specs.Answers.{checked};
 ghost use Rattle.records.specs.Format.{recordAt, recordOf, roleCount, count};
-ghost use Rattle.records.specs.Kinds.{sortsOf, constant, name, negation, junction, restriction, inclusion};
+ghost use Rattle.records.specs.Kinds.{sortsOf, constantFields, nameFields, negationFields, junctionFields, restrictionFields, inclusionFields};
 ghost use Rattle.records.specs.Check.{lengthFits, lengthCheck, headerFits, headerCheck, kindFits, kindCheck, named, labelled, termFits, linkFits, rowsCheck, fieldsCheck, recordCheck, linkCheck, linksCheck};
 
 fn length_fits(v: &[u8]) -> bool
@@ -157,14 +157,14 @@ fn spare_fits(a: u16, b: u16, next: u16) -> bool
 }
 
 fn check_constant(v: &[u8], i: usize, fields: Record) -> Checked
-    ensures { λ r. ⌜ checked r ≡ rowsCheck (now (v .entry)) i constant fields ⌝ }
+    ensures { λ r. ⌜ checked r ≡ rowsCheck (now (v .entry)) i constantFields fields ⌝ }
 {
     pass_if(spare_fits(fields.a, fields.b, fields.next), 4, i)
 }
 
 fn check_name(v: &[u8], i: usize, fields: Record) -> Checked
     requires { ⌜ 8 * i ≤ length (now v) ⌝ }
-    ensures { λ r. ⌜ checked r ≡ rowsCheck (now (v .entry)) i name fields ⌝ }
+    ensures { λ r. ⌜ checked r ≡ rowsCheck (now (v .entry)) i nameFields fields ⌝ }
 {
     let spare = pass_if(spare_fits(0, fields.b, fields.next), 4, i);
     let Checked::Fine = spare else {
@@ -175,7 +175,7 @@ fn check_name(v: &[u8], i: usize, fields: Record) -> Checked
 
 fn check_negation(v: &[u8], i: usize, fields: Record) -> Checked
     requires { ⌜ 8 * i ≤ length (now v) ⌝ }
-    ensures { λ r. ⌜ checked r ≡ rowsCheck (now (v .entry)) i negation fields ⌝ }
+    ensures { λ r. ⌜ checked r ≡ rowsCheck (now (v .entry)) i negationFields fields ⌝ }
 {
     let spare = pass_if(spare_fits(0, fields.b, fields.next), 4, i);
     let Checked::Fine = spare else {
@@ -186,7 +186,7 @@ fn check_negation(v: &[u8], i: usize, fields: Record) -> Checked
 
 fn check_junction(v: &[u8], i: usize, fields: Record) -> Checked
     requires { ⌜ 8 * i ≤ length (now v) ⌝ }
-    ensures { λ r. ⌜ checked r ≡ rowsCheck (now (v .entry)) i junction fields ⌝ }
+    ensures { λ r. ⌜ checked r ≡ rowsCheck (now (v .entry)) i junctionFields fields ⌝ }
 {
     let spare = pass_if(spare_fits(0, 0, fields.next), 4, i);
     let Checked::Fine = spare else {
@@ -198,7 +198,7 @@ fn check_junction(v: &[u8], i: usize, fields: Record) -> Checked
 fn check_restriction(v: &[u8], i: usize, roles: u16, fields: Record) -> Checked
     requires { ⌜ 8 * i ≤ length (now v) ⌝ }
     requires { ⌜ roles ≡ roleCount (now v) ⌝ }
-    ensures { λ r. ⌜ checked r ≡ rowsCheck (now (v .entry)) i restriction fields ⌝ }
+    ensures { λ r. ⌜ checked r ≡ rowsCheck (now (v .entry)) i restrictionFields fields ⌝ }
 {
     let spare = pass_if(spare_fits(0, 0, fields.next), 4, i);
     let Checked::Fine = spare else {
@@ -213,7 +213,7 @@ fn check_restriction(v: &[u8], i: usize, roles: u16, fields: Record) -> Checked
 
 fn check_inclusion(v: &[u8], i: usize, fields: Record) -> Checked
     requires { ⌜ 8 * i ≤ length (now v) ⌝ }
-    ensures { λ r. ⌜ checked r ≡ rowsCheck (now (v .entry)) i inclusion fields ⌝ }
+    ensures { λ r. ⌜ checked r ≡ rowsCheck (now (v .entry)) i inclusionFields fields ⌝ }
 {
     pass_if(terms_fit(v, i, fields.a, fields.b), 5, i)
 }

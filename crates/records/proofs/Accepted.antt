@@ -1,0 +1,191 @@
+-- What acceptance gives the crates above: operands are earlier terms, roles are below the count, labels differ, and
+-- links lead to later statements.
+--   Operand, Linked, Formed, Accepted   what is told of a field, of a record, of a vocabulary
+--   accepted-vocabulary                 a vocabulary that the check accepts is Accepted
+-- Assumes nothing.
+use Prim.Native.Nat.{ℕ, zero, suc, _-_, _≤_, _<_}
+use native.Mathlib.Omega.{arith}
+use mathlib.Core.Path.{_≡_, refl, sym, _∙_, ap}
+use mathlib.Core.Bool.{Bool, true, false, not, _&&_, _||_}
+use mathlib.Core.List.{List}
+use mathlib.Core.Logic.{_⊎_, inl, inr}
+use lib.Dec.{ltb, leb, eqb}
+use borrow.Author.Tests.{ltb-true, leb-true, eqb-true, eq-eqb, not-true}
+use Rattle.records.specs.Outcome.{accepted, pass, _then_, require, inTurn}
+use Rattle.records.specs.Format.{recordAt, count, firstStatement, roleCount}
+use Rattle.records.specs.Kinds.{Construct, none, top, bottom, name, negation, conjunction, disjunction, existential, universal, inclusion, constructOf, constantFields, nameFields, negationFields, junctionFields, restrictionFields, inclusionFields, sortsOf, isTerm, isStatement}
+use Rattle.records.specs.Check.{lengthCheck, headerFits, headerCheck, kindFits, kindCheck, named, labelled, termFits, linkFits, rowsCheck, fieldsCheck, recordCheck, nextFits, linkCheck, linksCheck, vocabularyCheck}
+use Rattle.records.specs.declared.fields.Record.{Record}
+use Rattle.records.proofs.Passed.{Sized, length-passed, both-left, both-right, require-passed, then-passed, turn-at, any-at}
+use Rattle.records.proofs.Rows.{name-rows, negation-rows, junction-rows, restriction-rows, inclusion-rows}
+
+-- x is the number of a term before record i.
+pub record Operand (v : List ℕ) (i x : ℕ) : Type 0 where
+  pub positive : 0 < x
+  pub earlier : x < i
+  pub term : isTerm (recordAt v x .kind) ≡ true
+
+-- x is a statement after record i.
+pub record Later (v : List ℕ) (i x : ℕ) : Type 0 where
+  pub later : i < x
+  pub within : x < count v
+  pub statement : recordAt v x .kind ≡ 9
+
+-- x ends the chain, or is a statement after record i.
+abbrev pub Linked : List ℕ → ℕ → ℕ → Type 0
+Linked v i x = (x ≡ 0) ⊎ Later v i x
+
+-- What record i says is about earlier terms and roles below the count.
+abbrev pub Formed : List ℕ → ℕ → Construct → Type 0
+Formed v i none = ⊥
+Formed v i top = Unit {0}
+Formed v i bottom = Unit {0}
+Formed v i name = Unit {0}
+Formed v i (negation a) = Operand v i a
+Formed v i (conjunction a b) = Operand v i a × Operand v i b
+Formed v i (disjunction a b) = Operand v i a × Operand v i b
+Formed v i (existential r b) = (r < roleCount v) × Operand v i b
+Formed v i (universal r b) = (r < roleCount v) × Operand v i b
+Formed v i (inclusion a b) = Operand v i a × Operand v i b
+
+pub record Accepted (v : List ℕ) : Type 0 where
+  pub sized : Sized v
+  pub roles : roleCount v ≤ 64
+  pub formed : (i : ℕ) → 0 < i → i < count v → Formed v i (constructOf (recordAt v i))
+  pub labels : (i j : ℕ) → j < i → i < count v
+    → recordAt v i .kind ≡ 3 → recordAt v j .kind ≡ 3 → recordAt v i .a ≡ recordAt v j .a → ⊥
+  pub first : Linked v 0 (firstStatement v)
+  pub rises : (i : ℕ) → 0 < i → i < count v → recordAt v i .kind ≡ 9 → Linked v i (recordAt v i .next)
+
+abbrev fields : ℕ → ℕ → ℕ → ℕ → ℕ → Record
+fields k s a b n = record { kind = k; second = s; a = a; b = b; next = n }
+
+module _ (v : List ℕ) (i : ℕ) where
+  operand : (x : ℕ) → termFits v i x ≡ true → Operand v i x
+  operand x e =
+      let rest = both-right (leb 1 x) (ltb x i && isTerm (recordAt v x .kind)) e in
+      record {
+        positive = leb-true 1 x (both-left (leb 1 x) (ltb x i && isTerm (recordAt v x .kind)) e);
+        earlier = ltb-true x i (both-left (ltb x i) (isTerm (recordAt v x .kind)) rest);
+        term = both-right (ltb x i) (isTerm (recordAt v x .kind)) rest
+      }
+
+  operands : (a b : ℕ) → require (termFits v i a && termFits v i b) 5 i ≡ pass → Operand v i a × Operand v i b
+  operands a b e =
+      let both = require-passed (termFits v i a && termFits v i b) 5 i e in
+      (operand a (both-left (termFits v i a) (termFits v i b) both), operand b (both-right (termFits v i a) (termFits v i b) both))
+
+  linked : (x : ℕ) → linkFits v i x ≡ true → Linked v i x
+  linked x e = at (eqb x 0) refl e
+    where
+      at : (z : Bool) → eqb x 0 ≡ z → (z || (ltb i x && (ltb x (count v) && isStatement (recordAt v x .kind)))) ≡ true → Linked v i x
+      at true q h = inl (eqb-true x 0 q)
+      at false q h =
+          let rest = both-right (ltb i x) (ltb x (count v) && isStatement (recordAt v x .kind)) h in
+          inr record {
+            later = ltb-true i x (both-left (ltb i x) (ltb x (count v) && isStatement (recordAt v x .kind)) h);
+            within = ltb-true x (count v) (both-left (ltb x (count v)) (isStatement (recordAt v x .kind)) rest);
+            statement = eqb-true _ 9 (both-right (ltb x (count v)) (isStatement (recordAt v x .kind)) rest)
+          }
+
+  -- rows 4 to 7 passed, kind by kind
+  junction-formed : (r : Record) → rowsCheck v i junctionFields r ≡ pass → Operand v i (r .a) × Operand v i (r .b)
+  junction-formed r e =
+      operands (r .a) (r .b)
+      (then-passed (require (eqb (r .next) 0) 4 i) (require (termFits v i (r .a) && termFits v i (r .b)) 5 i) tt (sym (junction-rows v i r) ∙ e) .1)
+
+  inclusion-formed : (r : Record) → rowsCheck v i inclusionFields r ≡ pass → Operand v i (r .a) × Operand v i (r .b)
+  inclusion-formed r e = operands (r .a) (r .b) (sym (inclusion-rows v i r) ∙ e)
+
+  restriction-formed : (r : Record) → rowsCheck v i restrictionFields r ≡ pass → (r .a < roleCount v) × Operand v i (r .b)
+  restriction-formed r e =
+      let filler = require (termFits v i (r .b)) 5 i in
+      let role = require (ltb (r .a) (roleCount v)) 6 i in
+      let after = then-passed (require (eqb (r .next) 0) 4 i) (filler then role) tt (sym (restriction-rows v i r) ∙ e) .1 in
+      let both = then-passed filler role tt after in
+      (ltb-true (r .a) (roleCount v) (require-passed (ltb (r .a) (roleCount v)) 6 i (both .1)),
+      operand (r .b) (require-passed (termFits v i (r .b)) 5 i (both .0)))
+
+  negation-formed : (r : Record) → rowsCheck v i negationFields r ≡ pass → Operand v i (r .a)
+  negation-formed r e =
+      operand (r .a)
+      (require-passed (termFits v i (r .a)) 5 i
+      (then-passed (require (eqb (r .b) 0 && eqb (r .next) 0) 4 i) (require (termFits v i (r .a)) 5 i) tt (sym (negation-rows v i r) ∙ e) .1))
+
+  rows-formed : (k s a b n : ℕ) → 0 < k → k ≤ 9 → rowsCheck v i (sortsOf k) (fields k s a b n) ≡ pass
+    → Formed v i (constructOf (fields k s a b n))
+  unfolding sortsOf constructOf
+  rows-formed zero s a b n l h e = absurd (omega arith)
+  rows-formed (suc zero) s a b n l h e = tt
+  rows-formed (suc (suc zero)) s a b n l h e = tt
+  rows-formed (suc (suc (suc zero))) s a b n l h e = tt
+  rows-formed (suc (suc (suc (suc zero)))) s a b n l h e = negation-formed (fields 4 s a b n) e
+  rows-formed (suc (suc (suc (suc (suc zero))))) s a b n l h e = junction-formed (fields 5 s a b n) e
+  rows-formed (suc (suc (suc (suc (suc (suc zero)))))) s a b n l h e = junction-formed (fields 6 s a b n) e
+  rows-formed (suc (suc (suc (suc (suc (suc (suc zero))))))) s a b n l h e = restriction-formed (fields 7 s a b n) e
+  rows-formed (suc (suc (suc (suc (suc (suc (suc (suc zero)))))))) s a b n l h e = restriction-formed (fields 8 s a b n) e
+  rows-formed (suc (suc (suc (suc (suc (suc (suc (suc (suc zero))))))))) s a b n l h e = inclusion-formed (fields 9 s a b n) e
+  rows-formed (suc (suc (suc (suc (suc (suc (suc (suc (suc (suc k)))))))))) s a b n l h e = absurd (omega arith)
+
+  record-formed : recordCheck v i ≡ pass → Formed v i (constructOf (recordAt v i))
+  unfolding recordCheck
+  record-formed e =
+      let r = recordAt v i in
+      let both = then-passed (kindCheck r i) (rowsCheck v i (sortsOf (r .kind)) r) tt e in
+      let fit : kindFits r ≡ true = require-passed (kindFits r) 3 i (both .0) in
+      let least = both-left (leb 1 (r .kind)) (leb (r .kind) 9 && eqb (r .second) 0) fit in
+      let most = both-right (leb 1 (r .kind)) (leb (r .kind) 9 && eqb (r .second) 0) fit in
+      rows-formed (r .kind) (r .second) (r .a) (r .b) (r .next)
+      (leb-true 1 (r .kind) least)
+      (leb-true (r .kind) 9 (both-left (leb (r .kind) 9) (eqb (r .second) 0) most))
+      (both .1)
+
+  record-unlabelled : recordCheck v i ≡ pass → recordAt v i .kind ≡ 3 → labelled v i (recordAt v i .a) ≡ false
+  unfolding recordCheck sortsOf
+  record-unlabelled e q =
+      let r = recordAt v i in
+      let rows = then-passed (kindCheck r i) (rowsCheck v i (sortsOf (r .kind)) r) tt e .1 in
+      let named : rowsCheck v i nameFields r ≡ pass = rw q at rows in
+      let label = require (not (labelled v i (r .a))) 7 i in
+      let spare = require (eqb (r .b) 0 && eqb (r .next) 0) 4 i in
+      not-true (labelled v i (r .a))
+      (require-passed (not (labelled v i (r .a))) 7 i (then-passed spare label tt (sym (name-rows v i r) ∙ named) .1))
+
+  record-linked : linkCheck v i ≡ pass → recordAt v i .kind ≡ 9 → Linked v i (recordAt v i .next)
+  unfolding linkCheck
+  record-linked e q =
+      let fit : nextFits v i ≡ true = require-passed (nextFits v i) 8 i e in
+      let is : isStatement (recordAt v i .kind) ≡ true = eq-eqb _ 9 q in
+      linked (recordAt v i .next) (rw is at fit)
+
+-- The theorem: a vocabulary that the check accepts.
+pub accepted-vocabulary : (v : List ℕ) (n : ℕ) → vocabularyCheck v ≡ accepted n → Accepted v
+unfolding vocabularyCheck
+accepted-vocabulary v n e =
+    let records = inTurn (recordCheck v) 1 (count v - 1) in
+    let head = require (linkFits v 0 (firstStatement v)) 8 0 in
+    let links = inTurn (linkCheck v) 1 (count v - 1) in
+    let a = then-passed (lengthCheck v) (headerCheck v then records then linksCheck v then accepted (count v)) n e in
+    let b = then-passed (headerCheck v) (records then linksCheck v then accepted (count v)) n (a .1) in
+    let c = then-passed records (linksCheck v then accepted (count v)) n (b .1) in
+    let d = then-passed (linksCheck v) (accepted (count v)) n (c .1) .0 in
+    let l = then-passed head links tt d in
+    let r = recordAt v 0 in
+    let fit : headerFits r ≡ true = require-passed (headerFits r) 2 0 (b .0) in
+    let after = both-right (eqb (r .kind) 16) (eqb (r .second) 1 && (leb (r .b) 64 && eqb (r .next) 0)) fit in
+    let roles = both-right (eqb (r .second) 1) (leb (r .b) 64 && eqb (r .next) 0) after in
+    let sized = length-passed v (a .0) in
+    let passed : (i : ℕ) → 0 < i → i < count v → recordCheck v i ≡ pass
+        = λ i p h. turn-at (recordCheck v) (count v - 1) 1 (c .0) i p (omega arith) in
+    record {
+      sized = sized;
+      roles = leb-true (r .b) 64 (both-left (leb (r .b) 64) (eqb (r .next) 0) roles);
+      formed = λ i p h. record-formed v i (passed i p h);
+      labels = λ i j p h q k same.
+        let clear = record-unlabelled v i (passed i (omega arith) h) q in
+        let at = any-at (named v (recordAt v i .a)) i clear j p in
+        let hit : named v (recordAt v i .a) j ≡ true = rw (eq-eqb _ 3 k, eq-eqb _ _ (sym same)) in
+        let z : _≡_ {A = ℕ} 0 1 = cc in omega arith;
+      first = linked v 0 (firstStatement v) (require-passed (linkFits v 0 (firstStatement v)) 8 0 (l .0));
+      rises = λ i p h q. record-linked v i (turn-at (linkCheck v) (count v - 1) 1 (l .1) i p (omega arith)) q
+    }

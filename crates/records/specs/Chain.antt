@@ -1,0 +1,28 @@
+-- The chain of statements.
+use Prim.Native.Nat.{ℕ, zero, suc}
+use mathlib.Core.Bool.{Bool, false, _||_}
+use mathlib.Core.List.{List, [], _∷_}
+use lib.Dec.{eqb}
+use Rattle.records.specs.Format.{recordAt, count, firstStatement}
+
+-- "Chains run by next, and zero ends the chain.": the statements from i on, at most n of them.
+unfoldable pub follow : List ℕ → ℕ → ℕ → List ℕ
+follow v zero i = []
+follow v (suc n) zero = []
+follow v (suc n) (suc i) = suc i ∷ follow v n (recordAt v (suc i) .next)
+
+-- The statements from i on; a chain that rises ends before it has as many as there are records (proofs/Chains.antt).
+abbrev pub chainFrom : List ℕ → ℕ → List ℕ
+chainFrom v i = follow v (count v) i
+
+-- "A the first statement or 0"
+abbrev pub chain : List ℕ → List ℕ
+chain v = chainFrom v (firstStatement v)
+
+unfoldable pub occurs : ℕ → List ℕ → Bool
+occurs i [] = false
+occurs i (x ∷ xs) = eqb i x || occurs i xs
+
+-- Record i is a statement on the chain. "A statement off the chain is checked but states nothing."
+abbrev pub chained : List ℕ → ℕ → Bool
+chained v i = occurs i (chain v)

@@ -1,0 +1,83 @@
+//! A second implementation of paper 01, written from the paper alone, that makes test vectors and
+//! the output expected for them. See README.md.
+
+mod decode;
+mod draft;
+mod faults;
+mod generate;
+mod print;
+mod random;
+mod vectors;
+mod vocabulary;
+
+use std::io::{Read, Write};
+use std::process::ExitCode;
+
+/// The exit status where all went well.
+const DONE: u8 = 0;
+/// The exit status where the vectors are not what they are meant to be.
+const UNFIT: u8 = 1;
+/// The exit status where the command line or the vector file is malformed, or writing fails.
+const MALFORMED: u8 = 2;
+
+/// Runs the subcommand that the command line names.
+fn main() -> ExitCode {
+    let words: Vec<String> = std::env::args().skip(1).collect();
+    let status = match words.iter().map(String::as_str).collect::<Vec<_>>()[..] {
+        ["vectors"] => make_vectors(),
+        ["expect"] => expect_output(),
+        _ => complain("usage: second vectors > VECTORS, or second expect < VECTORS > EXPECTED"),
+    };
+    ExitCode::from(status)
+}
+
+/// Writes the vector file to standard output, and the table of refusals to standard error.
+fn make_vectors() -> u8 {
+    let planned = generate::all();
+    let faults = generate::misses(&planned);
+    let cases: Vec<vectors::Case> = planned.into_iter().map(|p| p.case).collect();
+    let table = print::Table::of(&cases);
+    eprint!("{}", table.text());
+    for fault in &faults {
+        eprintln!("second: {fault}");
+    }
+    match vectors::encode(&cases) {
+        Err(message) => return complain(&message),
+        Ok(bytes) if !write_out(&bytes) => return complain("cannot write"),
+        Ok(_) => {}
+    }
+    let never = table.never_met();
+    if !never.is_empty() {
+        eprintln!("second: refusals that no case meets: {never:?}");
+    }
+    if never.is_empty() && faults.is_empty() {
+        DONE
+    } else {
+        UNFIT
+    }
+}
+
+/// Reads a vector file from standard input, and writes the expected output.
+fn expect_output() -> u8 {
+    let mut bytes = Vec::new();
+    if let Err(error) = std::io::stdin().read_to_end(&mut bytes) {
+        return complain(&error.to_string());
+    }
+    match vectors::decode(&bytes) {
+        Err(message) => complain(&message),
+        Ok(cases) if write_out(print::lines(&cases).as_bytes()) => DONE,
+        Ok(_) => complain("cannot write"),
+    }
+}
+
+/// Writes bytes to standard output, and answers whether that went well.
+fn write_out(bytes: &[u8]) -> bool {
+    let mut out = std::io::stdout().lock();
+    out.write_all(bytes).and_then(|()| out.flush()).is_ok()
+}
+
+/// Says what is wrong, and answers the exit status.
+fn complain(message: &str) -> u8 {
+    eprintln!("second: {message}");
+    MALFORMED
+}
