@@ -53,7 +53,7 @@ pub record Accepted (v : List ℕ) : Type 0 where
   pub roles : roleCount v ≤ 64
   pub formed : (i : ℕ) → 0 < i → i < count v → Formed v i (constructOf (recordAt v i))
   pub labels : (i j : ℕ) → j < i → i < count v
-    → recordAt v i .kind ≡ 3 → recordAt v j .kind ≡ 3 → recordAt v i .a ≡ recordAt v j .a → ⊥
+      → recordAt v i .kind ≡ 3 → recordAt v j .kind ≡ 3 → recordAt v i .a ≡ recordAt v j .a → ⊥
   pub first : Linked v 0 (firstStatement v)
   pub rises : (i : ℕ) → 0 < i → i < count v → recordAt v i .kind ≡ 9 → Linked v i (recordAt v i .next)
 
@@ -67,7 +67,7 @@ module _ (v : List ℕ) (i : ℕ) where
       record {
         positive = leb-true 1 x (both-left (leb 1 x) (ltb x i && isTerm (recordAt v x .kind)) e);
         earlier = ltb-true x i (both-left (ltb x i) (isTerm (recordAt v x .kind)) rest);
-        term = both-right (ltb x i) (isTerm (recordAt v x .kind)) rest
+        term = both-right (ltb x i) (isTerm (recordAt v x .kind)) rest;
       }
 
   operands : (a b : ℕ) → require (termFits v i a && termFits v i b) 5 i ≡ pass → Operand v i a × Operand v i b
@@ -85,7 +85,7 @@ module _ (v : List ℕ) (i : ℕ) where
           inr record {
             later = ltb-true i x (both-left (ltb i x) (ltb x (count v) && isStatement (recordAt v x .kind)) h);
             within = ltb-true x (count v) (both-left (ltb x (count v)) (isStatement (recordAt v x .kind)) rest);
-            statement = eqb-true _ 9 (both-right (ltb x (count v)) (isStatement (recordAt v x .kind)) rest)
+            statement = eqb-true _ 9 (both-right (ltb x (count v)) (isStatement (recordAt v x .kind)) rest);
           }
 
   -- rows 4 to 7 passed, kind by kind
@@ -102,9 +102,10 @@ module _ (v : List ℕ) (i : ℕ) where
       let filler = require (termFits v i (r .b)) 5 i in
       let role = require (ltb (r .a) (roleCount v)) 6 i in
       let after = then-passed (require (eqb (r .next) 0) 4 i) (filler then role) tt (sym (restriction-rows v i r) ∙ e) .1 in
-      let both = then-passed filler role tt after in
-      (ltb-true (r .a) (roleCount v) (require-passed (ltb (r .a) (roleCount v)) 6 i (both .1)),
-      operand (r .b) (require-passed (termFits v i (r .b)) 5 i (both .0)))
+      let both = then-passed filler role tt after in (
+        ltb-true (r .a) (roleCount v) (require-passed (ltb (r .a) (roleCount v)) 6 i (both .1)),
+        operand (r .b) (require-passed (termFits v i (r .b)) 5 i (both .0)),
+      )
 
   negation-formed : (r : Record) → rowsCheck v i negationFields r ≡ pass → Operand v i (r .a)
   negation-formed r e =
@@ -113,7 +114,7 @@ module _ (v : List ℕ) (i : ℕ) where
       (then-passed (require (eqb (r .b) 0 && eqb (r .next) 0) 4 i) (require (termFits v i (r .a)) 5 i) tt (sym (negation-rows v i r) ∙ e) .1))
 
   rows-formed : (k s a b n : ℕ) → 0 < k → k ≤ 9 → rowsCheck v i (sortsOf k) (fields k s a b n) ≡ pass
-    → Formed v i (constructOf (fields k s a b n))
+      → Formed v i (constructOf (fields k s a b n))
   unfolding sortsOf constructOf
   rows-formed zero s a b n l h e = absurd (omega arith)
   rows-formed (suc zero) s a b n l h e = tt
@@ -176,16 +177,16 @@ accepted-vocabulary v n e =
     let roles = both-right (eqb (r .second) 1) (leb (r .b) 64 && eqb (r .next) 0) after in
     let sized = length-passed v (a .0) in
     let passed : (i : ℕ) → 0 < i → i < count v → recordCheck v i ≡ pass
-        = λ i p h. turn-at (recordCheck v) (count v - 1) 1 (c .0) i p (omega arith) in
+    = λ i p h. turn-at (recordCheck v) (count v - 1) 1 (c .0) i p (omega arith) in
     record {
       sized = sized;
       roles = leb-true (r .b) 64 (both-left (leb (r .b) 64) (eqb (r .next) 0) roles);
       formed = λ i p h. record-formed v i (passed i p h);
       labels = λ i j p h q k same.
-        let clear = record-unlabelled v i (passed i (omega arith) h) q in
-        let at = any-at (named v (recordAt v i .a)) i clear j p in
-        let hit : named v (recordAt v i .a) j ≡ true = rw (eq-eqb _ 3 k, eq-eqb _ _ (sym same)) in
-        let z : _≡_ {A = ℕ} 0 1 = cc in omega arith;
+          let clear = record-unlabelled v i (passed i (omega arith) h) q in
+          let at = any-at (named v (recordAt v i .a)) i clear j p in
+          let hit : named v (recordAt v i .a) j ≡ true = rw (eq-eqb _ 3 k, eq-eqb _ _ (sym same)) in
+          let z : _≡_ {A = ℕ} 0 1 = cc in omega arith;
       first = linked v 0 (firstStatement v) (require-passed (linkFits v 0 (firstStatement v)) 8 0 (l .0));
-      rises = λ i p h q. record-linked v i (turn-at (linkCheck v) (count v - 1) 1 (l .1) i p (omega arith)) q
+      rises = λ i p h q. record-linked v i (turn-at (linkCheck v) (count v - 1) 1 (l .1) i p (omega arith)) q;
     }

@@ -5,3 +5,4 @@ pub mod Rows
 pub mod Passed
 pub mod Bounds
 pub mod Accepted
+pub mod Chains

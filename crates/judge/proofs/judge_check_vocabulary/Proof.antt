@@ -1,3 +1,5 @@
+-- `judge::judge_check_vocabulary` meets its contract. The answer's count or place is at most 512, so that it fits its bits.
+-- Assumes nothing.
 use Rattle.records.proofs.Bounds.{Small, vocabulary-small}
 use Rattle.records.specs.Answers.{counted}
 use denote.Ref.{now}
@@ -6,36 +8,25 @@ use native.Mathlib.Omega.{arith}
 use borrow.Author.Needs.{needs}
 use Rattle.judge.proofs.judge_check_vocabulary.Statement.{statement}
 use Rattle.judge.proofs.judge_check_vocabulary.Tie as tie
-use Rattle.judge.proofs.judge_check_vocabulary.Reads as reads
-use Rattle.judge.proofs.judge_check_vocabulary.Lts as lts
-use Rattle.judge.proofs.pack.Reads as pack-reads
-use Rattle.records.proofs.check_vocabulary.Reads as check-vocabulary-reads
 
--- src/lib.rt:24:9
 check-vocabulary-requires : tie.Need-check-vocabulary-requires
 check-vocabulary-requires c κs = search needs
 
--- src/lib.rt:26:26
 enum-known-answer : tie.Need-enum-known-answer
 enum-known-answer c = search needs
 
--- src/lib.rt:26:36
 pack-requires : tie.Need-pack-requires
 pack-requires c κs = omega (arith, subst (Small 512) (sym (c .before .before .before .check-vocabulary .ensures) ∙ ap counted (c .before .answer .given .1)) (vocabulary-small (now (c .before .before .before .before .before .args .vocabulary))))
 
--- src/lib.rt:27:28
 enum-known-answer-2 : tie.Need-enum-known-answer-2
 enum-known-answer-2 c = search needs
 
--- src/lib.rt:27:47
 pack-requires-2 : tie.Need-pack-requires-2
 pack-requires-2 c κs = omega (arith, subst (Small 512) (sym (c .before .before .before .check-vocabulary .ensures) ∙ ap counted (c .before .answer2 .given .1)) (vocabulary-small (now (c .before .before .before .before .before .args .vocabulary))))
 
--- src/lib.rt:20:1
 returns : tie.Need-returns
 returns c = rw (← c .before .before .before .before .check-vocabulary .ensures, c .before .before .answer .given .1) (omega arith)
 
--- src/lib.rt:20:1
 returns-2 : tie.Need-returns-2
 returns-2 c = rw (← c .before .before .before .before .check-vocabulary .ensures, c .before .before .answer2 .given .1) (c .pack2 .ensures)
 

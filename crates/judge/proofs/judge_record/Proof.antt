@@ -1,3 +1,5 @@
+-- `judge::judge_record` meets its contract. The answer's offset is below 4,096 and its place a 32-bit number, so that it fits its bits.
+-- Assumes nothing.
 use Rattle.records.proofs.Bounds.{Small, record-small}
 use Rattle.records.specs.Answers.{located}
 use Prim.Native.Nat.{max}
@@ -7,36 +9,25 @@ use native.Mathlib.Omega.{arith}
 use borrow.Author.Needs.{needs}
 use Rattle.judge.proofs.judge_record.Statement.{statement}
 use Rattle.judge.proofs.judge_record.Tie as tie
-use Rattle.judge.proofs.judge_record.Reads as reads
-use Rattle.judge.proofs.judge_record.Lts as lts
-use Rattle.judge.proofs.pack.Reads as pack-reads
-use Rattle.records.proofs.find_record.Reads as find-record-reads
 
--- src/lib.rt:35:9
 find-record-requires : tie.Need-find-record-requires
 find-record-requires c κs = search needs
 
--- src/lib.rt:37:21
 enum-known-answer : tie.Need-enum-known-answer
 enum-known-answer c = search needs
 
--- src/lib.rt:37:32
 pack-requires : tie.Need-pack-requires
 pack-requires c κs = omega (arith, subst (Small (max 4096 (c .before .before .before .before .before .args .number))) (sym (c .before .before .before .find-record .ensures) ∙ ap located (c .before .answer .given .1)) (record-small (now (c .before .before .before .before .before .args .vocabulary)) (c .before .before .before .before .before .args .number)))
 
--- src/lib.rt:38:36
 enum-known-answer-2 : tie.Need-enum-known-answer-2
 enum-known-answer-2 c = search needs
 
--- src/lib.rt:38:52
 pack-requires-2 : tie.Need-pack-requires-2
 pack-requires-2 c κs = omega (arith, subst (Small (max 4096 (c .before .before .before .before .before .args .number))) (sym (c .before .before .before .find-record .ensures) ∙ ap located (c .before .answer2 .given .1)) (record-small (now (c .before .before .before .before .before .args .vocabulary)) (c .before .before .before .before .before .args .number)))
 
--- src/lib.rt:31:1
 returns : tie.Need-returns
 returns c = rw (← c .before .before .before .before .find-record .ensures, c .before .before .answer .given .1) (omega arith)
 
--- src/lib.rt:31:1
 returns-2 : tie.Need-returns-2
 returns-2 c = rw (← c .before .before .before .before .find-record .ensures, c .before .before .answer2 .given .1) (c .pack2 .ensures)
 

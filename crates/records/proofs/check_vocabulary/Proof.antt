@@ -1,3 +1,5 @@
+-- `records::check_vocabulary` meets its contract. A refusal stands; otherwise the next check decides. A length that passed has a header.
+-- Assumes nothing.
 use denote.Ref.{now}
 use Rattle.records.proofs.Passed.{length-passed}
 use Rattle.records.specs.Check.{vocabularyCheck}
@@ -6,72 +8,53 @@ use Rattle.records.proofs.Order.{stopped, goes, passed}
 use borrow.Author.Needs.{needs}
 use Rattle.records.proofs.check_vocabulary.Statement.{statement}
 use Rattle.records.proofs.check_vocabulary.Tie as tie
-use Rattle.records.proofs.check_vocabulary.Reads as reads
-use Rattle.records.proofs.check_vocabulary.Lts as lts
-use Rattle.records.proofs.answers.count_after.Reads as count-after-reads
-use Rattle.records.proofs.check.check_header.Reads as check-header-reads
-use Rattle.records.proofs.check.check_length.Reads as check-length-reads
-use Rattle.records.proofs.check.check_links.Reads as check-links-reads
-use Rattle.records.proofs.check.check_records.Reads as check-records-reads
 
--- src/lib.rt:28:9
 check-length-requires : tie.Need-check-length-requires
 check-length-requires c κs = search needs
 
 enum-told : tie.Need-enum-told
 enum-told c = search needs
 
--- src/lib.rt:30:9
 enum-told-2 : tie.Need-enum-told-2
 enum-told-2 c = search needs
 
--- src/lib.rt:30:9
 count-after-requires : tie.Need-count-after-requires
 count-after-requires c κs = search needs
 
--- src/lib.rt:30:9
 returns : tie.Need-returns
 unfolding vocabularyCheck
 returns c = stopped _ _ _ _ _ _ _ (c .count-after .ensures) (c .before .before .before .check-length .ensures) (c .before .enum-told2 .given .1)
 
--- src/lib.rt:32:9
 check-header-requires : tie.Need-check-header-requires
 check-header-requires c κs = length-passed (now (c .before .before .before .before .args .v)) (passed _ _ (c .before .before .check-length .ensures) (c .enum-told .given .1)) .least
 
 enum-told-3 : tie.Need-enum-told-3
 enum-told-3 c = search needs
 
--- src/lib.rt:34:9
 enum-told-4 : tie.Need-enum-told-4
 enum-told-4 c = search needs
 
--- src/lib.rt:34:9
 count-after-requires-2 : tie.Need-count-after-requires-2
 count-after-requires-2 c κs = search needs
 
--- src/lib.rt:34:9
 returns-2 : tie.Need-returns-2
 unfolding vocabularyCheck
 returns-2 c =
     goes _ _ _ _ (c .before .before .before .before .before .before .check-length .ensures) (c .before .before .before .before .enum-told .given .1)
     (stopped _ _ _ _ _ _ _ (c .count-after2 .ensures) (c .before .before .before .check-header .ensures) (c .before .enum-told4 .given .1))
 
--- src/lib.rt:36:9
 check-records-requires : tie.Need-check-records-requires
 check-records-requires c κs = length-passed (now (c .before .before .before .before .before .before .before .args .v)) (passed _ _ (c .before .before .before .before .before .check-length .ensures) (c .before .before .before .enum-told .given .1)) .least
 
 enum-told-5 : tie.Need-enum-told-5
 enum-told-5 c = search needs
 
--- src/lib.rt:38:9
 enum-told-6 : tie.Need-enum-told-6
 enum-told-6 c = search needs
 
--- src/lib.rt:38:9
 count-after-requires-3 : tie.Need-count-after-requires-3
 count-after-requires-3 c κs = search needs
 
--- src/lib.rt:38:9
 returns-3 : tie.Need-returns-3
 unfolding vocabularyCheck
 returns-3 c =
@@ -79,15 +62,12 @@ returns-3 c =
     (goes _ _ _ _ (c .before .before .before .before .before .before .check-header .ensures) (c .before .before .before .before .enum-told3 .given .1)
     (stopped _ _ _ _ _ _ _ (c .count-after3 .ensures) (c .before .before .before .check-records .ensures) (c .before .enum-told6 .given .1)))
 
--- src/lib.rt:40:9
 check-links-requires : tie.Need-check-links-requires
 check-links-requires c κs = length-passed (now (c .before .before .before .before .before .before .before .before .before .before .args .v)) (passed _ _ (c .before .before .before .before .before .before .before .before .check-length .ensures) (c .before .before .before .before .before .before .enum-told .given .1)) .least
 
--- src/lib.rt:41:5
 count-after-requires-4 : tie.Need-count-after-requires-4
 count-after-requires-4 c κs = search needs
 
--- src/lib.rt:25:1
 returns-4 : tie.Need-returns-4
 unfolding vocabularyCheck
 returns-4 c =

@@ -1,62 +1,49 @@
+-- `records::find_record` meets its contract. A refusal stands; otherwise the next check decides.
+-- Assumes nothing.
 use Rattle.records.specs.Call.{recordCall}
 use mathlib.Core.Path.{refl}
 use Rattle.records.proofs.Order.{stopped, goes}
 use borrow.Author.Needs.{needs}
 use Rattle.records.proofs.find_record.Statement.{statement}
 use Rattle.records.proofs.find_record.Tie as tie
-use Rattle.records.proofs.find_record.Reads as reads
-use Rattle.records.proofs.find_record.Lts as lts
-use Rattle.records.proofs.answers.locate_after.Reads as locate-after-reads
-use Rattle.records.proofs.answers.pass_if.Reads as pass-if-reads
-use Rattle.records.proofs.check.check_length.Reads as check-length-reads
 
--- src/lib.rt:48:9
 check-length-requires : tie.Need-check-length-requires
 check-length-requires c κs = search needs
 
 enum-told : tie.Need-enum-told
 enum-told c = search needs
 
--- src/lib.rt:50:9
 enum-told-2 : tie.Need-enum-told-2
 enum-told-2 c = search needs
 
--- src/lib.rt:50:9
 locate-after-requires : tie.Need-locate-after-requires
 locate-after-requires c κs = search needs
 
--- src/lib.rt:50:9
 returns : tie.Need-returns
 unfolding recordCall
 returns c = stopped _ _ _ _ _ _ _ (c .locate-after .ensures) (c .before .before .before .check-length .ensures) (c .before .enum-told2 .given .1)
 
--- src/lib.rt:53:9
 pass-if-requires : tie.Need-pass-if-requires
 pass-if-requires c κs = search needs
 
 enum-told-3 : tie.Need-enum-told-3
 enum-told-3 c = search needs
 
--- src/lib.rt:55:9
 enum-told-4 : tie.Need-enum-told-4
 enum-told-4 c = search needs
 
--- src/lib.rt:55:9
 locate-after-requires-2 : tie.Need-locate-after-requires-2
 locate-after-requires-2 c κs = search needs
 
--- src/lib.rt:55:9
 returns-2 : tie.Need-returns-2
 unfolding recordCall
 returns-2 c =
     goes _ _ _ _ (c .before .before .before .before .before .before .check-length .ensures) (c .before .before .before .before .enum-told .given .1)
     (stopped _ _ _ _ _ _ _ (c .locate-after2 .ensures) (c .before .before .before .pass-if .ensures) (c .before .enum-told4 .given .1))
 
--- src/lib.rt:57:17
 mul-t6 : tie.Need-mul-t6
 mul-t6 c = search needs
 
--- src/lib.rt:45:1
 returns-3 : tie.Need-returns-3
 unfolding recordCall
 returns-3 c =

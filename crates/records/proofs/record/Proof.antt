@@ -1,3 +1,5 @@
+-- `records::record` meets its contract. Where the call accepts, its offset leaves room for a record.
+-- Assumes nothing.
 use native.Mathlib.Nat.{add-sub-cancel-left}
 use Rattle.records.proofs.Bounds.{record-within}
 use Rattle.records.specs.declared.answers.Located.{Located}
@@ -7,47 +9,34 @@ use mathlib.Core.Path.{_∙_, sym, ap}
 use borrow.Author.Needs.{needs}
 use Rattle.records.proofs.record.Statement.{statement}
 use Rattle.records.proofs.record.Tie as tie
-use Rattle.records.proofs.record.Reads as reads
-use Rattle.records.proofs.record.Lts as lts
-use Rattle.records.proofs.find_record.Reads as find-record-reads
 
--- src/lib.rt:64:9
 find-record-requires : tie.Need-find-record-requires
 find-record-requires c κs = search needs
 
--- src/lib.rt:65:21
 enum-known-found : tie.Need-enum-known-found
 enum-known-found c = search needs
 
--- src/lib.rt:66:16
 enum-told : tie.Need-enum-told
 enum-told c = search needs
 
--- src/lib.rt:66:9
 slice-aggregate-result : tie.Need-slice-aggregate-result
 slice-aggregate-result c = search needs
 
--- src/lib.rt:66:9
 returns : tie.Need-returns
 returns c = rw (← c .before .before .before .find-record .ensures, c .before .enum-told .given .1)
 
--- src/lib.rt:68:15
 add-end : tie.Need-add-end
 add-end c = omega (arith, record-within _ _ _ (sym (c .before .before .before .find-record .ensures) ∙ ap located (c .before .found .given .1)))
 
--- src/lib.rt:69:5
 sub-result : tie.Need-sub-result
 sub-result c = search needs
 
--- src/lib.rt:69:5
 part-result-start : tie.Need-part-result-start
 part-result-start c = search needs
 
--- src/lib.rt:69:5
 part-result-end : tie.Need-part-result-end
 part-result-end c = omega (arith, record-within _ _ _ (sym (c .before .before .before .find-record .ensures) ∙ ap located (c .before .found .given .1)))
 
--- src/lib.rt:61:1
 returns-2 : tie.Need-returns-2
 returns-2 c = rw (← c .before .before .before .before .find-record .ensures, c .before .before .found .given .1, add-sub-cancel-left)
 

@@ -1,14 +1,12 @@
+-- `records::answers::pass_if` meets its contract. Each arm is a case of `require`.
+-- Assumes nothing.
 use borrow.Author.Needs.{needs}
 use Rattle.records.proofs.answers.pass_if.Statement.{statement}
 use Rattle.records.proofs.answers.pass_if.Tie as tie
-use Rattle.records.proofs.answers.pass_if.Reads as reads
-use Rattle.records.proofs.answers.pass_if.Lts as lts
 
--- src/answers.rt:25:1
 returns : tie.Need-returns
 returns c = search needs
 
--- src/answers.rt:25:1
 returns-2 : tie.Need-returns-2
 returns-2 c = rw (c .if1 .left)
 

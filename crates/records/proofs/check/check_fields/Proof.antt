@@ -1,3 +1,5 @@
+-- `records::check::check_fields` meets its contract. A refusal of row 3 stands; otherwise rows 4 to 7 decide.
+-- Assumes nothing.
 use Rattle.records.specs.declared.fields.Record.{Record}
 use denote.Ref.{now}
 use Rattle.records.specs.Check.{fieldsCheck}
@@ -6,38 +8,27 @@ use Rattle.records.proofs.Order.{stops, goes}
 use borrow.Author.Needs.{needs}
 use Rattle.records.proofs.check.check_fields.Statement.{statement}
 use Rattle.records.proofs.check.check_fields.Tie as tie
-use Rattle.records.proofs.check.check_fields.Reads as reads
-use Rattle.records.proofs.check.check_fields.Lts as lts
-use Rattle.records.proofs.check.check_kind.Reads as check-kind-reads
-use Rattle.records.proofs.check.check_rows.Reads as check-rows-reads
-use Rattle.records.proofs.fields.Record.read.Reads as read-reads
 
--- src/check.rt:245:9
 read-requires : tie.Need-read-requires
 read-requires c κs = search needs
 
--- src/check.rt:246:9
 check-kind-requires : tie.Need-check-kind-requires
 check-kind-requires c κs = search needs
 
 enum-told : tie.Need-enum-told
 enum-told c = search needs
 
--- src/check.rt:248:9
 enum-told-2 : tie.Need-enum-told-2
 enum-told-2 c = search needs
 
--- src/check.rt:248:9
 returns : tie.Need-returns
 returns c =
     stops _ _ _ _ _ (c .before .before .check-kind .ensures) (c .enum-told2 .given .1)
     ∙ ap (λ (r : Record). fieldsCheck (now (c .before .before .before .before .before .before .args .v)) (c .before .before .before .before .before .before .args .i) r) (c .before .before .before .read .ensures)
 
--- src/check.rt:250:5
 check-rows-requires : tie.Need-check-rows-requires
 check-rows-requires c κs = search needs
 
--- src/check.rt:239:1
 returns-2 : tie.Need-returns-2
 returns-2 c =
     goes _ _ _ _ (c .before .before .before .check-kind .ensures) (c .before .enum-told .given .1) (c .check-rows .ensures)

@@ -1,3 +1,5 @@
+-- `records::check::check_links` meets its contract. The header passed; the loop's invariant: the statements from `i` on decide.
+-- Assumes nothing.
 use Rattle.records.proofs.Rows.{head-at}
 use Prim.Native.Nat.{_-_, _≤_}
 use Rattle.records.specs.Check.{linkCheck}
@@ -8,12 +10,6 @@ use native.Mathlib.Omega.{arith}
 use borrow.Author.Needs.{needs}
 use Rattle.records.proofs.check.check_links.Statement.{statement}
 use Rattle.records.proofs.check.check_links.Tie as tie
-use Rattle.records.proofs.check.check_links.Reads as reads
-use Rattle.records.proofs.check.check_links.Lts as lts
-use Rattle.records.proofs.answers.pass_if.Reads as pass-if-reads
-use Rattle.records.proofs.check.check_link.Reads as check-link-reads
-use Rattle.records.proofs.check.link_fits.Reads as link-fits-reads
-use Rattle.records.proofs.fields.read_at.Reads as read-at-reads
 
 abbrev Inv-loop : tie.InvT-loop
 Inv-loop v first records i₀ i = inTurn (linkCheck v) 1 (records - 1) ≡ inTurn (linkCheck v) i (records - i)
@@ -21,63 +17,50 @@ Inv-loop v first records i₀ i = inTurn (linkCheck v) 1 (records - 1) ≡ inTur
 abbrev μ-loop : tie.MeasureT-loop
 μ-loop v first records i₀ i = records - i
 
--- src/check.rt:271:17
 read-at-requires : tie.Need-read-at-requires Inv-loop μ-loop
 read-at-requires c κs = omega arith
 
--- src/check.rt:272:24
 link-fits-requires : tie.Need-link-fits-requires Inv-loop μ-loop
 link-fits-requires c κs = tt
 
--- src/check.rt:272:9
 pass-if-requires : tie.Need-pass-if-requires Inv-loop μ-loop
 pass-if-requires c κs = tt
 
 enum-told : tie.Need-enum-told Inv-loop μ-loop
 enum-told c = search needs
 
--- src/check.rt:274:9
 enum-told-2 : tie.Need-enum-told-2 Inv-loop μ-loop
 enum-told-2 c = search needs
 
--- src/check.rt:274:9
 returns : tie.Need-returns Inv-loop μ-loop
 returns c = stops _ _ _ _ _ (head-at _ _ _ _ (c .before .before .before .before .read-at .ensures) (c .before .before .before .link-fits .ensures) (c .before .before .pass-if .ensures)) (c .enum-told2 .given .1)
 
--- src/check.rt:278:5
 loop-holds : tie.Need-loop-holds Inv-loop μ-loop
 loop-holds c = refl
 
--- src/check.rt:279:13
 check-link-requires : tie.Need-check-link-requires Inv-loop μ-loop
 check-link-requires c κs = omega arith
 
 enum-told-3 : tie.Need-enum-told-3 Inv-loop μ-loop
 enum-told-3 c = search needs
 
--- src/check.rt:281:13
 enum-told-4 : tie.Need-enum-told-4 Inv-loop μ-loop
 enum-told-4 c = search needs
 
--- src/check.rt:281:13
 returns-2 : tie.Need-returns-2 Inv-loop μ-loop
 returns-2 c =
     goes _ _ _ _ (head-at _ _ _ _ (c .before .before .before .before .before .before .before .before .before .read-at .ensures) (c .before .before .before .before .before .before .before .before .link-fits .ensures) (c .before .before .before .before .before .before .before .pass-if .ensures)) (c .before .before .before .before .before .enum-told .given .1)
     (turn-refused _ _ _ _ _ _ (c .before .before .before .loop-test .taken) (c .before .before .check-link .ensures) (c .enum-told4 .given .1) ∙ sym (c .before .before .before .before .loop .inv))
 
--- src/check.rt:283:9
 add-i : tie.Need-add-i Inv-loop μ-loop
 add-i c = omega arith
 
--- src/check.rt:278:5
 loop-less : tie.Need-loop-less Inv-loop μ-loop
 loop-less c = omega arith
 
--- src/check.rt:278:5
 loop-again : tie.Need-loop-again Inv-loop μ-loop
 loop-again c = c .before .before .before .before .loop .inv ∙ turn-passed _ _ _ _ (c .before .before .before .loop-test .taken) (c .before .before .check-link .ensures) (c .enum-told3 .given .1)
 
--- src/check.rt:267:1
 returns-3 : tie.Need-returns-3 Inv-loop μ-loop
 returns-3 c =
     goes _ _ _ _ (head-at _ _ _ _ (c .before .before .before .before .before .before .read-at .ensures) (c .before .before .before .before .before .link-fits .ensures) (c .before .before .before .before .pass-if .ensures)) (c .before .before .enum-told .given .1)

@@ -1,3 +1,5 @@
+-- `records::check::check_name` meets its contract. Rows 5 and 6 have nothing to say of such a record.
+-- Assumes nothing.
 use mathlib.Core.Bool.{not}
 use Rattle.records.proofs.Rows.{name-rows}
 use Rattle.records.proofs.Order.{asked, goes, stops}
@@ -6,42 +8,30 @@ use mathlib.Core.Path.{_∙_, sym, ap}
 use borrow.Author.Needs.{needs}
 use Rattle.records.proofs.check.check_name.Statement.{statement}
 use Rattle.records.proofs.check.check_name.Tie as tie
-use Rattle.records.proofs.check.check_name.Reads as reads
-use Rattle.records.proofs.check.check_name.Lts as lts
-use Rattle.records.proofs.answers.pass_if.Reads as pass-if-reads
-use Rattle.records.proofs.check.is_labelled.Reads as is-labelled-reads
-use Rattle.records.proofs.check.spare_fits.Reads as spare-fits-reads
 
--- src/check.rt:169:25
 spare-fits-requires : tie.Need-spare-fits-requires
 spare-fits-requires c κs = search needs
 
--- src/check.rt:169:9
 pass-if-requires : tie.Need-pass-if-requires
 pass-if-requires c κs = search needs
 
 enum-told : tie.Need-enum-told
 enum-told c = search needs
 
--- src/check.rt:171:9
 enum-told-2 : tie.Need-enum-told-2
 enum-told-2 c = search needs
 
--- src/check.rt:171:9
 returns : tie.Need-returns
 returns c =
     stops _ _ _ _ _ (asked _ _ _ _ _ (c .before .before .pass-if .ensures) (c .before .before .before .spare-fits .ensures)) (c .enum-told2 .given .1)
     ∙ sym (name-rows (now (c .before .before .before .before .before .args .v)) (c .before .before .before .before .before .args .i) (c .before .before .before .before .before .args .fields))
 
--- src/check.rt:173:14
 is-labelled-requires : tie.Need-is-labelled-requires
 is-labelled-requires c κs = search needs
 
--- src/check.rt:173:5
 pass-if-requires-2 : tie.Need-pass-if-requires-2
 pass-if-requires-2 c κs = search needs
 
--- src/check.rt:165:1
 returns-2 : tie.Need-returns-2
 returns-2 c =
     goes _ _ _ _ (asked _ _ _ _ _ (c .before .before .before .before .pass-if .ensures) (c .before .before .before .before .before .spare-fits .ensures)) (c .before .before .enum-told .given .1)

@@ -1,3 +1,5 @@
+-- `records::check::check_negation` meets its contract. Rows 6 and 7 have nothing to say of such a record.
+-- Assumes nothing.
 use Rattle.records.proofs.Rows.{negation-rows}
 use Rattle.records.proofs.Order.{asked, goes, stops}
 use denote.Ref.{now}
@@ -5,42 +7,30 @@ use mathlib.Core.Path.{_∙_, sym, ap}
 use borrow.Author.Needs.{needs}
 use Rattle.records.proofs.check.check_negation.Statement.{statement}
 use Rattle.records.proofs.check.check_negation.Tie as tie
-use Rattle.records.proofs.check.check_negation.Reads as reads
-use Rattle.records.proofs.check.check_negation.Lts as lts
-use Rattle.records.proofs.answers.pass_if.Reads as pass-if-reads
-use Rattle.records.proofs.check.spare_fits.Reads as spare-fits-reads
-use Rattle.records.proofs.check.term_fits.Reads as term-fits-reads
 
--- src/check.rt:180:25
 spare-fits-requires : tie.Need-spare-fits-requires
 spare-fits-requires c κs = search needs
 
--- src/check.rt:180:9
 pass-if-requires : tie.Need-pass-if-requires
 pass-if-requires c κs = search needs
 
 enum-told : tie.Need-enum-told
 enum-told c = search needs
 
--- src/check.rt:182:9
 enum-told-2 : tie.Need-enum-told-2
 enum-told-2 c = search needs
 
--- src/check.rt:182:9
 returns : tie.Need-returns
 returns c =
     stops _ _ _ _ _ (asked _ _ _ _ _ (c .before .before .pass-if .ensures) (c .before .before .before .spare-fits .ensures)) (c .enum-told2 .given .1)
     ∙ sym (negation-rows (now (c .before .before .before .before .before .args .v)) (c .before .before .before .before .before .args .i) (c .before .before .before .before .before .args .fields))
 
--- src/check.rt:184:13
 term-fits-requires : tie.Need-term-fits-requires
 term-fits-requires c κs = search needs
 
--- src/check.rt:184:5
 pass-if-requires-2 : tie.Need-pass-if-requires-2
 pass-if-requires-2 c κs = search needs
 
--- src/check.rt:176:1
 returns-2 : tie.Need-returns-2
 returns-2 c =
     goes _ _ _ _ (asked _ _ _ _ _ (c .before .before .before .before .pass-if .ensures) (c .before .before .before .before .before .spare-fits .ensures)) (c .before .before .enum-told .given .1)

@@ -1,3 +1,5 @@
+-- `records::check::check_records` meets its contract. The loop's invariant: the records from `i` on decide, and `roles` is the header's count.
+-- Assumes nothing.
 use Rattle.records.specs.declared.fields.Record.{Record}
 use Prim.Native.Nat.{_-_, _≤_}
 use Rattle.records.specs.Format.{roleCount}
@@ -9,10 +11,6 @@ use native.Mathlib.Omega.{arith}
 use borrow.Author.Needs.{needs}
 use Rattle.records.proofs.check.check_records.Statement.{statement}
 use Rattle.records.proofs.check.check_records.Tie as tie
-use Rattle.records.proofs.check.check_records.Reads as reads
-use Rattle.records.proofs.check.check_records.Lts as lts
-use Rattle.records.proofs.check.check_record.Reads as check-record-reads
-use Rattle.records.proofs.fields.read_at.Reads as read-at-reads
 
 abbrev Inv-loop : tie.InvT-loop
 Inv-loop v records roles i₀ i = (inTurn (recordCheck v) 1 (records - 1) ≡ inTurn (recordCheck v) i (records - i)) × (roles ≡ roleCount v)
@@ -20,42 +18,33 @@ Inv-loop v records roles i₀ i = (inTurn (recordCheck v) 1 (records - 1) ≡ in
 abbrev μ-loop : tie.MeasureT-loop
 μ-loop v records roles i₀ i = records - i
 
--- src/check.rt:245:17
 read-at-requires : tie.Need-read-at-requires Inv-loop μ-loop
 read-at-requires c κs = omega arith
 
--- src/check.rt:247:5
 loop-holds : tie.Need-loop-holds Inv-loop μ-loop
 loop-holds c = (refl, ap (λ (r : Record). r .b) (c .read-at .ensures))
 
--- src/check.rt:248:13
 check-record-requires : tie.Need-check-record-requires Inv-loop μ-loop
 check-record-requires c κs = (omega arith, c .before .loop .inv .1)
 
 enum-told : tie.Need-enum-told Inv-loop μ-loop
 enum-told c = search needs
 
--- src/check.rt:250:13
 enum-told-2 : tie.Need-enum-told-2 Inv-loop μ-loop
 enum-told-2 c = search needs
 
--- src/check.rt:250:13
 returns : tie.Need-returns Inv-loop μ-loop
 returns c = turn-refused _ _ _ _ _ _ (c .before .before .before .loop-test .taken) (c .before .before .check-record .ensures) (c .enum-told2 .given .1) ∙ sym (c .before .before .before .before .loop .inv .0)
 
--- src/check.rt:252:9
 add-i : tie.Need-add-i Inv-loop μ-loop
 add-i c = omega arith
 
--- src/check.rt:247:5
 loop-less : tie.Need-loop-less Inv-loop μ-loop
 loop-less c = omega arith
 
--- src/check.rt:247:5
 loop-again : tie.Need-loop-again Inv-loop μ-loop
 loop-again c = (c .before .before .before .before .loop .inv .0 ∙ turn-passed _ _ _ _ (c .before .before .before .loop-test .taken) (c .before .before .check-record .ensures) (c .enum-told .given .1), c .before .before .before .before .loop .inv .1)
 
--- src/check.rt:240:1
 returns-2 : tie.Need-returns-2 Inv-loop μ-loop
 returns-2 c = sym (c .before .loop .inv .0 ∙ turns-end _ _ _ (c .loop-test .left))
 

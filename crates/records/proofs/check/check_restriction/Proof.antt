@@ -1,3 +1,5 @@
+-- `records::check::check_restriction` meets its contract. Row 7 has nothing to say of such a record.
+-- Assumes nothing.
 use lib.Dec.{ltb}
 use Rattle.records.proofs.Rows.{restriction-rows}
 use Rattle.records.proofs.Order.{asked, goes, stops}
@@ -6,60 +8,45 @@ use mathlib.Core.Path.{_∙_, sym, ap}
 use borrow.Author.Needs.{needs}
 use Rattle.records.proofs.check.check_restriction.Statement.{statement}
 use Rattle.records.proofs.check.check_restriction.Tie as tie
-use Rattle.records.proofs.check.check_restriction.Reads as reads
-use Rattle.records.proofs.check.check_restriction.Lts as lts
-use Rattle.records.proofs.answers.pass_if.Reads as pass-if-reads
-use Rattle.records.proofs.check.spare_fits.Reads as spare-fits-reads
-use Rattle.records.proofs.check.term_fits.Reads as term-fits-reads
 
--- src/check.rt:203:25
 spare-fits-requires : tie.Need-spare-fits-requires
 spare-fits-requires c κs = search needs
 
--- src/check.rt:203:9
 pass-if-requires : tie.Need-pass-if-requires
 pass-if-requires c κs = search needs
 
 enum-told : tie.Need-enum-told
 enum-told c = search needs
 
--- src/check.rt:205:9
 enum-told-2 : tie.Need-enum-told-2
 enum-told-2 c = search needs
 
--- src/check.rt:205:9
 returns : tie.Need-returns
 returns c =
     stops _ _ _ _ _ (asked _ _ _ _ _ (c .before .before .pass-if .ensures) (c .before .before .before .spare-fits .ensures)) (c .enum-told2 .given .1)
     ∙ sym (restriction-rows (now (c .before .before .before .before .before .args .v)) (c .before .before .before .before .before .args .i) (c .before .before .before .before .before .args .fields))
 
--- src/check.rt:207:26
 term-fits-requires : tie.Need-term-fits-requires
 term-fits-requires c κs = search needs
 
--- src/check.rt:207:9
 pass-if-requires-2 : tie.Need-pass-if-requires-2
 pass-if-requires-2 c κs = search needs
 
 enum-told-3 : tie.Need-enum-told-3
 enum-told-3 c = search needs
 
--- src/check.rt:209:9
 enum-told-4 : tie.Need-enum-told-4
 enum-told-4 c = search needs
 
--- src/check.rt:209:9
 returns-2 : tie.Need-returns-2
 returns-2 c =
     goes _ _ _ _ (asked _ _ _ _ _ (c .before .before .before .before .before .before .pass-if .ensures) (c .before .before .before .before .before .before .before .spare-fits .ensures)) (c .before .before .before .before .enum-told .given .1)
     (stops _ _ _ _ _ (asked _ _ _ _ _ (c .before .before .pass-if2 .ensures) (c .before .before .before .term-fits .ensures)) (c .enum-told4 .given .1))
     ∙ sym (restriction-rows (now (c .before .before .before .before .before .before .before .before .before .args .v)) (c .before .before .before .before .before .before .before .before .before .args .i) (c .before .before .before .before .before .before .before .before .before .args .fields))
 
--- src/check.rt:211:5
 pass-if-requires-3 : tie.Need-pass-if-requires-3
 pass-if-requires-3 c κs = search needs
 
--- src/check.rt:198:1
 returns-3 : tie.Need-returns-3
 returns-3 c =
     goes _ _ _ _ (asked _ _ _ _ _ (c .before .before .before .before .before .before .before .before .pass-if .ensures) (c .before .before .before .before .before .before .before .before .before .spare-fits .ensures)) (c .before .before .before .before .before .before .enum-told .given .1)

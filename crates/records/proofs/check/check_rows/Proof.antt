@@ -1,3 +1,5 @@
+-- `records::check::check_rows` meets its contract. The arm that was taken tells the kind, and so the sorts of its fields.
+-- Assumes nothing.
 use mathlib.Core.Logic.{⊎-elim}
 use Rattle.records.proofs.Ranges.{sorts-name, sorts-negation, sorts-inclusion, sorts-junction, sorts-restriction, sorts-low, sorts-high}
 use Rattle.records.proofs.Rows.{rows-at}
@@ -6,60 +8,40 @@ use native.Mathlib.Omega.{arith}
 use borrow.Author.Needs.{needs}
 use Rattle.records.proofs.check.check_rows.Statement.{statement}
 use Rattle.records.proofs.check.check_rows.Tie as tie
-use Rattle.records.proofs.check.check_rows.Reads as reads
-use Rattle.records.proofs.check.check_rows.Lts as lts
-use Rattle.records.proofs.check.check_constant.Reads as check-constant-reads
-use Rattle.records.proofs.check.check_inclusion.Reads as check-inclusion-reads
-use Rattle.records.proofs.check.check_junction.Reads as check-junction-reads
-use Rattle.records.proofs.check.check_name.Reads as check-name-reads
-use Rattle.records.proofs.check.check_negation.Reads as check-negation-reads
-use Rattle.records.proofs.check.check_restriction.Reads as check-restriction-reads
 
--- src/check.rt:229:14
 check-name-requires : tie.Need-check-name-requires
 check-name-requires c κs = search needs
 
--- src/check.rt:230:14
 check-negation-requires : tie.Need-check-negation-requires
 check-negation-requires c κs = search needs
 
--- src/check.rt:233:14
 check-inclusion-requires : tie.Need-check-inclusion-requires
 check-inclusion-requires c κs = search needs
 
--- src/check.rt:231:18
 check-junction-requires : tie.Need-check-junction-requires
 check-junction-requires c κs = search needs
 
--- src/check.rt:232:18
 check-restriction-requires : tie.Need-check-restriction-requires
 check-restriction-requires c κs = search needs
 
--- src/check.rt:234:14
 check-constant-requires : tie.Need-check-constant-requires
 check-constant-requires c κs = search needs
 
--- src/check.rt:222:1
 returns : tie.Need-returns
 returns c = rows-at (now (c .before .before .before .args .v)) (c .before .before .before .args .i) (c .before .before .before .args .fields) _ _ (c .check-name .ensures) (sorts-name (c .before .before .before .args .fields .kind) (c .before .match .keys1))
 
--- src/check.rt:222:1
 returns-2 : tie.Need-returns-2
 returns-2 c = rows-at (now (c .before .before .before .args .v)) (c .before .before .before .args .i) (c .before .before .before .args .fields) _ _ (c .check-negation .ensures) (sorts-negation (c .before .before .before .args .fields .kind) (c .before .match .keys2))
 
--- src/check.rt:222:1
 returns-3 : tie.Need-returns-3
 returns-3 c = rows-at (now (c .before .before .before .args .v)) (c .before .before .before .args .i) (c .before .before .before .args .fields) _ _ (c .check-inclusion .ensures) (sorts-inclusion (c .before .before .before .args .fields .kind) (c .before .match .keys3))
 
--- src/check.rt:222:1
 returns-4 : tie.Need-returns-4
 returns-4 c = rows-at (now (c .before .before .before .before .before .args .v)) (c .before .before .before .before .before .args .i) (c .before .before .before .before .before .args .fields) _ _ (c .check-junction .ensures) (sorts-junction (c .before .before .before .before .before .args .fields .kind) (omega arith) (c .before .if2 .taken))
 
--- src/check.rt:222:1
 returns-5 : tie.Need-returns-5
 returns-5 c = rows-at (now (c .before .before .before .before .before .before .args .v)) (c .before .before .before .before .before .before .args .i) (c .before .before .before .before .before .before .args .fields) _ _ (c .check-restriction .ensures) (sorts-restriction (c .before .before .before .before .before .before .args .fields .kind) (omega arith) (c .before .if3 .taken))
 
--- src/check.rt:222:1
 returns-6 : tie.Need-returns-6
 returns-6 c =
     rows-at (now (c .before .before .before .before .args .v)) (c .before .before .before .before .args .i) (c .before .before .before .before .args .fields) _ _ (c .check-constant .ensures)

@@ -1,3 +1,5 @@
+-- `records::check::is_labelled` meets its contract. The loop's invariant: `found` is whether a record below `j` is a name with this label.
+-- Assumes nothing.
 use denote.Ref.{now}
 use mathlib.Core.Bool.{true, false}
 use mathlib.Core.Logic.{⊎-elim}
@@ -8,9 +10,6 @@ use Rattle.records.proofs.Order.{any-hit, any-miss}
 use native.Mathlib.Omega.{arith}
 use Rattle.records.proofs.check.is_labelled.Statement.{statement}
 use Rattle.records.proofs.check.is_labelled.Tie as tie
-use Rattle.records.proofs.check.is_labelled.Reads as reads
-use Rattle.records.proofs.check.is_labelled.Lts as lts
-use Rattle.records.proofs.check.is_named.Reads as is-named-reads
 
 abbrev Inv-loop : tie.InvT-loop
 Inv-loop v i label found₀ j₀ found j = (j ≤ i) × (found ≡ anyBelow (named v label) j)
@@ -18,24 +17,19 @@ Inv-loop v i label found₀ j₀ found j = (j ≤ i) × (found ≡ anyBelow (nam
 abbrev μ-loop : tie.MeasureT-loop
 μ-loop v i label found₀ j₀ found j = i - j
 
--- src/check.rt:97:5
 loop-holds : tie.Need-loop-holds Inv-loop μ-loop
 unfolding anyBelow
 loop-holds c = (omega arith, refl)
 
--- src/check.rt:98:12
 is-named-requires : tie.Need-is-named-requires Inv-loop μ-loop
 is-named-requires c κs = omega arith
 
--- src/check.rt:101:9
 add-j : tie.Need-add-j Inv-loop μ-loop
 add-j c = omega arith
 
--- src/check.rt:97:5
 loop-less : tie.Need-loop-less Inv-loop μ-loop
 loop-less c = omega arith
 
--- src/check.rt:97:5
 loop-again : tie.Need-loop-again Inv-loop μ-loop
 loop-again c = (
   omega arith,
@@ -45,7 +39,6 @@ loop-again c = (
       (c .if1 .came),
 )
 
--- src/check.rt:91:1
 returns : tie.Need-returns Inv-loop μ-loop
 returns c = let e : c .before .loop .j ≡ c .before .before .before .args .i = omega arith in c .before .loop .inv .1 ∙ ap (anyBelow (named (now (c .before .before .before .args .v)) (c .before .before .before .args .label))) e
 

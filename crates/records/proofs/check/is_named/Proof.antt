@@ -1,20 +1,16 @@
+-- `records::check::is_named` meets its contract. At each return the test that led there says what the conjunction is.
+-- Assumes nothing.
 use borrow.Author.Tests.{eq-eqb, ne-eqb}
 use borrow.Author.Needs.{needs}
 use Rattle.records.proofs.check.is_named.Statement.{statement}
 use Rattle.records.proofs.check.is_named.Tie as tie
-use Rattle.records.proofs.check.is_named.Reads as reads
-use Rattle.records.proofs.check.is_named.Lts as lts
-use Rattle.records.proofs.fields.read_at.Reads as read-at-reads
 
--- src/check.rt:83:9
 read-at-requires : tie.Need-read-at-requires
 read-at-requires c κs = search needs
 
--- src/check.rt:85:9
 returns : tie.Need-returns
 returns c = rw (← c .before .before .read-at .ensures) (simp (ne-eqb _ _ (c .if1 .taken)))
 
--- src/check.rt:79:1
 returns-2 : tie.Need-returns-2
 returns-2 c = rw (← c .before .before .before .read-at .ensures) (simp (eq-eqb _ _ (c .before .if1 .left)))
 

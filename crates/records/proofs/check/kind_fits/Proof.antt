@@ -1,20 +1,17 @@
+-- `records::check::kind_fits` meets its contract. At each return the tests that led there say what the conjunction is.
+-- Assumes nothing.
 use borrow.Author.Tests.{le-leb, lt-leb}
 use borrow.Author.Tests.{le-ltb, lt-ltb}
 use native.Mathlib.Omega.{arith}
 use Rattle.records.proofs.check.kind_fits.Statement.{statement}
 use Rattle.records.proofs.check.kind_fits.Tie as tie
-use Rattle.records.proofs.check.kind_fits.Reads as reads
-use Rattle.records.proofs.check.kind_fits.Lts as lts
 
--- src/check.rt:64:9
 returns : tie.Need-returns
 returns c = simp (lt-leb _ _ (c .if1 .taken))
 
--- src/check.rt:67:9
 returns-2 : tie.Need-returns-2
 returns-2 c = simp (le-leb _ _ (c .before .before .if1 .left), lt-leb _ _ (c .if2 .taken))
 
--- src/check.rt:60:1
 returns-3 : tie.Need-returns-3
 returns-3 c = simp (le-leb _ _ (c .before .before .before .if1 .left), le-leb _ _ (c .before .if2 .left))
 

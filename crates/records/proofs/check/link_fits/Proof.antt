@@ -1,34 +1,26 @@
+-- `records::check::link_fits` meets its contract. At each return the tests that led there say what the disjunction is.
+-- Assumes nothing.
 use mathlib.Core.Path.{_∙_}
 use borrow.Author.Tests.{le-ltb, lt-ltb, eq-eqb, ne-eqb}
 use borrow.Author.Needs.{needs}
 use Rattle.records.proofs.check.link_fits.Statement.{statement}
 use Rattle.records.proofs.check.link_fits.Tie as tie
-use Rattle.records.proofs.check.link_fits.Reads as reads
-use Rattle.records.proofs.check.link_fits.Lts as lts
-use Rattle.records.proofs.fields.read_at.Reads as read-at-reads
-use Rattle.records.proofs.kinds.is_statement.Reads as is-statement-reads
 
--- src/check.rt:124:9
 returns : tie.Need-returns
 returns c = rw (eq-eqb _ _ (c .if1 .taken))
 
--- src/check.rt:127:9
 returns-2 : tie.Need-returns-2
 returns-2 c = rw (ne-eqb _ _ (c .before .if1 .left), le-ltb _ _ (c .if2 .taken))
 
--- src/check.rt:130:29
 read-at-requires : tie.Need-read-at-requires
 read-at-requires c κs = search needs
 
--- src/check.rt:130:9
 is-statement-requires : tie.Need-is-statement-requires
 is-statement-requires c κs = search needs
 
--- src/check.rt:130:9
 returns-3 : tie.Need-returns-3
 returns-3 c = c .is-statement .ensures ∙ rw (c .before .read-at .ensures, ne-eqb _ _ (c .before .before .before .before .if1 .left), lt-ltb _ _ (c .before .before .before .if2 .left), lt-ltb _ _ (c .before .before .if3 .taken))
 
--- src/check.rt:119:1
 returns-4 : tie.Need-returns-4
 returns-4 c = rw (ne-eqb _ _ (c .before .before .if1 .left), lt-ltb _ _ (c .before .if2 .left), le-ltb _ _ (c .if3 .left))
 

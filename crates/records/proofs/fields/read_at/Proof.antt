@@ -1,38 +1,30 @@
+-- `records::fields::read_at` meets its contract. The part of the vocabulary is the record's eight bytes.
+-- Assumes nothing.
 use Rattle.records.specs.Format.{recordAt}
 use native.Mathlib.Nat.{add-sub-cancel-left}
 use lib.ListN.{length-take, length-drop}
 use borrow.Author.Needs.{needs}
 use Rattle.records.proofs.fields.read_at.Statement.{statement}
 use Rattle.records.proofs.fields.read_at.Tie as tie
-use Rattle.records.proofs.fields.read_at.Reads as reads
-use Rattle.records.proofs.fields.read_at.Lts as lts
-use Rattle.records.proofs.fields.Record.read.Reads as read-reads
 
--- src/fields.rt:50:14
 mul-at : tie.Need-mul-at
 mul-at c = search needs
 
--- src/fields.rt:51:15
 add-end : tie.Need-add-end
 add-end c = search needs
 
--- src/fields.rt:52:18
 sub-read : tie.Need-sub-read
 sub-read c = search needs
 
--- src/fields.rt:52:18
 part-read-start : tie.Need-part-read-start
 part-read-start c = search needs
 
--- src/fields.rt:52:18
 part-read-end : tie.Need-part-read-end
 part-read-end c = search needs
 
--- src/fields.rt:52:5
 read-requires : tie.Need-read-requires
 read-requires c κs = search needs
 
--- src/fields.rt:46:1
 returns : tie.Need-returns
 unfolding recordAt
 returns c = rw add-sub-cancel-left at (c .read .ensures)

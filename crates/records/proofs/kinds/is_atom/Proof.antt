@@ -1,24 +1,20 @@
+-- `records::kinds::is_atom` meets its contract. The tests of the ranges say which case holds.
+-- Assumes nothing.
 use Rattle.records.proofs.Ranges.{atom-role, atom-not}
 use native.Mathlib.Omega.{arith}
 use borrow.Author.Tests.{eq-eqb, ne-eqb}
 use Rattle.records.proofs.kinds.is_atom.Statement.{statement}
 use Rattle.records.proofs.kinds.is_atom.Tie as tie
-use Rattle.records.proofs.kinds.is_atom.Reads as reads
-use Rattle.records.proofs.kinds.is_atom.Lts as lts
 
--- src/kinds.rt:48:1
 returns : tie.Need-returns
 returns c = rw (c .match .keys1)
 
--- src/kinds.rt:48:1
 returns-2 : tie.Need-returns-2
 returns-2 c = atom-role (c .before .before .before .args .kind) (omega arith) (omega arith)
 
--- src/kinds.rt:48:1
 returns-3 : tie.Need-returns-3
 returns-3 c = atom-not (c .before .before .args .kind) (c .before .match .rest .1) (λ e. omega arith) (λ e. omega arith)
 
--- src/kinds.rt:48:1
 returns-4 : tie.Need-returns-4
 returns-4 c = atom-not (c .before .before .before .args .kind) (c .before .before .match .rest .1) (λ e. omega arith) (λ e. omega arith)
 

@@ -1,20 +1,17 @@
+-- `records::kinds::is_term` meets its contract. The tests of the range say which case holds.
+-- Assumes nothing.
 use borrow.Author.Tests.{le-leb, lt-leb}
 use borrow.Author.Tests.{le-ltb, lt-ltb}
 use native.Mathlib.Omega.{arith}
 use Rattle.records.proofs.kinds.is_term.Statement.{statement}
 use Rattle.records.proofs.kinds.is_term.Tie as tie
-use Rattle.records.proofs.kinds.is_term.Reads as reads
-use Rattle.records.proofs.kinds.is_term.Lts as lts
 
--- src/kinds.rt:39:1
 returns : tie.Need-returns
 returns c = rw (le-leb 1 (c .before .before .args .kind) (omega arith), le-leb (c .before .before .args .kind) 8 (omega arith))
 
--- src/kinds.rt:39:1
 returns-2 : tie.Need-returns-2
 returns-2 c = rw (lt-leb 1 _ (c .if1 .taken))
 
--- src/kinds.rt:39:1
 returns-3 : tie.Need-returns-3
 returns-3 c = rw (le-leb 1 (c .before .before .args .kind) (omega arith), lt-leb (c .before .before .args .kind) 8 (omega arith))
 

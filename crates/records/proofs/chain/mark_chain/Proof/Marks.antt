@@ -1,0 +1,81 @@
+-- Marks made along the chain: what is marked, and what is still to be walked, is the chain.
+-- Assumes nothing.
+use Prim.Native.Nat.{ℕ, zero, suc, _<_, _≤_}
+use native.Mathlib.Omega.{arith}
+use native.Mathlib.Decide.{ℕ-discrete}
+use mathlib.Core.Path.{_≡_, refl, sym, _∙_, ap, subst}
+use mathlib.Core.Bool.{Bool, true, false, _||_, or-true, or-false}
+use mathlib.Core.List.{List, [], _∷_}
+use mathlib.Core.Logic.{_⊎_, inl, inr}
+use lib.ListN.{length, getD, set, replicate, length-set, length-replicate}
+use lib.Seq.{getD-set-same, getD-set-other}
+use lib.Dec.{eqb}
+use borrow.Author.Tests.{eq-eqb, ne-eqb}
+use Rattle.records.specs.Format.{recordAt, count, firstStatement}
+use Rattle.records.specs.Chain.{chainFrom, occurs, chained}
+use Rattle.records.proofs.Accepted.{Accepted, Later, Linked}
+use Rattle.records.proofs.Chains.{chain-nil, chain-step, left, left-falls}
+
+pub record Marking (v : List ℕ) (marks : List Bool) (at : ℕ) : Type 0 where
+  pub size : length marks ≡ 512
+  pub linked : Linked v 0 at
+  pub marked : (i : ℕ) → (getD marks i false || occurs i (chainFrom v at)) ≡ chained v i
+
+unmarked : (n i : ℕ) → getD (replicate n false) i false ≡ false
+unmarked zero i = refl
+unmarked (suc n) zero = refl
+unmarked (suc n) (suc i) = unmarked n i
+
+module _ (v : List ℕ) (good : Accepted v) where
+  pub start : (at : ℕ) → at ≡ firstStatement v → Marking v (replicate 512 false) at
+  start at e =
+      record {
+        size = length-replicate 512 false;
+        linked = subst (Linked v 0) (sym e) (good .first);
+        marked = λ i. rw (unmarked 512 i, e);
+      }
+
+  -- the statement that a walk stands at
+  pub standing : (marks : List Bool) (at : ℕ) → Marking v marks at → (at ≡ 0 → ⊥) → Later v 0 at
+  standing marks at m h = of (m .linked)
+    where
+      of : Linked v 0 at → Later v 0 at
+      of (inl e) = absurd (h e)
+      of (inr s) = s
+
+  pub next : (marks : List Bool) (at x : ℕ) → Marking v marks at → Later v 0 at → x ≡ recordAt v at .next → Marking v (set marks at true) x
+  unfolding occurs
+  next marks at x m s e =
+      record {
+        size = length-set marks at true ∙ m .size;
+        linked = subst (Linked v 0) (sym e) (above (good .rises at (s .later) (s .within) (s .statement)));
+        marked = λ i. mark i (ℕ-discrete i at);
+      }
+    where
+      above : Linked v at (recordAt v at .next) → Linked v 0 (recordAt v at .next)
+      above (inl z) = inl z
+      above (inr t) = inr record { later = omega (arith, t .later); within = t .within; statement = t .statement }
+
+      -- the chain from here is this statement and the chain from the next
+      told : (i : ℕ) → (getD marks i false || (eqb i at || occurs i (chainFrom v (recordAt v at .next)))) ≡ chained v i
+      told i = ap (λ (l : List ℕ). getD marks i false || occurs i l) (sym (chain-step v good 0 at s)) ∙ m .marked i
+
+      full : at < length marks
+      full = omega (arith, good .sized .most, s .within, m .size)
+
+      mark : (i : ℕ) → Dec (i ≡ at) → (getD (set marks at true) i false || occurs i (chainFrom v x)) ≡ chained v i
+      mark i (yes q) =
+          rw (q, getD-set-same marks at true false full)
+          (sym (or-true (getD marks at false)) ∙ rw (eq-eqb at at refl) at (told at))
+      mark i (no q) = rw (e, getD-set-other marks at i true false q) (rw (ne-eqb i at q) at (told i))
+
+  pub falls : (at x : ℕ) → Later v 0 at → x ≡ recordAt v at .next → left (count v) x < left (count v) at
+  falls at x s e =
+      left-falls v at x (s .later) (s .within)
+      (subst (Linked v at) (sym e) (good .rises at (s .later) (s .within) (s .statement)))
+
+  pub done : (marks : List Bool) → Marking v marks 0 → (i : ℕ) → getD marks i false ≡ chained v i
+  unfolding occurs
+  done marks m i =
+      sym (or-false (getD marks i false))
+      ∙ (ap (λ (l : List ℕ). getD marks i false || occurs i l) (sym (chain-nil v (count v))) ∙ m .marked i)
