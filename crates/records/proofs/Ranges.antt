@@ -1,14 +1,16 @@
 -- Kinds by ranges: the tests of a `match` over kind ranges, and what they say of the definitions by kind.
 --   sorts-name, -negation, -junction, -restriction, -inclusion, -low, -high   what the fields of the kinds of an arm hold
 --   atom-role, atom-not                             which kinds are atoms
+--   key-same                                        a key made of kind and A
 -- Assumes nothing.
-use Prim.Native.Nat.{ℕ, zero, suc, _+_, _<_, _≤_}
+use Prim.Native.Nat.{ℕ, zero, suc, _+_, _*_, _<_, _≤_}
 use native.Mathlib.Omega.{arith}
 use native.Mathlib.Decide.{ℕ-discrete}
 use mathlib.Core.Path.{_≡_, refl, ap, sym, _∙_}
-use mathlib.Core.Bool.{Bool, true, false}
+use mathlib.Core.Bool.{Bool, true, false, _&&_}
 use mathlib.Core.Logic.{_⊎_, inl, inr, ⊎-elim}
 use lib.ListN.{List·getD-eq-default}
+use lib.Dec.{eqb}
 use borrow.Author.Tests.{le-leb, lt-leb, eq-eqb, ne-eqb}
 use Rattle.records.specs.Kinds.{sortsOf, isTerm, isAtom, constantFields, nameFields, negationFields, junctionFields, restrictionFields, inclusionFields, fieldsByKind}
 
@@ -56,3 +58,12 @@ atom-role k l h = ⊎-elim (λ e. rw e) (λ e. rw e) (one-of-two k 7 l h)
 
 pub atom-not : (k : ℕ) → (k ≡ 3 → ⊥) → (k ≡ 7 → ⊥) → (k ≡ 8 → ⊥) → false ≡ isAtom k
 atom-not k a b c = rw (ne-eqb k 3 a, ne-eqb k 7 b, ne-eqb k 8 c)
+
+-- Kind and A in one number: equal keys have equal parts.
+pub key-same : (k a l x y : ℕ) → k < 256 → x ≡ k + 65536 * a → y ≡ 3 + 65536 * l → eqb x y ≡ (eqb k 3 && eqb a l)
+key-same k a l x y h p q = at (ℕ-discrete k 3) (ℕ-discrete a l)
+  where
+    at : Dec (k ≡ 3) → Dec (a ≡ l) → eqb x y ≡ (eqb k 3 && eqb a l)
+    at (yes e) (yes f) = rw (eq-eqb x y (omega arith), eq-eqb k 3 e, eq-eqb a l f)
+    at (yes e) (no f) = rw (ne-eqb x y (λ g. f (omega arith)), eq-eqb k 3 e, ne-eqb a l f)
+    at (no e) f = rw (ne-eqb x y (λ g. e (omega arith)), ne-eqb k 3 e)

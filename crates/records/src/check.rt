@@ -74,20 +74,23 @@ fn check_kind(fields: Record, i: usize) -> Checked
     pass_if(kind_fits(fields), 3, i)
 }
 
+// A record's kind and A in one number, so that one comparison tells both.
+fn key_of(kind: u8, a: u16) -> u32
+    ensures { λ r. ⌜ r ≡ kind + 65536 * a ⌝ }
+{
+    kind as u32 + 65536 * (a as u32)
+}
+
 // Whether record j is a name with this label.
 fn is_named(v: &[u8], label: u16, j: usize) -> bool
     requires { ⌜ 8 * j + 8 ≤ length (now v) ⌝ }
     ensures { λ r. ⌜ r ≡ named (now (v .entry)) label j ⌝ }
 {
     let fields = read_at(v, j);
-    if fields.kind != 3 {
-        return false;
-    }
-    fields.a == label
+    key_of(fields.kind, fields.a) == key_of(3, label)
 }
 
-// Whether an earlier name than record i has this label. The loop runs to its end, so that the compiler can compare several
-// records at once.
+// Whether an earlier name than record i has this label.
 fn is_labelled(v: &[u8], i: usize, label: u16) -> bool
     requires { ⌜ 8 * i ≤ length (now v) ⌝ }
     ensures { λ r. ⌜ r ≡ labelled (now (v .entry)) i label ⌝ }

@@ -1,6 +1,11 @@
--- `records::check::is_named` meets its contract. At each return the test that led there says what the conjunction is.
+-- `records::check::is_named` meets its contract. Equal keys have equal parts.
 -- Assumes nothing.
-use borrow.Author.Tests.{eq-eqb, ne-eqb}
+use mathlib.Core.Bool.{_&&_}
+use lib.Dec.{eqb}
+use Rattle.records.specs.declared.fields.Record.{Record}
+use Rattle.records.proofs.Ranges.{key-same}
+use mathlib.Core.Path.{_∙_, ap}
+use native.Mathlib.Omega.{arith}
 use borrow.Author.Needs.{needs}
 use Rattle.records.proofs.check.is_named.Statement.{statement}
 use Rattle.records.proofs.check.is_named.Tie as tie
@@ -8,11 +13,16 @@ use Rattle.records.proofs.check.is_named.Tie as tie
 read-at-requires : tie.Need-read-at-requires
 read-at-requires c κs = search needs
 
-returns : tie.Need-returns
-returns c = rw (← c .before .before .read-at .ensures) (simp (ne-eqb _ _ (c .if1 .taken)))
+key-of-requires : tie.Need-key-of-requires
+key-of-requires c κs = search needs
 
-returns-2 : tie.Need-returns-2
-returns-2 c = rw (← c .before .before .before .read-at .ensures) (simp (eq-eqb _ _ (c .before .if1 .left)))
+key-of-requires-2 : tie.Need-key-of-requires-2
+key-of-requires-2 c κs = search needs
+
+returns : tie.Need-returns
+returns c =
+    key-same (c .before .before .read-at .result .kind) _ _ _ _ (omega (arith, c .before .before .read-at .ok)) (c .before .key-of .ensures) (c .key-of2 .ensures)
+    ∙ ap (λ (r : Record). eqb (r .kind) 3 && eqb (r .a) (c .before .before .before .before .args .label)) (c .before .before .read-at .ensures)
 
 pub is-named-spec : {M : Type 1} → statement M
-is-named-spec = tie.close (tie.spec read-at-requires returns returns-2)
+is-named-spec = tie.close (tie.spec read-at-requires key-of-requires key-of-requires-2 returns)
