@@ -1,11 +1,11 @@
 -- `judge::judge_check_vocabulary` meets its contract. The answer's count or place is at most 512, so that it fits its bits.
 -- Assumes nothing.
-use Rattle.records.proofs.Bounds.{Small, vocabulary-small}
-use Rattle.records.specs.Answers.{counted}
-use denote.Ref.{now}
-use mathlib.Core.Path.{_∙_, ap, sym, subst}
 use native.Mathlib.Omega.{arith}
+use mathlib.Core.Path.{_∙_, ap, sym, subst}
+use denote.Ref.{now}
 use borrow.Author.Needs.{needs}
+use Rattle.records.specs.Answers.{counted}
+use Rattle.records.proofs.Bounds.{Small, vocabulary-small}
 use Rattle.judge.proofs.judge_check_vocabulary.Statement.{statement}
 use Rattle.judge.proofs.judge_check_vocabulary.Tie as tie
 
@@ -16,19 +16,24 @@ enum-known-answer : tie.Need-enum-known-answer
 enum-known-answer c = search needs
 
 pack-requires : tie.Need-pack-requires
-pack-requires c κs = omega (arith, subst (Small 512) (sym (c .before .before .before .check-vocabulary .ensures) ∙ ap counted (c .before .answer .given .1)) (vocabulary-small (now (c .before .before .before .before .before .args .vocabulary))))
+pack-requires c κs =
+    omega
+    (arith, subst (Small 512) (sym (c .before .before .before .check-vocabulary .ensures) ∙ ap counted (c .before .answer .given .1)) (vocabulary-small (now (c .before .before .before .before .before .args .vocabulary))))
 
 enum-known-answer-2 : tie.Need-enum-known-answer-2
 enum-known-answer-2 c = search needs
 
 pack-requires-2 : tie.Need-pack-requires-2
-pack-requires-2 c κs = omega (arith, subst (Small 512) (sym (c .before .before .before .check-vocabulary .ensures) ∙ ap counted (c .before .answer2 .given .1)) (vocabulary-small (now (c .before .before .before .before .before .args .vocabulary))))
+pack-requires-2 c κs =
+    omega
+    (arith, subst (Small 512) (sym (c .before .before .before .check-vocabulary .ensures) ∙ ap counted (c .before .answer2 .given .1)) (vocabulary-small (now (c .before .before .before .before .before .args .vocabulary))))
 
 returns : tie.Need-returns
 returns c = rw (← c .before .before .before .before .check-vocabulary .ensures, c .before .before .answer .given .1) (omega arith)
 
 returns-2 : tie.Need-returns-2
-returns-2 c = rw (← c .before .before .before .before .check-vocabulary .ensures, c .before .before .answer2 .given .1) (c .pack2 .ensures)
+returns-2 c =
+    rw (← c .before .before .before .before .check-vocabulary .ensures, c .before .before .answer2 .given .1) (c .pack2 .ensures)
 
 pub judge-check-vocabulary-spec : {M : Type 1} → statement M
 judge-check-vocabulary-spec =

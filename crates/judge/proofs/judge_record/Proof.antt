@@ -1,12 +1,12 @@
 -- `judge::judge_record` meets its contract. The answer's offset is below 4,096 and its place a 32-bit number, so that it fits its bits.
 -- Assumes nothing.
-use Rattle.records.proofs.Bounds.{Small, record-small}
-use Rattle.records.specs.Answers.{located}
 use Prim.Native.Nat.{max}
-use denote.Ref.{now}
-use mathlib.Core.Path.{_∙_, ap, sym, subst}
 use native.Mathlib.Omega.{arith}
+use mathlib.Core.Path.{_∙_, ap, sym, subst}
+use denote.Ref.{now}
 use borrow.Author.Needs.{needs}
+use Rattle.records.specs.Answers.{located}
+use Rattle.records.proofs.Bounds.{Small, record-small}
 use Rattle.judge.proofs.judge_record.Statement.{statement}
 use Rattle.judge.proofs.judge_record.Tie as tie
 
@@ -17,19 +17,26 @@ enum-known-answer : tie.Need-enum-known-answer
 enum-known-answer c = search needs
 
 pack-requires : tie.Need-pack-requires
-pack-requires c κs = omega (arith, subst (Small (max 4096 (c .before .before .before .before .before .args .number))) (sym (c .before .before .before .find-record .ensures) ∙ ap located (c .before .answer .given .1)) (record-small (now (c .before .before .before .before .before .args .vocabulary)) (c .before .before .before .before .before .args .number)))
+pack-requires c κs =
+    let a = c .before .before .before .before .before .args in
+    omega
+    (arith, subst (Small (max 4096 (a .number))) (sym (c .before .before .before .find-record .ensures) ∙ ap located (c .before .answer .given .1)) (record-small (now (a .vocabulary)) (a .number)))
 
 enum-known-answer-2 : tie.Need-enum-known-answer-2
 enum-known-answer-2 c = search needs
 
 pack-requires-2 : tie.Need-pack-requires-2
-pack-requires-2 c κs = omega (arith, subst (Small (max 4096 (c .before .before .before .before .before .args .number))) (sym (c .before .before .before .find-record .ensures) ∙ ap located (c .before .answer2 .given .1)) (record-small (now (c .before .before .before .before .before .args .vocabulary)) (c .before .before .before .before .before .args .number)))
+pack-requires-2 c κs =
+    let a = c .before .before .before .before .before .args in
+    omega
+    (arith, subst (Small (max 4096 (a .number))) (sym (c .before .before .before .find-record .ensures) ∙ ap located (c .before .answer2 .given .1)) (record-small (now (a .vocabulary)) (a .number)))
 
 returns : tie.Need-returns
 returns c = rw (← c .before .before .before .before .find-record .ensures, c .before .before .answer .given .1) (omega arith)
 
 returns-2 : tie.Need-returns-2
-returns-2 c = rw (← c .before .before .before .before .find-record .ensures, c .before .before .answer2 .given .1) (c .pack2 .ensures)
+returns-2 c =
+    rw (← c .before .before .before .before .find-record .ensures, c .before .before .answer2 .given .1) (c .pack2 .ensures)
 
 pub judge-record-spec : {M : Type 1} → statement M
 judge-record-spec =

@@ -1,11 +1,11 @@
 -- `records::check_vocabulary` meets its contract. A refusal stands; otherwise the next check decides. A length that passed has a header.
 -- Assumes nothing.
+use mathlib.Core.Path.{_∙_}
 use denote.Ref.{now}
-use Rattle.records.proofs.Passed.{length-passed}
-use Rattle.records.specs.Check.{vocabularyCheck}
-use mathlib.Core.Path.{refl, _∙_}
-use Rattle.records.proofs.Order.{stopped, goes, passed}
 use borrow.Author.Needs.{needs}
+use Rattle.records.specs.Check.{vocabularyCheck}
+use Rattle.records.proofs.Order.{stopped, goes, passed}
+use Rattle.records.proofs.Passed.{length-passed}
 use Rattle.records.proofs.check_vocabulary.Statement.{statement}
 use Rattle.records.proofs.check_vocabulary.Tie as tie
 
@@ -23,10 +23,14 @@ count-after-requires c κs = search needs
 
 returns : tie.Need-returns
 unfolding vocabularyCheck
-returns c = stopped _ _ _ _ _ _ _ (c .count-after .ensures) (c .before .before .before .check-length .ensures) (c .before .enum-told2 .given .1)
+returns c =
+    stopped _ _ _ _ _ _ _ (c .count-after .ensures) (c .before .before .before .check-length .ensures)
+    (c .before .enum-told2 .given .1)
 
 check-header-requires : tie.Need-check-header-requires
-check-header-requires c κs = length-passed (now (c .before .before .before .before .args .v)) (passed _ _ (c .before .before .check-length .ensures) (c .enum-told .given .1)) .least
+check-header-requires c κs =
+    length-passed (now (c .before .before .before .before .args .v))
+    (passed _ _ (c .before .before .check-length .ensures) (c .enum-told .given .1)) .least
 
 enum-told-3 : tie.Need-enum-told-3
 enum-told-3 c = search needs
@@ -40,11 +44,14 @@ count-after-requires-2 c κs = search needs
 returns-2 : tie.Need-returns-2
 unfolding vocabularyCheck
 returns-2 c =
-    goes _ _ _ _ (c .before .before .before .before .before .before .check-length .ensures) (c .before .before .before .before .enum-told .given .1)
+    goes _ _ _ _ (c .before .before .before .before .before .before .check-length .ensures)
+    (c .before .before .before .before .enum-told .given .1)
     (stopped _ _ _ _ _ _ _ (c .count-after2 .ensures) (c .before .before .before .check-header .ensures) (c .before .enum-told4 .given .1))
 
 check-records-requires : tie.Need-check-records-requires
-check-records-requires c κs = length-passed (now (c .before .before .before .before .before .before .before .args .v)) (passed _ _ (c .before .before .before .before .before .check-length .ensures) (c .before .before .before .enum-told .given .1)) .least
+check-records-requires c κs =
+    length-passed (now (c .before .before .before .before .before .before .before .args .v))
+    (passed _ _ (c .before .before .before .before .before .check-length .ensures) (c .before .before .before .enum-told .given .1)) .least
 
 enum-told-5 : tie.Need-enum-told-5
 enum-told-5 c = search needs
@@ -58,12 +65,15 @@ count-after-requires-3 c κs = search needs
 returns-3 : tie.Need-returns-3
 unfolding vocabularyCheck
 returns-3 c =
-    goes _ _ _ _ (c .before .before .before .before .before .before .before .before .before .check-length .ensures) (c .before .before .before .before .before .before .before .enum-told .given .1)
+    goes _ _ _ _ (c .before .before .before .before .before .before .before .before .before .check-length .ensures)
+    (c .before .before .before .before .before .before .before .enum-told .given .1)
     (goes _ _ _ _ (c .before .before .before .before .before .before .check-header .ensures) (c .before .before .before .before .enum-told3 .given .1)
     (stopped _ _ _ _ _ _ _ (c .count-after3 .ensures) (c .before .before .before .check-records .ensures) (c .before .enum-told6 .given .1)))
 
 check-links-requires : tie.Need-check-links-requires
-check-links-requires c κs = length-passed (now (c .before .before .before .before .before .before .before .before .before .before .args .v)) (passed _ _ (c .before .before .before .before .before .before .before .before .check-length .ensures) (c .before .before .before .before .before .before .enum-told .given .1)) .least
+check-links-requires c κs =
+    length-passed (now (c .before .before .before .before .before .before .before .before .before .before .args .v))
+    (passed _ _ (c .before .before .before .before .before .before .before .before .check-length .ensures) (c .before .before .before .before .before .before .enum-told .given .1)) .least
 
 count-after-requires-4 : tie.Need-count-after-requires-4
 count-after-requires-4 c κs = search needs
@@ -71,7 +81,8 @@ count-after-requires-4 c κs = search needs
 returns-4 : tie.Need-returns-4
 unfolding vocabularyCheck
 returns-4 c =
-    goes _ _ _ _ (c .before .before .before .before .before .before .before .before .before .before .check-length .ensures) (c .before .before .before .before .before .before .before .before .enum-told .given .1)
+    goes _ _ _ _ (c .before .before .before .before .before .before .before .before .before .before .check-length .ensures)
+    (c .before .before .before .before .before .before .before .before .enum-told .given .1)
     (goes _ _ _ _ (c .before .before .before .before .before .before .before .check-header .ensures) (c .before .before .before .before .before .enum-told3 .given .1)
     (goes _ _ _ _ (c .before .before .before .before .check-records .ensures) (c .before .before .enum-told5 .given .1)
     (c .count-after4 .ensures ∙ rw (c .before .check-links .ensures))))

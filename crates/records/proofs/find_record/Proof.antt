@@ -1,9 +1,9 @@
 -- `records::find_record` meets its contract. A refusal stands; otherwise the next check decides.
 -- Assumes nothing.
-use Rattle.records.specs.Call.{recordCall}
 use mathlib.Core.Path.{refl}
-use Rattle.records.proofs.Order.{stopped, goes}
 use borrow.Author.Needs.{needs}
+use Rattle.records.specs.Call.{recordCall}
+use Rattle.records.proofs.Order.{stopped, goes}
 use Rattle.records.proofs.find_record.Statement.{statement}
 use Rattle.records.proofs.find_record.Tie as tie
 
@@ -21,7 +21,9 @@ locate-after-requires c κs = search needs
 
 returns : tie.Need-returns
 unfolding recordCall
-returns c = stopped _ _ _ _ _ _ _ (c .locate-after .ensures) (c .before .before .before .check-length .ensures) (c .before .enum-told2 .given .1)
+returns c =
+    stopped _ _ _ _ _ _ _ (c .locate-after .ensures) (c .before .before .before .check-length .ensures)
+    (c .before .enum-told2 .given .1)
 
 pass-if-requires : tie.Need-pass-if-requires
 pass-if-requires c κs = search needs
@@ -38,7 +40,8 @@ locate-after-requires-2 c κs = search needs
 returns-2 : tie.Need-returns-2
 unfolding recordCall
 returns-2 c =
-    goes _ _ _ _ (c .before .before .before .before .before .before .check-length .ensures) (c .before .before .before .before .enum-told .given .1)
+    goes _ _ _ _ (c .before .before .before .before .before .before .check-length .ensures)
+    (c .before .before .before .before .enum-told .given .1)
     (stopped _ _ _ _ _ _ _ (c .locate-after2 .ensures) (c .before .before .before .pass-if .ensures) (c .before .enum-told4 .given .1))
 
 mul-t6 : tie.Need-mul-t6
@@ -47,7 +50,8 @@ mul-t6 c = search needs
 returns-3 : tie.Need-returns-3
 unfolding recordCall
 returns-3 c =
-    goes _ _ _ _ (c .before .before .before .before .before .check-length .ensures) (c .before .before .before .enum-told .given .1)
+    goes _ _ _ _ (c .before .before .before .before .before .check-length .ensures)
+    (c .before .before .before .enum-told .given .1)
     (goes _ _ _ _ (c .before .before .pass-if .ensures) (c .enum-told3 .given .1) refl)
 
 pub find-record-spec : {M : Type 1} → statement M

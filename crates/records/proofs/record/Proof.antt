@@ -1,12 +1,11 @@
 -- `records::record` meets its contract. Where the call accepts, its offset leaves room for a record.
 -- Assumes nothing.
 use native.Mathlib.Nat.{add-sub-cancel-left}
-use Rattle.records.proofs.Bounds.{record-within}
-use Rattle.records.specs.declared.answers.Located.{Located}
-use Rattle.records.specs.Answers.{located}
 use native.Mathlib.Omega.{arith}
 use mathlib.Core.Path.{_∙_, sym, ap}
 use borrow.Author.Needs.{needs}
+use Rattle.records.specs.Answers.{located}
+use Rattle.records.proofs.Bounds.{record-within}
 use Rattle.records.proofs.record.Statement.{statement}
 use Rattle.records.proofs.record.Tie as tie
 
@@ -26,7 +25,9 @@ returns : tie.Need-returns
 returns c = rw (← c .before .before .before .find-record .ensures, c .before .enum-told .given .1)
 
 add-end : tie.Need-add-end
-add-end c = omega (arith, record-within _ _ _ (sym (c .before .before .before .find-record .ensures) ∙ ap located (c .before .found .given .1)))
+add-end c =
+    omega
+    (arith, record-within _ _ _ (sym (c .before .before .before .find-record .ensures) ∙ ap located (c .before .found .given .1)))
 
 sub-result : tie.Need-sub-result
 sub-result c = search needs
@@ -35,10 +36,13 @@ part-result-start : tie.Need-part-result-start
 part-result-start c = search needs
 
 part-result-end : tie.Need-part-result-end
-part-result-end c = omega (arith, record-within _ _ _ (sym (c .before .before .before .find-record .ensures) ∙ ap located (c .before .found .given .1)))
+part-result-end c =
+    omega
+    (arith, record-within _ _ _ (sym (c .before .before .before .find-record .ensures) ∙ ap located (c .before .found .given .1)))
 
 returns-2 : tie.Need-returns-2
-returns-2 c = rw (← c .before .before .before .before .find-record .ensures, c .before .before .found .given .1, add-sub-cancel-left)
+returns-2 c =
+    rw (← c .before .before .before .before .find-record .ensures, c .before .before .found .given .1, add-sub-cancel-left)
 
 pub record-spec : {M : Type 1} → statement M
 record-spec =

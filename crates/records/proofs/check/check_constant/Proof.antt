@@ -1,10 +1,10 @@
 -- `records::check::check_constant` meets its contract. Rows 5 to 7 have nothing to say of such a record.
 -- Assumes nothing.
-use Rattle.records.proofs.Rows.{constant-rows}
-use Rattle.records.proofs.Order.{asked}
+use mathlib.Core.Path.{_∙_, sym}
 use denote.Ref.{now}
-use mathlib.Core.Path.{_∙_, sym, ap}
 use borrow.Author.Needs.{needs}
+use Rattle.records.proofs.Order.{asked}
+use Rattle.records.proofs.Rows.{constant-rows}
 use Rattle.records.proofs.check.check_constant.Statement.{statement}
 use Rattle.records.proofs.check.check_constant.Tie as tie
 
@@ -15,7 +15,9 @@ pass-if-requires : tie.Need-pass-if-requires
 pass-if-requires c κs = search needs
 
 returns : tie.Need-returns
-returns c = asked _ _ _ _ _ (c .pass-if .ensures) (c .before .spare-fits .ensures) ∙ sym (constant-rows (now (c .before .before .before .args .v)) (c .before .before .before .args .i) (c .before .before .before .args .fields))
+returns c =
+    let a = c .before .before .before .args in
+    asked _ _ _ _ _ (c .pass-if .ensures) (c .before .spare-fits .ensures) ∙ sym (constant-rows (now (a .v)) (a .i) (a .fields))
 
 pub check-constant-spec : {M : Type 1} → statement M
 check-constant-spec = tie.close (tie.spec spare-fits-requires pass-if-requires returns)

@@ -1,11 +1,11 @@
 -- `records::check::check_fields` meets its contract. A refusal of row 3 stands; otherwise rows 4 to 7 decide.
 -- Assumes nothing.
-use Rattle.records.specs.declared.fields.Record.{Record}
-use denote.Ref.{now}
-use Rattle.records.specs.Check.{fieldsCheck}
 use mathlib.Core.Path.{_∙_, ap}
-use Rattle.records.proofs.Order.{stops, goes}
+use denote.Ref.{now}
 use borrow.Author.Needs.{needs}
+use Rattle.records.specs.Check.{fieldsCheck}
+use Rattle.records.specs.declared.fields.Record.{Record}
+use Rattle.records.proofs.Order.{stops, goes}
 use Rattle.records.proofs.check.check_fields.Statement.{statement}
 use Rattle.records.proofs.check.check_fields.Tie as tie
 
@@ -23,16 +23,18 @@ enum-told-2 c = search needs
 
 returns : tie.Need-returns
 returns c =
+    let a = c .before .before .before .before .before .before .args in
     stops _ _ _ _ _ (c .before .before .check-kind .ensures) (c .enum-told2 .given .1)
-    ∙ ap (λ (r : Record). fieldsCheck (now (c .before .before .before .before .before .before .args .v)) (c .before .before .before .before .before .before .args .i) r) (c .before .before .before .read .ensures)
+    ∙ ap (λ (r : Record). fieldsCheck (now (a .v)) (a .i) r) (c .before .before .before .read .ensures)
 
 check-rows-requires : tie.Need-check-rows-requires
 check-rows-requires c κs = search needs
 
 returns-2 : tie.Need-returns-2
 returns-2 c =
+    let a = c .before .before .before .before .before .before .before .args in
     goes _ _ _ _ (c .before .before .before .check-kind .ensures) (c .before .enum-told .given .1) (c .check-rows .ensures)
-    ∙ ap (λ (r : Record). fieldsCheck (now (c .before .before .before .before .before .before .before .args .v)) (c .before .before .before .before .before .before .before .args .i) r) (c .before .before .before .before .read .ensures)
+    ∙ ap (λ (r : Record). fieldsCheck (now (a .v)) (a .i) r) (c .before .before .before .before .read .ensures)
 
 pub check-fields-spec : {M : Type 1} → statement M
 check-fields-spec =

@@ -1,10 +1,10 @@
 -- `records::check::check_inclusion` meets its contract. Rows 4, 6 and 7 have nothing to say of such a record.
 -- Assumes nothing.
-use Rattle.records.proofs.Rows.{inclusion-rows}
-use Rattle.records.proofs.Order.{asked}
+use mathlib.Core.Path.{_∙_, sym}
 use denote.Ref.{now}
-use mathlib.Core.Path.{_∙_, sym, ap}
 use borrow.Author.Needs.{needs}
+use Rattle.records.proofs.Order.{asked}
+use Rattle.records.proofs.Rows.{inclusion-rows}
 use Rattle.records.proofs.check.check_inclusion.Statement.{statement}
 use Rattle.records.proofs.check.check_inclusion.Tie as tie
 
@@ -15,7 +15,9 @@ pass-if-requires : tie.Need-pass-if-requires
 pass-if-requires c κs = search needs
 
 returns : tie.Need-returns
-returns c = asked _ _ _ _ _ (c .pass-if .ensures) (c .before .terms-fit .ensures) ∙ sym (inclusion-rows (now (c .before .before .before .args .v)) (c .before .before .before .args .i) (c .before .before .before .args .fields))
+returns c =
+    let a = c .before .before .before .args in
+    asked _ _ _ _ _ (c .pass-if .ensures) (c .before .terms-fit .ensures) ∙ sym (inclusion-rows (now (a .v)) (a .i) (a .fields))
 
 pub check-inclusion-spec : {M : Type 1} → statement M
 check-inclusion-spec = tie.close (tie.spec terms-fit-requires pass-if-requires returns)

@@ -1,10 +1,10 @@
 -- `records::check::check_junction` meets its contract. Rows 6 and 7 have nothing to say of such a record.
 -- Assumes nothing.
-use Rattle.records.proofs.Rows.{junction-rows}
-use Rattle.records.proofs.Order.{asked, goes, stops}
+use mathlib.Core.Path.{_∙_, sym}
 use denote.Ref.{now}
-use mathlib.Core.Path.{_∙_, sym, ap}
 use borrow.Author.Needs.{needs}
+use Rattle.records.proofs.Order.{asked, goes, stops}
+use Rattle.records.proofs.Rows.{junction-rows}
 use Rattle.records.proofs.check.check_junction.Statement.{statement}
 use Rattle.records.proofs.check.check_junction.Tie as tie
 
@@ -22,8 +22,10 @@ enum-told-2 c = search needs
 
 returns : tie.Need-returns
 returns c =
-    stops _ _ _ _ _ (asked _ _ _ _ _ (c .before .before .pass-if .ensures) (c .before .before .before .spare-fits .ensures)) (c .enum-told2 .given .1)
-    ∙ sym (junction-rows (now (c .before .before .before .before .before .args .v)) (c .before .before .before .before .before .args .i) (c .before .before .before .before .before .args .fields))
+    let a = c .before .before .before .before .before .args in
+    stops _ _ _ _ _ (asked _ _ _ _ _ (c .before .before .pass-if .ensures) (c .before .before .before .spare-fits .ensures))
+    (c .enum-told2 .given .1)
+    ∙ sym (junction-rows (now (a .v)) (a .i) (a .fields))
 
 terms-fit-requires : tie.Need-terms-fit-requires
 terms-fit-requires c κs = search needs
@@ -33,9 +35,12 @@ pass-if-requires-2 c κs = search needs
 
 returns-2 : tie.Need-returns-2
 returns-2 c =
-    goes _ _ _ _ (asked _ _ _ _ _ (c .before .before .before .before .pass-if .ensures) (c .before .before .before .before .before .spare-fits .ensures)) (c .before .before .enum-told .given .1)
+    let a = c .before .before .before .before .before .before .before .args in
+    goes _ _ _ _
+    (asked _ _ _ _ _ (c .before .before .before .before .pass-if .ensures) (c .before .before .before .before .before .spare-fits .ensures))
+    (c .before .before .enum-told .given .1)
     (asked _ _ _ _ _ (c .pass-if2 .ensures) (c .before .terms-fit .ensures))
-    ∙ sym (junction-rows (now (c .before .before .before .before .before .before .before .args .v)) (c .before .before .before .before .before .before .before .args .i) (c .before .before .before .before .before .before .before .args .fields))
+    ∙ sym (junction-rows (now (a .v)) (a .i) (a .fields))
 
 pub check-junction-spec : {M : Type 1} → statement M
 check-junction-spec =

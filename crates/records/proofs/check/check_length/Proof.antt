@@ -1,6 +1,6 @@
 -- `records::check::check_length` meets its contract. The row's test is what `length_fits` answers.
 -- Assumes nothing.
-use mathlib.Core.Path.{_∙_, ap}
+use mathlib.Core.Path.{_∙_}
 use borrow.Author.Needs.{needs}
 use Rattle.records.proofs.check.check_length.Statement.{statement}
 use Rattle.records.proofs.check.check_length.Tie as tie

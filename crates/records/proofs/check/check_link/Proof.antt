@@ -1,8 +1,8 @@
 -- `records::check::check_link` meets its contract. A record that is no statement has no next to check.
 -- Assumes nothing.
-use Rattle.records.specs.Check.{linkCheck}
 use mathlib.Core.Path.{_∙_}
 use borrow.Author.Needs.{needs}
+use Rattle.records.specs.Check.{linkCheck}
 use Rattle.records.proofs.check.check_link.Statement.{statement}
 use Rattle.records.proofs.check.check_link.Tie as tie
 
@@ -20,7 +20,9 @@ pass-if-requires c κs = search needs
 
 returns : tie.Need-returns
 unfolding linkCheck
-returns c = c .pass-if .ensures ∙ rw (c .before .link-fits .ensures, ← c .before .before .before .before .read-at .ensures, ← c .before .before .before .is-statement .ensures, c .before .before .if1 .taken)
+returns c =
+    c .pass-if .ensures ∙ rw
+    (c .before .link-fits .ensures, ← c .before .before .before .before .read-at .ensures, ← c .before .before .before .is-statement .ensures, c .before .before .if1 .taken)
 
 returns-2 : tie.Need-returns-2
 unfolding linkCheck

@@ -1,13 +1,13 @@
 -- `records::check::check_links` meets its contract. The header passed; the loop's invariant: the statements from `i` on decide.
 -- Assumes nothing.
-use Rattle.records.proofs.Rows.{head-at}
-use Prim.Native.Nat.{_-_, _≤_}
+use Prim.Native.Nat.{_-_}
+use native.Mathlib.Omega.{arith}
+use mathlib.Core.Path.{_≡_, _∙_, refl, sym}
+use borrow.Author.Needs.{needs}
 use Rattle.records.specs.Check.{linkCheck}
 use Rattle.records.specs.Outcome.{inTurn}
 use Rattle.records.proofs.Order.{turn-refused, turn-passed, turns-end, stops, goes}
-use mathlib.Core.Path.{_≡_, _∙_, refl, sym, ap}
-use native.Mathlib.Omega.{arith}
-use borrow.Author.Needs.{needs}
+use Rattle.records.proofs.Rows.{head-at}
 use Rattle.records.proofs.check.check_links.Statement.{statement}
 use Rattle.records.proofs.check.check_links.Tie as tie
 
@@ -33,7 +33,10 @@ enum-told-2 : tie.Need-enum-told-2 Inv-loop μ-loop
 enum-told-2 c = search needs
 
 returns : tie.Need-returns Inv-loop μ-loop
-returns c = stops _ _ _ _ _ (head-at _ _ _ _ (c .before .before .before .before .read-at .ensures) (c .before .before .before .link-fits .ensures) (c .before .before .pass-if .ensures)) (c .enum-told2 .given .1)
+returns c =
+    stops _ _ _ _ _
+    (head-at _ _ _ _ (c .before .before .before .before .read-at .ensures) (c .before .before .before .link-fits .ensures) (c .before .before .pass-if .ensures))
+    (c .enum-told2 .given .1)
 
 loop-holds : tie.Need-loop-holds Inv-loop μ-loop
 loop-holds c = refl
@@ -49,7 +52,9 @@ enum-told-4 c = search needs
 
 returns-2 : tie.Need-returns-2 Inv-loop μ-loop
 returns-2 c =
-    goes _ _ _ _ (head-at _ _ _ _ (c .before .before .before .before .before .before .before .before .before .read-at .ensures) (c .before .before .before .before .before .before .before .before .link-fits .ensures) (c .before .before .before .before .before .before .before .pass-if .ensures)) (c .before .before .before .before .before .enum-told .given .1)
+    goes _ _ _ _
+    (head-at _ _ _ _ (c .before .before .before .before .before .before .before .before .before .read-at .ensures) (c .before .before .before .before .before .before .before .before .link-fits .ensures) (c .before .before .before .before .before .before .before .pass-if .ensures))
+    (c .before .before .before .before .before .enum-told .given .1)
     (turn-refused _ _ _ _ _ _ (c .before .before .before .loop-test .taken) (c .before .before .check-link .ensures) (c .enum-told4 .given .1) ∙ sym (c .before .before .before .before .loop .inv))
 
 add-i : tie.Need-add-i Inv-loop μ-loop
@@ -59,11 +64,15 @@ loop-less : tie.Need-loop-less Inv-loop μ-loop
 loop-less c = omega arith
 
 loop-again : tie.Need-loop-again Inv-loop μ-loop
-loop-again c = c .before .before .before .before .loop .inv ∙ turn-passed _ _ _ _ (c .before .before .before .loop-test .taken) (c .before .before .check-link .ensures) (c .enum-told3 .given .1)
+loop-again c =
+    c .before .before .before .before .loop .inv ∙ turn-passed _ _ _ _ (c .before .before .before .loop-test .taken)
+    (c .before .before .check-link .ensures) (c .enum-told3 .given .1)
 
 returns-3 : tie.Need-returns-3 Inv-loop μ-loop
 returns-3 c =
-    goes _ _ _ _ (head-at _ _ _ _ (c .before .before .before .before .before .before .read-at .ensures) (c .before .before .before .before .before .link-fits .ensures) (c .before .before .before .before .pass-if .ensures)) (c .before .before .enum-told .given .1)
+    goes _ _ _ _
+    (head-at _ _ _ _ (c .before .before .before .before .before .before .read-at .ensures) (c .before .before .before .before .before .link-fits .ensures) (c .before .before .before .before .pass-if .ensures))
+    (c .before .before .enum-told .given .1)
     (sym (c .before .loop .inv ∙ turns-end _ _ _ (c .loop-test .left)))
 
 pub check-links-spec : {M : Type 1} → statement M

@@ -1,11 +1,11 @@
 -- `records::check::check_name` meets its contract. Rows 5 and 6 have nothing to say of such a record.
 -- Assumes nothing.
 use mathlib.Core.Bool.{not}
-use Rattle.records.proofs.Rows.{name-rows}
-use Rattle.records.proofs.Order.{asked, goes, stops}
-use denote.Ref.{now}
 use mathlib.Core.Path.{_∙_, sym, ap}
+use denote.Ref.{now}
 use borrow.Author.Needs.{needs}
+use Rattle.records.proofs.Order.{asked, goes, stops}
+use Rattle.records.proofs.Rows.{name-rows}
 use Rattle.records.proofs.check.check_name.Statement.{statement}
 use Rattle.records.proofs.check.check_name.Tie as tie
 
@@ -23,8 +23,10 @@ enum-told-2 c = search needs
 
 returns : tie.Need-returns
 returns c =
-    stops _ _ _ _ _ (asked _ _ _ _ _ (c .before .before .pass-if .ensures) (c .before .before .before .spare-fits .ensures)) (c .enum-told2 .given .1)
-    ∙ sym (name-rows (now (c .before .before .before .before .before .args .v)) (c .before .before .before .before .before .args .i) (c .before .before .before .before .before .args .fields))
+    let a = c .before .before .before .before .before .args in
+    stops _ _ _ _ _ (asked _ _ _ _ _ (c .before .before .pass-if .ensures) (c .before .before .before .spare-fits .ensures))
+    (c .enum-told2 .given .1)
+    ∙ sym (name-rows (now (a .v)) (a .i) (a .fields))
 
 is-labelled-requires : tie.Need-is-labelled-requires
 is-labelled-requires c κs = search needs
@@ -34,9 +36,12 @@ pass-if-requires-2 c κs = search needs
 
 returns-2 : tie.Need-returns-2
 returns-2 c =
-    goes _ _ _ _ (asked _ _ _ _ _ (c .before .before .before .before .pass-if .ensures) (c .before .before .before .before .before .spare-fits .ensures)) (c .before .before .enum-told .given .1)
+    let a = c .before .before .before .before .before .before .before .args in
+    goes _ _ _ _
+    (asked _ _ _ _ _ (c .before .before .before .before .pass-if .ensures) (c .before .before .before .before .before .spare-fits .ensures))
+    (c .before .before .enum-told .given .1)
     (asked _ _ _ _ _ (c .pass-if2 .ensures) (ap not (c .before .is-labelled .ensures)))
-    ∙ sym (name-rows (now (c .before .before .before .before .before .before .before .args .v)) (c .before .before .before .before .before .before .before .args .i) (c .before .before .before .before .before .before .before .args .fields))
+    ∙ sym (name-rows (now (a .v)) (a .i) (a .fields))
 
 pub check-name-spec : {M : Type 1} → statement M
 check-name-spec =

@@ -1,12 +1,9 @@
 -- `records::check::check_record` meets its contract. The part of the vocabulary is the record's eight bytes.
 -- Assumes nothing.
-use Rattle.records.specs.Format.{recordAt}
-use Rattle.records.specs.Check.{recordCheck}
-use native.Mathlib.Omega.{arith}
 use native.Mathlib.Nat.{add-sub-cancel-left}
-use lib.ListN.{length-take, length-drop}
-use mathlib.Core.Path.{_∙_, ap}
 use borrow.Author.Needs.{needs}
+use Rattle.records.specs.Check.{recordCheck}
+use Rattle.records.specs.Format.{recordAt}
 use Rattle.records.proofs.check.check_record.Statement.{statement}
 use Rattle.records.proofs.check.check_record.Tie as tie
 

@@ -1,11 +1,11 @@
 -- `records::check::check_rows` meets its contract. The arm that was taken tells the kind, and so the sorts of its fields.
 -- Assumes nothing.
+use native.Mathlib.Omega.{arith}
 use mathlib.Core.Logic.{⊎-elim}
+use denote.Ref.{now}
+use borrow.Author.Needs.{needs}
 use Rattle.records.proofs.Ranges.{sorts-name, sorts-negation, sorts-inclusion, sorts-junction, sorts-restriction, sorts-low, sorts-high}
 use Rattle.records.proofs.Rows.{rows-at}
-use denote.Ref.{now}
-use native.Mathlib.Omega.{arith}
-use borrow.Author.Needs.{needs}
 use Rattle.records.proofs.check.check_rows.Statement.{statement}
 use Rattle.records.proofs.check.check_rows.Tie as tie
 
@@ -28,24 +28,39 @@ check-constant-requires : tie.Need-check-constant-requires
 check-constant-requires c κs = search needs
 
 returns : tie.Need-returns
-returns c = rows-at (now (c .before .before .before .args .v)) (c .before .before .before .args .i) (c .before .before .before .args .fields) _ _ (c .check-name .ensures) (sorts-name (c .before .before .before .args .fields .kind) (c .before .match .keys1))
+returns c =
+    let a = c .before .before .before .args in
+    rows-at (now (a .v)) (a .i) (a .fields) _ _ (c .check-name .ensures) (sorts-name (a .fields .kind) (c .before .match .keys1))
 
 returns-2 : tie.Need-returns-2
-returns-2 c = rows-at (now (c .before .before .before .args .v)) (c .before .before .before .args .i) (c .before .before .before .args .fields) _ _ (c .check-negation .ensures) (sorts-negation (c .before .before .before .args .fields .kind) (c .before .match .keys2))
+returns-2 c =
+    let a = c .before .before .before .args in
+    rows-at (now (a .v)) (a .i) (a .fields) _ _ (c .check-negation .ensures)
+    (sorts-negation (a .fields .kind) (c .before .match .keys2))
 
 returns-3 : tie.Need-returns-3
-returns-3 c = rows-at (now (c .before .before .before .args .v)) (c .before .before .before .args .i) (c .before .before .before .args .fields) _ _ (c .check-inclusion .ensures) (sorts-inclusion (c .before .before .before .args .fields .kind) (c .before .match .keys3))
+returns-3 c =
+    let a = c .before .before .before .args in
+    rows-at (now (a .v)) (a .i) (a .fields) _ _ (c .check-inclusion .ensures)
+    (sorts-inclusion (a .fields .kind) (c .before .match .keys3))
 
 returns-4 : tie.Need-returns-4
-returns-4 c = rows-at (now (c .before .before .before .before .before .args .v)) (c .before .before .before .before .before .args .i) (c .before .before .before .before .before .args .fields) _ _ (c .check-junction .ensures) (sorts-junction (c .before .before .before .before .before .args .fields .kind) (omega arith) (c .before .if2 .taken))
+returns-4 c =
+    let a = c .before .before .before .before .before .args in
+    rows-at (now (a .v)) (a .i) (a .fields) _ _ (c .check-junction .ensures)
+    (sorts-junction (a .fields .kind) (omega arith) (c .before .if2 .taken))
 
 returns-5 : tie.Need-returns-5
-returns-5 c = rows-at (now (c .before .before .before .before .before .before .args .v)) (c .before .before .before .before .before .before .args .i) (c .before .before .before .before .before .before .args .fields) _ _ (c .check-restriction .ensures) (sorts-restriction (c .before .before .before .before .before .before .args .fields .kind) (omega arith) (c .before .if3 .taken))
+returns-5 c =
+    let a = c .before .before .before .before .before .before .args in
+    rows-at (now (a .v)) (a .i) (a .fields) _ _ (c .check-restriction .ensures)
+    (sorts-restriction (a .fields .kind) (omega arith) (c .before .if3 .taken))
 
 returns-6 : tie.Need-returns-6
 returns-6 c =
-    rows-at (now (c .before .before .before .before .args .v)) (c .before .before .before .before .args .i) (c .before .before .before .before .args .fields) _ _ (c .check-constant .ensures)
-    (⊎-elim (λ w. sorts-low (c .before .before .before .before .args .fields .kind) (omega arith)) (λ w. sorts-high (c .before .before .before .before .args .fields .kind) (omega arith)) (c .before .if1 .came))
+    let a = c .before .before .before .before .args in
+    rows-at (now (a .v)) (a .i) (a .fields) _ _ (c .check-constant .ensures)
+    (⊎-elim (λ w. sorts-low (a .fields .kind) (omega arith)) (λ w. sorts-high (a .fields .kind) (omega arith)) (c .before .if1 .came))
 
 pub check-rows-spec : {M : Type 1} → statement M
 check-rows-spec =

@@ -1,13 +1,12 @@
 -- `records::check::is_labelled` meets its contract. The loop's invariant: `found` is whether a record below `j` is a name with this label.
 -- Assumes nothing.
-use denote.Ref.{now}
-use mathlib.Core.Bool.{true, false}
-use mathlib.Core.Logic.{⊎-elim}
-use Rattle.records.specs.Check.{anyBelow, named, labelled}
 use Prim.Native.Nat.{_-_, _≤_}
-use mathlib.Core.Path.{_≡_, refl, _∙_, sym, ap}
-use Rattle.records.proofs.Order.{any-hit, any-miss}
 use native.Mathlib.Omega.{arith}
+use mathlib.Core.Logic.{⊎-elim}
+use mathlib.Core.Path.{_≡_, refl, _∙_, sym, ap}
+use denote.Ref.{now}
+use Rattle.records.specs.Check.{anyBelow, named}
+use Rattle.records.proofs.Order.{any-hit, any-miss}
 use Rattle.records.proofs.check.is_labelled.Statement.{statement}
 use Rattle.records.proofs.check.is_labelled.Tie as tie
 
@@ -31,16 +30,19 @@ loop-less : tie.Need-loop-less Inv-loop μ-loop
 loop-less c = omega arith
 
 loop-again : tie.Need-loop-again Inv-loop μ-loop
-loop-again c = (
-  omega arith,
-  ⊎-elim
-      (λ w. w .1 ∙ any-hit (named (now (c .before .before .before .before .before .args .v)) (c .before .before .before .before .before .args .label)) (c .before .before .before .loop .j) (sym (c .before .is-named .ensures) ∙ w .0 .taken))
-      (λ w. w .1 ∙ any-miss (named (now (c .before .before .before .before .before .args .v)) (c .before .before .before .before .before .args .label)) (c .before .before .before .loop .j) _ (c .before .before .before .loop .inv .1) (sym (c .before .is-named .ensures) ∙ w .0 .left))
-      (c .if1 .came),
-)
+loop-again c =
+    let a = c .before .before .before .before .before .args in (
+      omega arith,
+      ⊎-elim
+          (λ w. w .1 ∙ any-hit (named (now (a .v)) (a .label)) (c .before .before .before .loop .j) (sym (c .before .is-named .ensures) ∙ w .0 .taken))
+          (λ w. w .1 ∙ any-miss (named (now (a .v)) (a .label)) (c .before .before .before .loop .j) _ (c .before .before .before .loop .inv .1) (sym (c .before .is-named .ensures) ∙ w .0 .left))
+          (c .if1 .came),
+    )
 
 returns : tie.Need-returns Inv-loop μ-loop
-returns c = let e : c .before .loop .j ≡ c .before .before .before .args .i = omega arith in c .before .loop .inv .1 ∙ ap (anyBelow (named (now (c .before .before .before .args .v)) (c .before .before .before .args .label))) e
+returns c =
+    let a = c .before .before .before .args in
+    let e : c .before .loop .j ≡ a .i = omega arith in c .before .loop .inv .1 ∙ ap (anyBelow (named (now (a .v)) (a .label))) e
 
 pub is-labelled-spec : {M : Type 1} → statement M
 is-labelled-spec =

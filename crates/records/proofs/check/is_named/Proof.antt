@@ -1,12 +1,12 @@
 -- `records::check::is_named` meets its contract. Equal keys have equal parts.
 -- Assumes nothing.
+use native.Mathlib.Omega.{arith}
 use mathlib.Core.Bool.{_&&_}
+use mathlib.Core.Path.{_∙_, ap}
 use lib.Dec.{eqb}
+use borrow.Author.Needs.{needs}
 use Rattle.records.specs.declared.fields.Record.{Record}
 use Rattle.records.proofs.Ranges.{key-same}
-use mathlib.Core.Path.{_∙_, ap}
-use native.Mathlib.Omega.{arith}
-use borrow.Author.Needs.{needs}
 use Rattle.records.proofs.check.is_named.Statement.{statement}
 use Rattle.records.proofs.check.is_named.Tie as tie
 
@@ -21,8 +21,10 @@ key-of-requires-2 c κs = search needs
 
 returns : tie.Need-returns
 returns c =
-    key-same (c .before .before .read-at .result .kind) _ _ _ _ (omega (arith, c .before .before .read-at .ok)) (c .before .key-of .ensures) (c .key-of2 .ensures)
-    ∙ ap (λ (r : Record). eqb (r .kind) 3 && eqb (r .a) (c .before .before .before .before .args .label)) (c .before .before .read-at .ensures)
+    key-same (c .before .before .read-at .result .kind) _ _ _ _ (omega (arith, c .before .before .read-at .ok))
+    (c .before .key-of .ensures) (c .key-of2 .ensures)
+    ∙ ap (λ (r : Record). eqb (r .kind) 3 && eqb (r .a) (c .before .before .before .before .args .label))
+    (c .before .before .read-at .ensures)
 
 pub is-named-spec : {M : Type 1} → statement M
 is-named-spec = tie.close (tie.spec read-at-requires key-of-requires key-of-requires-2 returns)

@@ -1,8 +1,6 @@
 -- `records::check::kind_fits` meets its contract. At each return the tests that led there say what the conjunction is.
 -- Assumes nothing.
 use borrow.Author.Tests.{le-leb, lt-leb}
-use borrow.Author.Tests.{le-ltb, lt-ltb}
-use native.Mathlib.Omega.{arith}
 use Rattle.records.proofs.check.kind_fits.Statement.{statement}
 use Rattle.records.proofs.check.kind_fits.Tie as tie
 

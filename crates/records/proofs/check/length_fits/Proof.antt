@@ -1,7 +1,7 @@
 -- `records::check::length_fits` meets its contract. At each return the tests that led there say what the conjunction is.
 -- Assumes nothing.
-use borrow.Author.Tests.{lt-leb, le-leb}
 use borrow.Author.Needs.{needs}
+use borrow.Author.Tests.{lt-leb, le-leb}
 use Rattle.records.proofs.check.length_fits.Statement.{statement}
 use Rattle.records.proofs.check.length_fits.Tie as tie
 

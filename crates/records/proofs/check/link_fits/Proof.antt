@@ -1,8 +1,8 @@
 -- `records::check::link_fits` meets its contract. At each return the tests that led there say what the disjunction is.
 -- Assumes nothing.
 use mathlib.Core.Path.{_∙_}
-use borrow.Author.Tests.{le-ltb, lt-ltb, eq-eqb, ne-eqb}
 use borrow.Author.Needs.{needs}
+use borrow.Author.Tests.{le-ltb, lt-ltb, eq-eqb, ne-eqb}
 use Rattle.records.proofs.check.link_fits.Statement.{statement}
 use Rattle.records.proofs.check.link_fits.Tie as tie
 
@@ -19,7 +19,9 @@ is-statement-requires : tie.Need-is-statement-requires
 is-statement-requires c κs = search needs
 
 returns-3 : tie.Need-returns-3
-returns-3 c = c .is-statement .ensures ∙ rw (c .before .read-at .ensures, ne-eqb _ _ (c .before .before .before .before .if1 .left), lt-ltb _ _ (c .before .before .before .if2 .left), lt-ltb _ _ (c .before .before .if3 .taken))
+returns-3 c =
+    c .is-statement .ensures ∙ rw
+    (c .before .read-at .ensures, ne-eqb _ _ (c .before .before .before .before .if1 .left), lt-ltb _ _ (c .before .before .before .if2 .left), lt-ltb _ _ (c .before .before .if3 .taken))
 
 returns-4 : tie.Need-returns-4
 returns-4 c = rw (ne-eqb _ _ (c .before .before .if1 .left), lt-ltb _ _ (c .before .if2 .left), le-ltb _ _ (c .if3 .left))

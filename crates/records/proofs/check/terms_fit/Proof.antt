@@ -1,7 +1,7 @@
 -- `records::check::terms_fit` meets its contract. At each return the tests that led there say what the conjunction is.
 -- Assumes nothing.
-use Rattle.records.proofs.Order.{fails, rests}
 use borrow.Author.Needs.{needs}
+use Rattle.records.proofs.Order.{fails, rests}
 use Rattle.records.proofs.check.terms_fit.Statement.{statement}
 use Rattle.records.proofs.check.terms_fit.Tie as tie
 

@@ -1,9 +1,8 @@
 -- `records::fields::read_at` meets its contract. The part of the vocabulary is the record's eight bytes.
 -- Assumes nothing.
-use Rattle.records.specs.Format.{recordAt}
 use native.Mathlib.Nat.{add-sub-cancel-left}
-use lib.ListN.{length-take, length-drop}
 use borrow.Author.Needs.{needs}
+use Rattle.records.specs.Format.{recordAt}
 use Rattle.records.proofs.fields.read_at.Statement.{statement}
 use Rattle.records.proofs.fields.read_at.Tie as tie
 

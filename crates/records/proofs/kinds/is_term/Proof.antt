@@ -1,8 +1,7 @@
 -- `records::kinds::is_term` meets its contract. The tests of the range say which case holds.
 -- Assumes nothing.
-use borrow.Author.Tests.{le-leb, lt-leb}
-use borrow.Author.Tests.{le-ltb, lt-ltb}
 use native.Mathlib.Omega.{arith}
+use borrow.Author.Tests.{le-leb, lt-leb}
 use Rattle.records.proofs.kinds.is_term.Statement.{statement}
 use Rattle.records.proofs.kinds.is_term.Tie as tie
 

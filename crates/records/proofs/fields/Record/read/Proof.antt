@@ -38,7 +38,9 @@ word-requires-3 : tie.Need-word-requires-3
 word-requires-3 c κs = search needs
 
 returns : tie.Need-returns
-returns c = rw (c .before .before .before .before .before .before .word .ensures, c .before .before .before .word2 .ensures, c .word3 .ensures)
+returns c =
+    rw
+    (c .before .before .before .before .before .before .word .ensures, c .before .before .before .word2 .ensures, c .word3 .ensures)
 
 pub read-spec : {M : Type 1} → statement M
 read-spec =
