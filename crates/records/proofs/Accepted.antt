@@ -7,16 +7,24 @@ use Prim.Native.Nat.{ℕ, zero, suc, _-_, _≤_, _<_}
 use native.Mathlib.Omega.{arith}
 use mathlib.Core.Path.{_≡_, refl, sym, _∙_, ap}
 use mathlib.Core.Bool.{Bool, true, false, not, _&&_, _||_}
-use mathlib.Core.List.{List}
+use mathlib.Core.List.{List, [], _∷_}
+use lib.ListN.{length, getD, drop}
 use mathlib.Core.Logic.{_⊎_, inl, inr}
 use lib.Dec.{ltb, leb, eqb}
 use borrow.Author.Tests.{ltb-true, leb-true, eqb-true, eq-eqb, not-true}
 use Rattle.records.specs.Outcome.{accepted, pass, _then_, require, inTurn}
 use Rattle.records.specs.Format.{recordAt, count, firstStatement, roleCount}
-use Rattle.records.specs.Kinds.{Construct, none, top, bottom, name, negation, conjunction, disjunction, existential, universal, inclusion, constructOf, constantFields, nameFields, negationFields, junctionFields, restrictionFields, inclusionFields, sortsOf, isTerm, isStatement}
-use Rattle.records.specs.Check.{lengthCheck, headerFits, headerCheck, kindFits, kindCheck, named, labelled, termFits, linkFits, rowsCheck, fieldsCheck, recordCheck, nextFits, linkCheck, linksCheck, vocabularyCheck}
+use Rattle.records.specs.Kinds.{Construct, none, top, bottom, name, negation, conjunction, disjunction, existential}
+use Rattle.records.specs.Kinds.{universal, inclusion, constructOf, constantFields, nameFields, negationFields}
+use Rattle.records.specs.Kinds.{junctionFields, restrictionFields, inclusionFields, Kind, noKind, kinds, kindOf}
+use Rattle.records.specs.Kinds.{sortsOf, isTerm, isStatement}
+use Rattle.records.specs.Check.{headCheck, lengthCheck, headerFits, headerCheck, kindFits, kindCheck, named, labelled}
+use Rattle.records.specs.Check.{termFits}
+use Rattle.records.specs.Check.{linkFits, rowsCheck, fieldsCheck, recordCheck, nextFits, linkCheck, linksCheck}
+use Rattle.records.specs.Check.{vocabularyCheck}
 use Rattle.records.specs.declared.fields.Record.{Record}
-use Rattle.records.proofs.Passed.{Sized, length-passed, both-left, both-right, require-passed, then-passed, turn-at, any-at}
+use Rattle.records.proofs.Passed.{Sized, length-passed, both-left, both-right, require-passed, then-passed, turn-at}
+use Rattle.records.proofs.Passed.{any-at}
 use Rattle.records.proofs.Rows.{name-rows, negation-rows, junction-rows, restriction-rows, inclusion-rows}
 
 -- x is the number of a term before record i.
@@ -57,8 +65,15 @@ pub record Accepted (v : List ℕ) : Type 0 where
   pub first : Linked v 0 (firstStatement v)
   pub rises : (i : ℕ) → 0 < i → i < count v → recordAt v i .kind ≡ 9 → Linked v i (recordAt v i .next)
 
-abbrev fields : ℕ → ℕ → ℕ → ℕ → ℕ → Record
-fields k s a b n = record { kind = k; second = s; a = a; b = b; next = n }
+-- What holds of every entry of a table holds of the entry at an index.
+abbrev All : {A : Type 0} → (A → Type 0) → List A → Type 0
+All P [] = Unit {0}
+All P (x ∷ xs) = P x × All P xs
+
+all-at : {A : Type 0} (P : A → Type 0) (l : List A) (d : A) → All P l → (k : ℕ) → k < length l → P (getD l k d)
+all-at P [] d t k h = absurd (omega arith)
+all-at P (x ∷ xs) d t zero h = t .0
+all-at P (x ∷ xs) d t (suc k) h = all-at P xs d (t .1) k (omega arith)
 
 module _ (v : List ℕ) (i : ℕ) where
   operand : (x : ℕ) → termFits v i x ≡ true → Operand v i x
@@ -113,36 +128,58 @@ module _ (v : List ℕ) (i : ℕ) where
       (require-passed (termFits v i (r .a)) 5 i
       (then-passed (require (eqb (r .b) 0 && eqb (r .next) 0) 4 i) (require (termFits v i (r .a)) 5 i) tt (sym (negation-rows v i r) ∙ e) .1))
 
-  rows-formed : (k s a b n : ℕ) → 0 < k → k ≤ 9 → rowsCheck v i (sortsOf k) (fields k s a b n) ≡ pass
-      → Formed v i (constructOf (fields k s a b n))
-  unfolding sortsOf constructOf
-  rows-formed zero s a b n l h e = absurd (omega arith)
-  rows-formed (suc zero) s a b n l h e = tt
-  rows-formed (suc (suc zero)) s a b n l h e = tt
-  rows-formed (suc (suc (suc zero))) s a b n l h e = tt
-  rows-formed (suc (suc (suc (suc zero)))) s a b n l h e = negation-formed (fields 4 s a b n) e
-  rows-formed (suc (suc (suc (suc (suc zero))))) s a b n l h e = junction-formed (fields 5 s a b n) e
-  rows-formed (suc (suc (suc (suc (suc (suc zero)))))) s a b n l h e = junction-formed (fields 6 s a b n) e
-  rows-formed (suc (suc (suc (suc (suc (suc (suc zero))))))) s a b n l h e = restriction-formed (fields 7 s a b n) e
-  rows-formed (suc (suc (suc (suc (suc (suc (suc (suc zero)))))))) s a b n l h e = restriction-formed (fields 8 s a b n) e
-  rows-formed (suc (suc (suc (suc (suc (suc (suc (suc (suc zero))))))))) s a b n l h e = inclusion-formed (fields 9 s a b n) e
-  rows-formed (suc (suc (suc (suc (suc (suc (suc (suc (suc (suc k)))))))))) s a b n l h e = absurd (omega arith)
+  RowsFormed : Kind → Type 0
+  RowsFormed k = (r : Record) → rowsCheck v i (k .fields) r ≡ pass → Formed v i (k .says r)
+
+  -- the table of kinds, entry by entry from 1
+  rows-formed : (k : ℕ) → 0 < k → k ≤ 9 → RowsFormed (kindOf k)
+  unfolding kindOf RowsFormed
+  rows-formed zero l h = absurd (omega arith)
+  rows-formed (suc k) l h =
+      all-at RowsFormed (drop 1 kinds) noKind (
+        λ r e. tt,
+        (
+          λ r e. tt,
+          (
+            λ r e. tt,
+            (
+              negation-formed,
+              (
+                junction-formed,
+                (
+                  junction-formed,
+                  (
+                    restriction-formed,
+                    (
+                      restriction-formed,
+                      (inclusion-formed, tt),
+                    ),
+                  ),
+                ),
+              ),
+            ),
+          ),
+        ),
+      )
+      k
+      (omega arith)
 
   record-formed : recordCheck v i ≡ pass → Formed v i (constructOf (recordAt v i))
-  unfolding recordCheck
+  unfolding recordCheck RowsFormed
   record-formed e =
       let r = recordAt v i in
       let both = then-passed (kindCheck r i) (rowsCheck v i (sortsOf (r .kind)) r) tt e in
       let fit : kindFits r ≡ true = require-passed (kindFits r) 3 i (both .0) in
       let least = both-left (leb 1 (r .kind)) (leb (r .kind) 9 && eqb (r .second) 0) fit in
       let most = both-right (leb 1 (r .kind)) (leb (r .kind) 9 && eqb (r .second) 0) fit in
-      rows-formed (r .kind) (r .second) (r .a) (r .b) (r .next)
+      rows-formed (r .kind)
       (leb-true 1 (r .kind) least)
       (leb-true (r .kind) 9 (both-left (leb (r .kind) 9) (eqb (r .second) 0) most))
+      r
       (both .1)
 
   record-unlabelled : recordCheck v i ≡ pass → recordAt v i .kind ≡ 3 → labelled v i (recordAt v i .a) ≡ false
-  unfolding recordCheck sortsOf
+  unfolding recordCheck kindOf
   record-unlabelled e q =
       let r = recordAt v i in
       let rows = then-passed (kindCheck r i) (rowsCheck v i (sortsOf (r .kind)) r) tt e .1 in
@@ -164,13 +201,12 @@ pub accepted-vocabulary : (v : List ℕ) (n : ℕ) → vocabularyCheck v ≡ acc
 unfolding vocabularyCheck
 accepted-vocabulary v n e =
     let records = inTurn (recordCheck v) 1 (count v - 1) in
-    let head = require (linkFits v 0 (firstStatement v)) 8 0 in
     let links = inTurn (linkCheck v) 1 (count v - 1) in
     let a = then-passed (lengthCheck v) (headerCheck v then records then linksCheck v then accepted (count v)) n e in
     let b = then-passed (headerCheck v) (records then linksCheck v then accepted (count v)) n (a .1) in
     let c = then-passed records (linksCheck v then accepted (count v)) n (b .1) in
     let d = then-passed (linksCheck v) (accepted (count v)) n (c .1) .0 in
-    let l = then-passed head links tt d in
+    let l = then-passed (headCheck v) links tt d in
     let r = recordAt v 0 in
     let fit : headerFits r ≡ true = require-passed (headerFits r) 2 0 (b .0) in
     let after = both-right (eqb (r .kind) 16) (eqb (r .second) 1 && (leb (r .b) 64 && eqb (r .next) 0)) fit in

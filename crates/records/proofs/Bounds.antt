@@ -15,7 +15,9 @@ use borrow.Author.Tests.{ltb-true}
 use Rattle.records.specs.Outcome.{Outcome, Check, accepted, refused, pass, _then_, require, inTurn}
 use Rattle.records.specs.Format.{count, recordAt, firstStatement}
 use Rattle.records.specs.Kinds.{isStatement, sortsOf}
-use Rattle.records.specs.Check.{lengthFits, lengthCheck, headerFits, headerCheck, kindFits, kindCheck, rowCheck, rowFits, recordCheck, linkFits, nextFits, linkCheck, linksCheck, vocabularyCheck}
+use Rattle.records.specs.Check.{lengthFits, lengthCheck, headerFits, headerCheck, kindFits, kindCheck, rowCheck}
+use Rattle.records.specs.Check.{rowFits, recordCheck, linkFits, headCheck, nextFits, linkCheck, linksCheck}
+use Rattle.records.specs.Check.{vocabularyCheck}
 use Rattle.records.specs.Call.{recordCall}
 use Rattle.records.proofs.Passed.{Sized, require-passed, then-passed, length-passed}
 
@@ -45,7 +47,8 @@ module _ (m : ℕ) where
   turns-near : (check : ℕ → Check) (n i : ℕ) → i + n ≤ m → ((k : ℕ) → k ≤ m → Near m (check k)) → Near m (inTurn check i n)
   unfolding inTurn
   turns-near check zero i h near = tt
-  turns-near check (suc n) i h near = then-near (check i) (inTurn check (suc i) n) (near i (omega arith)) (turns-near check n (suc i) (omega arith) near)
+  turns-near check (suc n) i h near =
+      then-near (check i) (inTurn check (suc i) n) (near i (omega arith)) (turns-near check n (suc i) (omega arith) near)
 
 module _ (m : ℕ) (v : List ℕ) where
   record-near : (i : ℕ) → i ≤ m → Near m (recordCheck v i)
@@ -76,12 +79,14 @@ vocabulary-count v n e =
 pub vocabulary-small : (v : List ℕ) → Small 512 (vocabularyCheck v)
 unfolding vocabularyCheck
 vocabulary-small v =
+    let run : (check : ℕ → Check) → Sized v → ((k : ℕ) → k ≤ 512 → Near 512 (check k)) → Near 512 (inTurn check 1 (count v - 1))
+    = λ check sized near. turns-near 512 check (count v - 1) 1 (omega arith) near in
+    let head : Near 512 (headCheck v) = require-near 512 (linkFits v 0 (firstStatement v)) 8 0 (omega arith) in
     then-small 512 (lengthCheck v) _ (require-near 512 (lengthFits v) 1 0 (omega arith))
     (λ e. let sized = length-passed v e in
     then-small 512 (headerCheck v) _ (require-near 512 (headerFits (recordAt v 0)) 2 0 (omega arith))
-    (λ _. then-small 512 (inTurn (recordCheck v) 1 (count v - 1)) _ (turns-near 512 (recordCheck v) (count v - 1) 1 (omega arith) (record-near 512 v))
-    (λ _. then-small 512 (linksCheck v) _
-    (then-near 512 (require (linkFits v 0 (firstStatement v)) 8 0) (inTurn (linkCheck v) 1 (count v - 1)) (require-near 512 (linkFits v 0 (firstStatement v)) 8 0 (omega arith)) (turns-near 512 (linkCheck v) (count v - 1) 1 (omega arith) (link-near 512 v)))
+    (λ _. then-small 512 (inTurn (recordCheck v) 1 (count v - 1)) _ (run (recordCheck v) sized (record-near 512 v))
+    (λ _. then-small 512 (linksCheck v) _ (then-near 512 (headCheck v) _ head (run (linkCheck v) sized (link-near 512 v)))
     (λ _. omega arith))))
 
 pub record-within : (v : List ℕ) (n at : ℕ) → recordCall v n ≡ accepted at → at + 8 ≤ length v

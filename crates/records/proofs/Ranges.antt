@@ -12,7 +12,9 @@ use mathlib.Core.Logic.{_⊎_, inl, inr, ⊎-elim}
 use lib.ListN.{List·getD-eq-default}
 use lib.Dec.{eqb}
 use borrow.Author.Tests.{le-leb, lt-leb, eq-eqb, ne-eqb}
-use Rattle.records.specs.Kinds.{sortsOf, isTerm, isAtom, constantFields, nameFields, negationFields, junctionFields, restrictionFields, inclusionFields, fieldsByKind}
+use Rattle.records.specs.Kinds.{Kind, noKind, kindOf, sortsOf, isTerm, isAtom, constantFields, nameFields}
+use Rattle.records.specs.Kinds.{negationFields, junctionFields}
+use Rattle.records.specs.Kinds.{restrictionFields, inclusionFields, kinds}
 
 -- the two kinds of a range of two
 pub one-of-two : (k a : ℕ) → a ≤ k → k < a + 2 → (k ≡ a) ⊎ (k ≡ a + 1)
@@ -23,35 +25,35 @@ one-of-two k a l h = pick (ℕ-discrete k a)
     pick (no n) = inr (omega arith)
 
 pub sorts-name : (k : ℕ) → k ≡ 3 → nameFields ≡ sortsOf k
-unfolding sortsOf
+unfolding kindOf
 sorts-name k e = rw e
 
 pub sorts-negation : (k : ℕ) → k ≡ 4 → negationFields ≡ sortsOf k
-unfolding sortsOf
+unfolding kindOf
 sorts-negation k e = rw e
 
 pub sorts-inclusion : (k : ℕ) → k ≡ 9 → inclusionFields ≡ sortsOf k
-unfolding sortsOf
+unfolding kindOf
 sorts-inclusion k e = rw e
 
 pub sorts-junction : (k : ℕ) → 5 ≤ k → k < 7 → junctionFields ≡ sortsOf k
-unfolding sortsOf
+unfolding kindOf
 sorts-junction k l h = ⊎-elim (λ e. rw e) (λ e. rw e) (one-of-two k 5 l h)
 
 pub sorts-restriction : (k : ℕ) → 7 ≤ k → k < 9 → restrictionFields ≡ sortsOf k
-unfolding sortsOf
+unfolding kindOf
 sorts-restriction k l h = ⊎-elim (λ e. rw e) (λ e. rw e) (one-of-two k 7 l h)
 
 pub sorts-low : (k : ℕ) → k < 3 → constantFields ≡ sortsOf k
-unfolding sortsOf
+unfolding kindOf
 sorts-low zero h = refl
 sorts-low (suc zero) h = refl
 sorts-low (suc (suc zero)) h = refl
 sorts-low (suc (suc (suc k))) h = absurd (omega arith)
 
 pub sorts-high : (k : ℕ) → 10 ≤ k → constantFields ≡ sortsOf k
-unfolding sortsOf
-sorts-high k h = sym (List·getD-eq-default fieldsByKind constantFields h)
+unfolding kindOf
+sorts-high k h = sym (ap (λ (k : Kind). k .fields) (List·getD-eq-default kinds noKind h))
 
 pub atom-role : (k : ℕ) → 7 ≤ k → k < 9 → true ≡ isAtom k
 atom-role k l h = ⊎-elim (λ e. rw e) (λ e. rw e) (one-of-two k 7 l h)

@@ -10,8 +10,9 @@ use mathlib.Core.List.{List}
 use lib.Dec.{ltb, eqb}
 use Rattle.records.specs.Outcome.{Check, accepted, refused, pass, _then_, require}
 use Rattle.records.specs.Format.{recordAt, firstStatement, roleCount}
-use Rattle.records.specs.Kinds.{constantFields, nameFields, negationFields, junctionFields, restrictionFields, inclusionFields, Sorts, sortsOf}
-use Rattle.records.specs.Check.{termFits, labelled, rowsCheck, linkFits}
+use Rattle.records.specs.Kinds.{constantFields, nameFields, negationFields, junctionFields, restrictionFields}
+use Rattle.records.specs.Kinds.{inclusionFields, Sorts, sortsOf}
+use Rattle.records.specs.Check.{termFits, labelled, rowsCheck, linkFits, headCheck}
 use Rattle.records.specs.declared.fields.Record.{Record}
 
 then-pass : (a : Check) → (a then pass) ≡ a
@@ -53,5 +54,5 @@ pub rows-at : (v : List ℕ) (i : ℕ) (r : Record) (s : Sorts) (o : Check)
 rows-at v i r s o h e = rw e at h
 
 pub head-at : (v : List ℕ) (r : Record) (fit : Bool) (o : Check)
-    → r ≡ recordAt v 0 → fit ≡ linkFits v 0 (r .a) → o ≡ require fit 8 0 → o ≡ require (linkFits v 0 (firstStatement v)) 8 0
+    → r ≡ recordAt v 0 → fit ≡ linkFits v 0 (r .a) → o ≡ require fit 8 0 → o ≡ headCheck v
 head-at v r fit o e f h = h ∙ rw (f, e)

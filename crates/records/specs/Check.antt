@@ -9,7 +9,7 @@ use Rattle.records.specs.Format.{recordAt, count, firstStatement, roleCo
 use Rattle.records.specs.Kinds.{Sort, Spare, Term, Role, Label, Link, Sorts, isTerm, isStatement, sortsOf}
 use Rattle.records.specs.declared.fields.Record.{Record}
 
--- Row 1: "under 8, over 4,096 or no multiple of 8"
+-- Row 1: "under 8, over 4,096 or no multiple of 8"; "At most 512 records, header included."
 abbrev pub lengthFits : List ℕ → Bool
 lengthFits v = leb 8 (length v) && (leb (length v) 4096 && eqb (length v % 8) 0)
 
@@ -23,7 +23,7 @@ headerFits r = eqb (r .kind) 16 && (eqb (r .second) 1 && (leb (r .b) 64 && eqb (
 abbrev pub headerCheck : List ℕ → Check
 headerCheck v = require (headerFits (recordAt v 0)) 2 0
 
--- Row 3: "kind not 1 to 9, or second byte"
+-- Row 3: "kind not 1 to 9, or second byte"; "Other records have second byte 0."
 abbrev pub kindFits : Record → Bool
 kindFits r = leb 1 (r .kind) && (leb (r .kind) 9 && eqb (r .second) 0)
 
@@ -89,7 +89,10 @@ fieldsCheck v i r = kindCheck r i then rowsCheck v i (sortsOf (r .kind)) r
 unfoldable pub recordCheck : List ℕ → ℕ → Check
 recordCheck v i = fieldsCheck v i (recordAt v i)
 
--- Row 8: "Header A, then each statement's next"; "A statement off the chain is checked"
+-- Row 8, "not 0 and not a later statement": "Header A, then each statement's next"; "A statement off the chain is checked"
+abbrev pub headCheck : List ℕ → Check
+headCheck v = require (linkFits v 0 (firstStatement v)) 8 0
+
 abbrev pub nextFits : List ℕ → ℕ → Bool
 nextFits v i = not (isStatement (recordAt v i .kind)) || linkFits v i (recordAt v i .next)
 
@@ -97,7 +100,7 @@ unfoldable pub linkCheck : List ℕ → ℕ → Check
 linkCheck v i = require (nextFits v i) 8 i
 
 abbrev pub linksCheck : List ℕ → Check
-linksCheck v = require (linkFits v 0 (firstStatement v)) 8 0 then inTurn (linkCheck v) 1 (count v - 1)
+linksCheck v = headCheck v then inTurn (linkCheck v) 1 (count v - 1)
 
 -- The vocabulary check "answers the number of records, header included": row 1, row 2, rows 3 to 7 at "each record in turn", row 8.
 unfoldable pub vocabularyCheck : List ℕ → Outcome ℕ

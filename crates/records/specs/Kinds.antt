@@ -13,25 +13,6 @@ pub data Construct : Type 0 where
   negation : ℕ → Construct
   conjunction disjunction existential universal inclusion : ℕ → ℕ → Construct
 
--- "Kinds 1 to 8 are terms: 1 top; 2 bottom; 3 name, A its label; 4 not A; 5 A and B; 6 A or B; 7 some role A to B;
--- 8 all role A to B. Kind 9 is the statement "A lies within B"."
-unfoldable pub constructOf : Record → Construct
-constructOf r =
-    getD
-    (none
-    ∷ top
-    ∷ bottom
-    ∷ name
-    ∷ negation (r .a)
-    ∷ conjunction (r .a) (r .b)
-    ∷ disjunction (r .a) (r .b)
-    ∷ existential (r .a) (r .b)
-    ∷ universal (r .a) (r .b)
-    ∷ inclusion (r .a) (r .b)
-    ∷ [])
-    (r .kind)
-    none
-
 -- What a field holds: nothing ("Fields not mentioned are zero"), a term number, a role number, a name's label,
 -- or the number of the chain's next statement.
 pub data Sort : Type 0 where
@@ -64,23 +45,42 @@ restrictionFields = holds Role Term Spare
 abbrev pub inclusionFields : Sorts
 inclusionFields = holds Term Term Link
 
--- The fields of the kinds from 0, which no record has, to 9.
-abbrev pub fieldsByKind : List Sorts
-fieldsByKind =
-    constantFields
-    ∷ constantFields
-    ∷ constantFields
-    ∷ nameFields
-    ∷ negationFields
-    ∷ junctionFields
-    ∷ junctionFields
-    ∷ restrictionFields
-    ∷ restrictionFields
-    ∷ inclusionFields
+-- A kind of records: what the fields hold, and what a record of this kind says.
+pub record Kind : Type 0 where
+  pub fields : Sorts
+  pub says : Record → Construct
+
+abbrev pub kind : Sorts → (Record → Construct) → Kind
+kind fields says = record { fields = fields; says = says }
+
+-- No record has kind 0, or a kind past the table.
+abbrev pub noKind : Kind
+noKind = kind constantFields (λ r. none)
+
+-- "Kinds 1 to 8 are terms: 1 top; 2 bottom; 3 name, A its label; 4 not A; 5 A and B; 6 A or B; 7 some role A to B;
+-- 8 all role A to B. Kind 9 is the statement "A lies within B"." The kinds from 0 on:
+abbrev pub kinds : List Kind
+kinds =
+    noKind
+    ∷ kind constantFields (λ r. top)
+    ∷ kind constantFields (λ r. bottom)
+    ∷ kind nameFields (λ r. name)
+    ∷ kind negationFields (λ r. negation (r .a))
+    ∷ kind junctionFields (λ r. conjunction (r .a) (r .b))
+    ∷ kind junctionFields (λ r. disjunction (r .a) (r .b))
+    ∷ kind restrictionFields (λ r. existential (r .a) (r .b))
+    ∷ kind restrictionFields (λ r. universal (r .a) (r .b))
+    ∷ kind inclusionFields (λ r. inclusion (r .a) (r .b))
     ∷ []
 
-unfoldable pub sortsOf : ℕ → Sorts
-sortsOf kind = getD fieldsByKind kind constantFields
+unfoldable pub kindOf : ℕ → Kind
+kindOf k = getD kinds k noKind
+
+abbrev pub sortsOf : ℕ → Sorts
+sortsOf k = kindOf k .fields
+
+abbrev pub constructOf : Record → Construct
+constructOf r = kindOf (r .kind) .says r
 
 abbrev pub isTerm : ℕ → Bool
 isTerm kind = leb 1 kind && leb kind 8

@@ -13,8 +13,11 @@ ghost use lib.ListN.{length};
 ghost use Rattle.records.specs.Outcome.{inTurn};
 ghost use Rattle.records.specs.Answers.{checked};
 ghost use Rattle.records.specs.Format.{recordAt, recordOf, roleCount, count};
-ghost use Rattle.records.specs.Kinds.{sortsOf, constantFields, nameFields, negationFields, junctionFields, restrictionFields, inclusionFields};
-ghost use Rattle.records.specs.Check.{lengthFits, lengthCheck, headerFits, headerCheck, kindFits, kindCheck, named, labelled, termFits, linkFits, rowsCheck, fieldsCheck, recordCheck, linkCheck, linksCheck};
+ghost use Rattle.records.specs.Kinds.{sortsOf, constantFields, nameFields, negationFields, junctionFields};
+ghost use Rattle.records.specs.Kinds.{restrictionFields, inclusionFields};
+ghost use Rattle.records.specs.Check.{lengthFits, lengthCheck, headerFits, headerCheck, kindFits, kindCheck, named};
+ghost use Rattle.records.specs.Check.{labelled, termFits, linkFits, rowsCheck, fieldsCheck, recordCheck, linkCheck};
+ghost use Rattle.records.specs.Check.{linksCheck};
 
 fn length_fits(v: &[u8]) -> bool
     ensures { λ r. ⌜ r ≡ lengthFits (now (v .entry)) ⌝ }

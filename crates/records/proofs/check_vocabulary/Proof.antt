@@ -5,7 +5,7 @@ use denote.Ref.{now}
 use borrow.Author.Needs.{needs}
 use Rattle.records.specs.Check.{vocabularyCheck}
 use Rattle.records.proofs.Order.{stopped, goes, passed}
-use Rattle.records.proofs.Passed.{length-passed}
+use Rattle.records.proofs.Passed.{Sized, length-passed}
 use Rattle.records.proofs.check_vocabulary.Statement.{statement}
 use Rattle.records.proofs.check_vocabulary.Tie as tie
 
@@ -21,6 +21,10 @@ enum-told-2 c = search needs
 count-after-requires : tie.Need-count-after-requires
 count-after-requires c κs = search needs
 
+-- the length has passed
+sized : (c : tie.After-enum-told) → Sized (now (c .before .before .before .before .args .v))
+sized c = length-passed _ (passed _ _ (c .before .before .check-length .ensures) (c .enum-told .given .1))
+
 returns : tie.Need-returns
 unfolding vocabularyCheck
 returns c =
@@ -28,9 +32,7 @@ returns c =
     (c .before .enum-told2 .given .1)
 
 check-header-requires : tie.Need-check-header-requires
-check-header-requires c κs =
-    length-passed (now (c .before .before .before .before .args .v))
-    (passed _ _ (c .before .before .check-length .ensures) (c .enum-told .given .1)) .least
+check-header-requires c κs = sized c .least
 
 enum-told-3 : tie.Need-enum-told-3
 enum-told-3 c = search needs
@@ -49,9 +51,7 @@ returns-2 c =
     (stopped _ _ _ _ _ _ _ (c .count-after2 .ensures) (c .before .before .before .check-header .ensures) (c .before .enum-told4 .given .1))
 
 check-records-requires : tie.Need-check-records-requires
-check-records-requires c κs =
-    length-passed (now (c .before .before .before .before .before .before .before .args .v))
-    (passed _ _ (c .before .before .before .before .before .check-length .ensures) (c .before .before .before .enum-told .given .1)) .least
+check-records-requires c κs = sized (c .before .before .before) .least
 
 enum-told-5 : tie.Need-enum-told-5
 enum-told-5 c = search needs
@@ -71,9 +71,7 @@ returns-3 c =
     (stopped _ _ _ _ _ _ _ (c .count-after3 .ensures) (c .before .before .before .check-records .ensures) (c .before .enum-told6 .given .1)))
 
 check-links-requires : tie.Need-check-links-requires
-check-links-requires c κs =
-    length-passed (now (c .before .before .before .before .before .before .before .before .before .before .args .v))
-    (passed _ _ (c .before .before .before .before .before .before .before .before .check-length .ensures) (c .before .before .before .before .before .before .enum-told .given .1)) .least
+check-links-requires c κs = sized (c .before .before .before .before .before .before) .least
 
 count-after-requires-4 : tie.Need-count-after-requires-4
 count-after-requires-4 c κs = search needs

@@ -3,8 +3,10 @@
 use Prim.Native.Nat.{_-_}
 use native.Mathlib.Omega.{arith}
 use mathlib.Core.Path.{_≡_, _∙_, refl, sym}
+use denote.Ref.{now}
 use borrow.Author.Needs.{needs}
-use Rattle.records.specs.Check.{linkCheck}
+use Rattle.records.specs.Check.{linkCheck, headCheck}
+use Rattle.records.specs.Answers.{checked}
 use Rattle.records.specs.Outcome.{inTurn}
 use Rattle.records.proofs.Order.{turn-refused, turn-passed, turns-end, stops, goes}
 use Rattle.records.proofs.Rows.{head-at}
@@ -26,6 +28,11 @@ link-fits-requires c κs = tt
 pass-if-requires : tie.Need-pass-if-requires Inv-loop μ-loop
 pass-if-requires c κs = tt
 
+-- row 8 at the header
+head : (c : tie.After-pass-if Inv-loop μ-loop)
+    → checked (c .pass-if .result) ≡ headCheck (now (c .before .before .before .before .args .v))
+head c = head-at _ _ _ _ (c .before .before .read-at .ensures) (c .before .link-fits .ensures) (c .pass-if .ensures)
+
 enum-told : tie.Need-enum-told Inv-loop μ-loop
 enum-told c = search needs
 
@@ -34,9 +41,7 @@ enum-told-2 c = search needs
 
 returns : tie.Need-returns Inv-loop μ-loop
 returns c =
-    stops _ _ _ _ _
-    (head-at _ _ _ _ (c .before .before .before .before .read-at .ensures) (c .before .before .before .link-fits .ensures) (c .before .before .pass-if .ensures))
-    (c .enum-told2 .given .1)
+    stops _ _ _ _ _ (head (c .before .before)) (c .enum-told2 .given .1)
 
 loop-holds : tie.Need-loop-holds Inv-loop μ-loop
 loop-holds c = refl
@@ -52,10 +57,10 @@ enum-told-4 c = search needs
 
 returns-2 : tie.Need-returns-2 Inv-loop μ-loop
 returns-2 c =
-    goes _ _ _ _
-    (head-at _ _ _ _ (c .before .before .before .before .before .before .before .before .before .read-at .ensures) (c .before .before .before .before .before .before .before .before .link-fits .ensures) (c .before .before .before .before .before .before .before .pass-if .ensures))
+    goes _ _ _ _ (head (c .before .before .before .before .before .before .before))
     (c .before .before .before .before .before .enum-told .given .1)
-    (turn-refused _ _ _ _ _ _ (c .before .before .before .loop-test .taken) (c .before .before .check-link .ensures) (c .enum-told4 .given .1) ∙ sym (c .before .before .before .before .loop .inv))
+    (turn-refused _ _ _ _ _ _ (c .before .before .before .loop-test .taken) (c .before .before .check-link .ensures) (c .enum-told4 .given .1)
+    ∙ sym (c .before .before .before .before .loop .inv))
 
 add-i : tie.Need-add-i Inv-loop μ-loop
 add-i c = omega arith
@@ -70,8 +75,7 @@ loop-again c =
 
 returns-3 : tie.Need-returns-3 Inv-loop μ-loop
 returns-3 c =
-    goes _ _ _ _
-    (head-at _ _ _ _ (c .before .before .before .before .before .before .read-at .ensures) (c .before .before .before .before .before .link-fits .ensures) (c .before .before .before .before .pass-if .ensures))
+    goes _ _ _ _ (head (c .before .before .before .before))
     (c .before .before .enum-told .given .1)
     (sym (c .before .loop .inv ∙ turns-end _ _ _ (c .loop-test .left)))
 

@@ -4,7 +4,8 @@ use native.Mathlib.Omega.{arith}
 use mathlib.Core.Logic.{⊎-elim}
 use denote.Ref.{now}
 use borrow.Author.Needs.{needs}
-use Rattle.records.proofs.Ranges.{sorts-name, sorts-negation, sorts-inclusion, sorts-junction, sorts-restriction, sorts-low, sorts-high}
+use Rattle.records.proofs.Ranges.{sorts-name, sorts-negation, sorts-inclusion, sorts-junction, sorts-restriction}
+use Rattle.records.proofs.Ranges.{sorts-low, sorts-high}
 use Rattle.records.proofs.Rows.{rows-at}
 use Rattle.records.proofs.check.check_rows.Statement.{statement}
 use Rattle.records.proofs.check.check_rows.Tie as tie
