@@ -1,9 +1,10 @@
 #!/bin/sh
 # Measures the library's vocabulary check beside plain C.
 #
-# usage: run.sh [--instructions] [ARCHIVE]
+# usage: run.sh [--agree | --instructions] [ARCHIVE]
 #
-# Prints the time of a call on each input; with --instructions the instructions of a call on the
+# Prints the time of a call on each input, after a comparison of both answers on each and on 30,000
+# damages; with --agree the comparison alone; with --instructions the instructions of a call on the
 # 511 names, counted by callgrind. ARCHIVE: default target/staticlib/libjudge.a in the repository.
 # Exit status: 0 done, 1 the answers differ or a build failed, 2 bad usage or something is missing.
 set -eu
@@ -20,13 +21,14 @@ mode='time'
 
 for word in "$@"; do
     case $word in
+    --agree) mode=agree ;;
     --instructions) mode=instructions ;;
-    -*) fail "unknown option $word; usage: run.sh [--instructions] [ARCHIVE]" ;;
+    -*) fail "unknown option $word; usage: run.sh [--agree | --instructions] [ARCHIVE]" ;;
     *) archive=$word ;;
     esac
 done
 [ -f "$archive" ] || fail "no archive $archive; 'rt staticlib judge' in $root makes it"
-[ "$mode" = time ] || command -v valgrind >/dev/null || fail '--instructions needs valgrind'
+[ "$mode" != instructions ] || command -v valgrind >/dev/null || fail '--instructions needs valgrind'
 
 build=$(mktemp -d)
 trap 'rm -rf -- "$build"' EXIT
@@ -52,10 +54,10 @@ per_call() {
     echo $(((many - few) / 10))
 }
 
-if [ "$mode" = time ]; then
-    "$build/vocabulary"
-    exit
-fi
+case $mode in
+time) "$build/vocabulary"; exit ;;
+agree) "$build/vocabulary" --agree; exit ;;
+esac
 
 library=$(per_call library)
 plain=$(per_call plain)

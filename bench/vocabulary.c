@@ -380,12 +380,14 @@ int main(int argc, char **argv)
         makers[i](&inputs[i]);
     if (argc == 1)
         return benchmark(inputs);
+    if (argc == 2 && strcmp(argv[1], "--agree") == 0)
+        return agree(inputs) ? 0 : 1;
     if (argc == 4 && strcmp(argv[1], "--calls") == 0) {
         if (strcmp(argv[2], "library") == 0)
             return call_only(&inputs[0], judge_check_vocabulary, argv[3]);
         if (strcmp(argv[2], "plain") == 0)
             return call_only(&inputs[0], plain_check_vocabulary, argv[3]);
     }
-    fprintf(stderr, "usage: vocabulary [--calls library|plain N]\n");
+    fprintf(stderr, "usage: vocabulary [--agree | --calls library|plain N]\n");
     return 2;
 }
