@@ -307,13 +307,13 @@ pub fn check_links(v: &[u8]) -> Checked
         return head;
     };
     let records = v.len() / Record::SIZE;
-    let mut i = 1;
-    while i < records {
-        let link = check_link(v, i);
+    let mut at = 1;
+    while at < records {
+        let link = check_link(v, at);
         let Checked::Fine = link else {
             return link;
         };
-        i += 1;
+        at += 1;
     }
     Checked::Fine
 }

@@ -16,8 +16,9 @@ pass-if-requires c κs = search needs
 
 returns : tie.Need-returns
 returns c =
-    let a = c .before .before .before .args in
-    asked _ _ _ _ _ (c .pass-if .ensures) (c .before .terms-fit .ensures) ∙ sym (inclusion-rows (now (a .v)) (a .i) (a .fields))
+    asked _ _ _ _ _ (c .pass-if .ensures) (c .before .terms-fit .ensures)
+    ∙ sym
+    (inclusion-rows (now (c .before .before .before .args .v)) (c .before .before .before .args .i) (c .before .before .before .args .fields))
 
 pub check-inclusion-spec : {M : Type 1} → statement M
 check-inclusion-spec = tie.close (tie.spec terms-fit-requires pass-if-requires returns)

@@ -35,12 +35,12 @@ pass-if-requires-2 c κs = search needs
 
 returns-2 : tie.Need-returns-2
 returns-2 c =
-    let a = c .before .before .before .before .before .before .before .args in
     goes _ _ _ _
     (asked _ _ _ _ _ (c .before .before .before .before .pass-if .ensures) (c .before .before .before .before .before .spare-fits .ensures))
     (c .before .before .enum-told .given .1)
     (asked _ _ _ _ _ (c .pass-if2 .ensures) (c .before .terms-fit .ensures))
-    ∙ sym (junction-rows (now (a .v)) (a .i) (a .fields))
+    ∙ sym
+    (junction-rows (now (c .before .before .before .before .before .before .before .args .v)) (c .before .before .before .before .before .before .before .args .i) (c .before .before .before .before .before .before .before .args .fields))
 
 pub check-junction-spec : {M : Type 1} → statement M
 check-junction-spec =

@@ -1,4 +1,4 @@
--- `records::check::check_links` meets its contract. The header passed; the loop's invariant: the statements from `i` on decide.
+-- `records::check::check_links` meets its contract. The header passed; the loop's invariant: the statements from `at` on decide.
 -- Assumes nothing.
 use Prim.Native.Nat.{_-_}
 use native.Mathlib.Omega.{arith}
@@ -14,10 +14,10 @@ use Rattle.records.proofs.check.check_links.Statement.{statement}
 use Rattle.records.proofs.check.check_links.Tie as tie
 
 abbrev Inv-loop : tie.InvT-loop
-Inv-loop v first records i₀ i = inTurn (linkCheck v) 1 (records - 1) ≡ inTurn (linkCheck v) i (records - i)
+Inv-loop v first records at₀ at = inTurn (linkCheck v) 1 (records - 1) ≡ inTurn (linkCheck v) at (records - at)
 
 abbrev μ-loop : tie.MeasureT-loop
-μ-loop v first records i₀ i = records - i
+μ-loop v first records at₀ at = records - at
 
 read-at-requires : tie.Need-read-at-requires Inv-loop μ-loop
 read-at-requires c κs = omega arith
@@ -62,8 +62,8 @@ returns-2 c =
     (turn-refused _ _ _ _ _ _ (c .before .before .before .loop-test .taken) (c .before .before .check-link .ensures) (c .enum-told4 .given .1)
     ∙ sym (c .before .before .before .before .loop .inv))
 
-add-i : tie.Need-add-i Inv-loop μ-loop
-add-i c = omega arith
+add-at : tie.Need-add-at Inv-loop μ-loop
+add-at c = omega arith
 
 loop-less : tie.Need-loop-less Inv-loop μ-loop
 loop-less c = omega arith
@@ -96,7 +96,7 @@ check-links-spec =
     enum-told-3
     enum-told-4
     returns-2
-    add-i
+    add-at
     loop-less
     loop-again
     returns-3)
