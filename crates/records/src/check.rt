@@ -1,5 +1,7 @@
-// The rows 1 to 8 of the table of refusals, each a check of its own.
+// The vocabulary check: rows 1 to 8 of the table of refusals, each a check of its own.
 use crate::answers::Checked;
+use crate::answers::Counted;
+use crate::answers::count_after;
 use crate::answers::pass_if;
 use crate::fields::Record;
 use crate::fields::read_at;
@@ -11,13 +13,13 @@ ghost use mathlib.Core.Bool.{_&&_};
 ghost use lib.Dec.{eqb};
 ghost use lib.ListN.{length};
 ghost use Rattle.records.specs.Outcome.{inTurn};
-ghost use Rattle.records.specs.Answers.{checked};
+ghost use Rattle.records.specs.Answers.{checked, counted};
 ghost use Rattle.records.specs.Format.{recordAt, recordOf, roleCount, count};
 ghost use Rattle.records.specs.Kinds.{sortsOf, constantFields, nameFields, negationFields, junctionFields};
 ghost use Rattle.records.specs.Kinds.{restrictionFields, inclusionFields};
 ghost use Rattle.records.specs.Check.{lengthFits, lengthCheck, headerFits, headerCheck, kindFits, kindCheck, named};
 ghost use Rattle.records.specs.Check.{labelled, termFits, linkFits, rowsCheck, fieldsCheck, recordCheck, linkCheck};
-ghost use Rattle.records.specs.Check.{linksCheck};
+ghost use Rattle.records.specs.Check.{linksCheck, vocabularyCheck};
 
 fn length_fits(v: &[u8]) -> bool
     ensures { λ r. ⌜ r ≡ lengthFits (now (v .entry)) ⌝ }
@@ -52,7 +54,7 @@ fn header_fits(header: Record) -> bool
     header.next == 0
 }
 
-pub fn check_header(v: &[u8]) -> Checked
+fn check_header(v: &[u8]) -> Checked
     requires { ⌜ 8 ≤ length (now v) ⌝ }
     ensures { λ r. ⌜ checked r ≡ headerCheck (now (v .entry)) ⌝ }
 {
@@ -267,7 +269,7 @@ fn check_record(v: &[u8], i: usize, roles: u16) -> Checked
 }
 
 // Each record in turn.
-pub fn check_records(v: &[u8]) -> Checked
+fn check_records(v: &[u8]) -> Checked
     requires { ⌜ 8 ≤ length (now v) ⌝ }
     ensures { λ r. ⌜ checked r ≡ inTurn (recordCheck (now (v .entry))) 1 (count (now (v .entry)) - 1) ⌝ }
 {
@@ -297,7 +299,7 @@ fn check_link(v: &[u8], i: usize) -> Checked
 }
 
 // The header's A, then each statement's next, on the chain or off it.
-pub fn check_links(v: &[u8]) -> Checked
+fn check_links(v: &[u8]) -> Checked
     requires { ⌜ 8 ≤ length (now v) ⌝ }
     ensures { λ r. ⌜ checked r ≡ linksCheck (now (v .entry)) ⌝ }
 {
@@ -316,4 +318,24 @@ pub fn check_links(v: &[u8]) -> Checked
         at += 1;
     }
     Checked::Fine
+}
+
+// The vocabulary check: the number of records, or the first refusal in table order.
+pub fn check_vocabulary(v: &[u8]) -> Counted
+    ensures { λ r. ⌜ counted r ≡ vocabularyCheck (now (v .entry)) ⌝ }
+{
+    let length = check_length(v);
+    let Checked::Fine = length else {
+        return count_after(length, 0);
+    };
+    let header = check_header(v);
+    let Checked::Fine = header else {
+        return count_after(header, 0);
+    };
+    let records = check_records(v);
+    let Checked::Fine = records else {
+        return count_after(records, 0);
+    };
+    let links = check_links(v);
+    count_after(links, v.len() / Record::SIZE)
 }

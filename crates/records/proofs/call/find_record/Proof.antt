@@ -1,11 +1,11 @@
--- `records::find_record` meets its contract. A refusal stands; otherwise the next check decides.
+-- `records::call::find_record` meets its contract. A refusal stands; otherwise the next check decides.
 -- Assumes nothing.
 use mathlib.Core.Path.{refl}
 use borrow.Author.Needs.{needs}
 use Rattle.records.specs.Call.{recordCall}
 use Rattle.records.proofs.Order.{stopped, goes}
-use Rattle.records.proofs.find_record.Statement.{statement}
-use Rattle.records.proofs.find_record.Tie as tie
+use Rattle.records.proofs.call.find_record.Statement.{statement}
+use Rattle.records.proofs.call.find_record.Tie as tie
 
 check-length-requires : tie.Need-check-length-requires
 check-length-requires c κs = search needs

@@ -1,4 +1,4 @@
--- `records::check_vocabulary` meets its contract. A refusal stands; otherwise the next check decides. A length that passed has a header.
+-- `records::check::check_vocabulary` meets its contract. A refusal stands; otherwise the next check decides. A length that passed has a header.
 -- Assumes nothing.
 use mathlib.Core.Path.{_∙_}
 use denote.Ref.{now}
@@ -6,8 +6,8 @@ use borrow.Author.Needs.{needs}
 use Rattle.records.specs.Check.{vocabularyCheck}
 use Rattle.records.proofs.Order.{stopped, goes, passed}
 use Rattle.records.proofs.Passed.{Sized, length-passed}
-use Rattle.records.proofs.check_vocabulary.Statement.{statement}
-use Rattle.records.proofs.check_vocabulary.Tie as tie
+use Rattle.records.proofs.check.check_vocabulary.Statement.{statement}
+use Rattle.records.proofs.check.check_vocabulary.Tie as tie
 
 check-length-requires : tie.Need-check-length-requires
 check-length-requires c κs = search needs

@@ -1,4 +1,4 @@
--- `records::record` meets its contract. Where the call accepts, its offset leaves room for a record.
+-- `records::call::record` meets its contract. Where the call accepts, its offset leaves room for a record.
 -- Assumes nothing.
 use native.Mathlib.Nat.{add-sub-cancel-left}
 use native.Mathlib.Omega.{arith}
@@ -6,8 +6,8 @@ use mathlib.Core.Path.{_∙_, sym, ap}
 use borrow.Author.Needs.{needs}
 use Rattle.records.specs.Answers.{located}
 use Rattle.records.proofs.Bounds.{record-within}
-use Rattle.records.proofs.record.Statement.{statement}
-use Rattle.records.proofs.record.Tie as tie
+use Rattle.records.proofs.call.record.Statement.{statement}
+use Rattle.records.proofs.call.record.Tie as tie
 
 find-record-requires : tie.Need-find-record-requires
 find-record-requires c κs = search needs
