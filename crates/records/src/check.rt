@@ -8,8 +8,9 @@ use crate::fields::read_at;
 use crate::kinds::is_statement;
 use crate::kinds::is_term;
 ghost use mathlib.Core.Path.{_≡_};
-ghost use Prim.Native.Nat.{_+_, _*_, _-_, _≤_};
+ghost use Prim.Native.Nat.{ℕ, _+_, _*_, _-_, _≤_};
 ghost use mathlib.Core.Bool.{_&&_};
+ghost use mathlib.Core.List.{List};
 ghost use lib.Dec.{eqb};
 ghost use lib.ListN.{length};
 ghost use Rattle.records.specs.Outcome.{inTurn};
@@ -21,6 +22,7 @@ ghost use Rattle.records.specs.Check.{lengthFits, lengthCheck, headerFit
 ghost use Rattle.records.specs.Check.{labelled, termFits, linkFits, rowsCheck, fieldsCheck, recordCheck, linkCheck};
 ghost use Rattle.records.specs.Check.{linksCheck, vocabularyCheck};
 
+// Row 1: the length.
 fn length_fits(v: &[u8]) -> bool
     ensures { λ r. ⌜ r ≡ lengthFits (now (v .entry)) ⌝ }
 {
@@ -39,6 +41,7 @@ pub fn check_length(v: &[u8]) -> Checked
     pass_if(length_fits(v), 1, 0)
 }
 
+// Row 2: the header.
 fn header_fits(header: Record) -> bool
     ensures { λ r. ⌜ r ≡ headerFits header ⌝ }
 {
@@ -61,6 +64,7 @@ fn check_header(v: &[u8]) -> Checked
     pass_if(header_fits(read_at(v, 0)), 2, 0)
 }
 
+// Row 3: kind and second byte.
 fn kind_fits(fields: Record) -> bool
     ensures { λ r. ⌜ r ≡ kindFits fields ⌝ }
 {
@@ -79,7 +83,7 @@ fn check_kind(fields: Record, i: usize) -> Checked
     pass_if(kind_fits(fields), 3, i)
 }
 
-// A record's kind and A in one number, so that one comparison tells both.
+// A record's kind and A in one number, so that one comparison tells of both.
 fn key_of(kind: u8, a: u16) -> u32
     ensures { λ r. ⌜ r ≡ kind + 65536 * a ⌝ }
 {
@@ -95,7 +99,8 @@ fn is_named(v: &[u8], label: u16, j: usize) -> bool
     key_of(fields.kind, fields.a) == key_of(3, label)
 }
 
-// Whether an earlier name than record i has this label.
+// Row 7: whether an earlier name than record i has this label. The loop has no way out before its end, so that the
+// compiler compares several records at once.
 fn is_labelled(v: &[u8], i: usize, label: u16) -> bool
     requires { ⌜ 8 * i ≤ length (now v) ⌝ }
     ensures { λ r. ⌜ r ≡ labelled (now (v .entry)) i label ⌝ }
@@ -111,6 +116,7 @@ fn is_labelled(v: &[u8], i: usize, label: u16) -> bool
     found
 }
 
+// Row 5: a term number of record i.
 fn term_fits(v: &[u8], i: usize, number: u16) -> bool
     requires { ⌜ 8 * i ≤ length (now v) ⌝ }
     ensures { λ r. ⌜ r ≡ termFits (now (v .entry)) i number ⌝ }
@@ -125,6 +131,7 @@ fn term_fits(v: &[u8], i: usize, number: u16) -> bool
     false
 }
 
+// Row 8: the number of the next statement after record i, or 0.
 fn link_fits(v: &[u8], i: usize, next: u16) -> bool
     ensures { λ r. ⌜ r ≡ linkFits (now (v .entry)) i next ⌝ }
 {
@@ -151,7 +158,7 @@ fn terms_fit(v: &[u8], i: usize, a: u16, b: u16) -> bool
     term_fits(v, i, b)
 }
 
-// Whether fields that hold nothing are zero. For a field that holds something, 0 is passed.
+// Row 4: whether fields that hold nothing are zero. For a field that holds something, 0 is passed.
 fn spare_fits(a: u16, b: u16, next: u16) -> bool
     ensures { λ r. ⌜ r ≡ (eqb a 0 && (eqb b 0 && eqb next 0)) ⌝ }
 {
@@ -164,8 +171,9 @@ fn spare_fits(a: u16, b: u16, next: u16) -> bool
     next == 0
 }
 
-fn check_constant(v: &[u8], i: usize, fields: Record) -> Checked
-    ensures { λ r. ⌜ checked r ≡ rowsCheck (now (v .entry)) i constantFields fields ⌝ }
+// Whatever the vocabulary: top and bottom name no other record.
+fn check_constant(i: usize, fields: Record) -> Checked
+    ensures { λ r. ⌜ ((v : List ℕ) → checked r ≡ rowsCheck v i constantFields fields) ⌝ }
 {
     pass_if(spare_fits(fields.a, fields.b, fields.next), 4, i)
 }
@@ -239,7 +247,7 @@ fn check_rows(v: &[u8], i: usize, roles: u16, fields: Record) -> Checked
         5..=6 => check_junction(v, i, fields),
         7..=8 => check_restriction(v, i, roles, fields),
         9 => check_inclusion(v, i, fields),
-        _ => check_constant(v, i, fields),
+        _ => check_constant(i, fields),
     }
 }
 

@@ -5,8 +5,8 @@ use native.Mathlib.Omega.{arith}
 use mathlib.Core.Path.{_≡_, _∙_, refl, sym}
 use denote.Ref.{now}
 use borrow.Author.Needs.{needs}
-use Rattle.records.specs.Check.{linkCheck, headCheck}
 use Rattle.records.specs.Answers.{checked}
+use Rattle.records.specs.Check.{linkCheck, headCheck}
 use Rattle.records.specs.Outcome.{inTurn}
 use Rattle.records.proofs.Order.{turn-refused, turn-passed, turns-end, stops, goes}
 use Rattle.records.proofs.Rows.{head-at}

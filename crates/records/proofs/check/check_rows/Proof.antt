@@ -4,8 +4,8 @@ use native.Mathlib.Omega.{arith}
 use mathlib.Core.Logic.{⊎-elim}
 use denote.Ref.{now}
 use borrow.Author.Needs.{needs}
-use Rattle.records.proofs.Ranges.{sorts-name, sorts-negation, sorts-inclusion, sorts-junction, sorts-restriction}
 use Rattle.records.proofs.Ranges.{sorts-low, sorts-high}
+use Rattle.records.proofs.Ranges.{sorts-name, sorts-negation, sorts-inclusion, sorts-junction, sorts-restriction}
 use Rattle.records.proofs.Rows.{rows-at}
 use Rattle.records.proofs.check.check_rows.Statement.{statement}
 use Rattle.records.proofs.check.check_rows.Tie as tie
@@ -60,7 +60,7 @@ returns-5 c =
 returns-6 : tie.Need-returns-6
 returns-6 c =
     let a = c .before .before .before .before .args in
-    rows-at (now (a .v)) (a .i) (a .fields) _ _ (c .check-constant .ensures)
+    rows-at (now (a .v)) (a .i) (a .fields) _ _ (c .check-constant .ensures (now (a .v)))
     (⊎-elim (λ w. sorts-low (a .fields .kind) (omega arith)) (λ w. sorts-high (a .fields .kind) (omega arith)) (c .before .if1 .came))
 
 pub check-rows-spec : {M : Type 1} → statement M
