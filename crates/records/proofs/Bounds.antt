@@ -1,6 +1,6 @@
 -- Bounds on what the calls answer: what a caller needs to index a vocabulary, or to pack an answer into a word.
 --   vocabulary-count   the vocabulary check's count
---   vocabulary-small   its count or place is at most 512
+--   vocabulary-small   its count or place is at most 512, its number not 0
 --   record-within      the record call's offset leaves room for a record
 --   record-small       its offset or place is at most 4,096 or the number asked for
 -- Assumes nothing.
@@ -21,50 +21,54 @@ use Rattle.records.specs.Check.{vocabularyCheck}
 use Rattle.records.specs.Call.{recordCall}
 use Rattle.records.proofs.Passed.{Sized, require-passed, then-passed, length-passed}
 
--- An outcome whose value, or place, is at most m.
-abbrev pub Small : ℕ → Outcome ℕ → Type 0
-Small m (accepted n) = n ≤ m
-Small m (refused k p) = p ≤ m
+-- A refusal's number is not 0 and fits a byte, and its place is at most m.
+abbrev pub Near : ℕ → ℕ → ℕ → Type 0
+Near m n p = (0 < n) × (n < 256) × (p ≤ m)
 
--- A check whose place is at most m.
-abbrev Near : ℕ → Check → Type 0
-Near m (accepted u) = Unit {0}
-Near m (refused k p) = p ≤ m
+-- An outcome whose value is at most m, or whose refusal is near.
+abbrev pub Small : ℕ → Outcome ℕ → Type 0
+Small m (accepted x) = x ≤ m
+Small m (refused n p) = Near m n p
+
+-- A check whose refusal is near.
+abbrev Nearby : ℕ → Check → Type 0
+Nearby m (accepted u) = Unit {0}
+Nearby m (refused n p) = Near m n p
 
 module _ (m : ℕ) where
-  require-near : (b : Bool) (n p : ℕ) → p ≤ m → Near m (require b n p)
+  require-near : (b : Bool) (n p : ℕ) → Near m n p → Nearby m (require b n p)
   require-near true n p h = tt
   require-near false n p h = h
 
-  then-near : (a b : Check) → Near m a → Near m b → Near m (a then b)
+  then-near : (a b : Check) → Nearby m a → Nearby m b → Nearby m (a then b)
   then-near (accepted u) b x y = y
-  then-near (refused k p) b x y = x
+  then-near (refused n p) b x y = x
 
-  then-small : (a : Check) (b : Outcome ℕ) → Near m a → (a ≡ pass → Small m b) → Small m (a then b)
+  then-small : (a : Check) (b : Outcome ℕ) → Nearby m a → (a ≡ pass → Small m b) → Small m (a then b)
   then-small (accepted u) b x y = y refl
-  then-small (refused k p) b x y = x
+  then-small (refused n p) b x y = x
 
-  turns-near : (check : ℕ → Check) (n i : ℕ) → i + n ≤ m → ((k : ℕ) → k ≤ m → Near m (check k)) → Near m (inTurn check i n)
+  turns-near : (check : ℕ → Check) (n i : ℕ) → i + n ≤ m → ((k : ℕ) → k ≤ m → Nearby m (check k)) → Nearby m (inTurn check i n)
   unfolding inTurn
   turns-near check zero i h near = tt
   turns-near check (suc n) i h near =
       then-near (check i) (inTurn check (suc i) n) (near i (omega arith)) (turns-near check n (suc i) (omega arith) near)
 
 module _ (m : ℕ) (v : List ℕ) where
-  record-near : (i : ℕ) → i ≤ m → Near m (recordCheck v i)
+  record-near : (i : ℕ) → i ≤ m → Nearby m (recordCheck v i)
   unfolding recordCheck
   record-near i h =
       let r = recordAt v i in
       let s = sortsOf (r .kind) in
-      let row : (n : ℕ) → Near m (rowCheck v i n s r) = λ n. require-near m (rowFits v i n s r) n i h in
-      then-near m (kindCheck r i) _ (require-near m (kindFits r) 3 i h)
-      (then-near m (rowCheck v i 4 s r) _ (row 4)
-      (then-near m (rowCheck v i 5 s r) _ (row 5)
-      (then-near m (rowCheck v i 6 s r) _ (row 6) (row 7))))
+      let row : (n : ℕ) → Near m n i → Nearby m (rowCheck v i n s r) = λ n near. require-near m (rowFits v i n s r) n i near in
+      then-near m (kindCheck r i) _ (require-near m (kindFits r) 3 i (omega arith))
+      (then-near m (rowCheck v i 4 s r) _ (row 4 (omega arith))
+      (then-near m (rowCheck v i 5 s r) _ (row 5 (omega arith))
+      (then-near m (rowCheck v i 6 s r) _ (row 6 (omega arith)) (row 7 (omega arith)))))
 
-  link-near : (i : ℕ) → i ≤ m → Near m (linkCheck v i)
+  link-near : (i : ℕ) → i ≤ m → Nearby m (linkCheck v i)
   unfolding linkCheck
-  link-near i h = require-near m (nextFits v i) 8 i h
+  link-near i h = require-near m (nextFits v i) 8 i (omega arith)
 
 pub vocabulary-count : (v : List ℕ) (n : ℕ) → vocabularyCheck v ≡ accepted n → n ≡ count v
 unfolding vocabularyCheck
@@ -79,9 +83,9 @@ vocabulary-count v n e =
 pub vocabulary-small : (v : List ℕ) → Small 512 (vocabularyCheck v)
 unfolding vocabularyCheck
 vocabulary-small v =
-    let run : (check : ℕ → Check) → Sized v → ((k : ℕ) → k ≤ 512 → Near 512 (check k)) → Near 512 (inTurn check 1 (count v - 1))
+    let run : (check : ℕ → Check) → Sized v → ((k : ℕ) → k ≤ 512 → Nearby 512 (check k)) → Nearby 512 (inTurn check 1 (count v - 1))
     = λ check sized near. turns-near 512 check (count v - 1) 1 (omega arith) near in
-    let head : Near 512 (headCheck v) = require-near 512 (linkFits v 0 (firstStatement v)) 8 0 (omega arith) in
+    let head : Nearby 512 (headCheck v) = require-near 512 (linkFits v 0 (firstStatement v)) 8 0 (omega arith) in
     then-small 512 (lengthCheck v) _ (require-near 512 (lengthFits v) 1 0 (omega arith))
     (λ e. let sized = length-passed v e in
     then-small 512 (headerCheck v) _ (require-near 512 (headerFits (recordAt v 0)) 2 0 (omega arith))

@@ -1,0 +1,40 @@
+-- The numbers can be taken apart again: from the bits of an answer follow the refusal's number and its place, or the value.
+--   Unpacked          what the bits of a packed outcome are
+--   unpacked          a small outcome can be taken apart
+--   check-unpacked    the vocabulary check's
+--   record-unpacked   the record call's
+-- Assumes nothing.
+use Prim.Native.Nat.{ℕ, _+_, _*_, _/_, _%_, _^_, _<_, _≤_, max}
+use native.Mathlib.Omega.{arith}
+use mathlib.Core.Path.{_≡_, refl}
+use mathlib.Core.List.{List}
+use Rattle.records.specs.Outcome.{Outcome, accepted, refused}
+use Rattle.records.specs.Check.{vocabularyCheck}
+use Rattle.records.specs.Call.{recordCall}
+use Rattle.records.proofs.Bounds.{Small, vocabulary-small, record-small}
+use Rattle.judge.specs.Packed.{numberOf, valueOf, packed}
+
+pub record Unpacked (o : Outcome ℕ) : Type 0 where
+  -- bits 0 to 7
+  pub number : packed o % 256 ≡ numberOf o
+  -- bits 8 to 39, above which there is nothing
+  pub value : packed o / 256 ≡ valueOf o
+  pub fits : valueOf o < 2 ^ 32
+  -- a refusal is not taken for an answer
+  pub told : (n p : ℕ) → o ≡ refused n p → 0 < numberOf o
+
+pub unpacked : (m : ℕ) (o : Outcome ℕ) → m < 2 ^ 32 → Small m o → Unpacked o
+unpacked m (accepted x) h s =
+    record {
+      number = omega arith;
+      value = omega arith;
+      fits = omega arith;
+      told = λ n p e. absurd (let z : _≡_ {A = ℕ} 0 1 = cc in omega arith);
+    }
+unpacked m (refused n p) h s = record { number = omega arith; value = omega arith; fits = omega arith; told = λ _ _ _. s .0 }
+
+pub check-unpacked : (v : List ℕ) → Unpacked (vocabularyCheck v)
+check-unpacked v = unpacked 512 (vocabularyCheck v) (omega arith) (vocabulary-small v)
+
+pub record-unpacked : (v : List ℕ) (number : ℕ) → number < 2 ^ 32 → Unpacked (recordCall v number)
+record-unpacked v number h = unpacked (max 4096 number) (recordCall v number) (omega arith) (record-small v number)
