@@ -4,14 +4,15 @@
 --   check-unpacked    the vocabulary check's
 --   record-unpacked   the record call's
 -- Assumes nothing.
-use Prim.Native.Nat.{ℕ, _+_, _*_, _/_, _%_, _^_, _<_, _≤_, max}
+use Prim.Native.Nat.{ℕ, _/_, _%_, _^_, _<_, max}
 use native.Mathlib.Omega.{arith}
-use mathlib.Core.Path.{_≡_, refl}
+use mathlib.Core.Path.{_≡_}
 use mathlib.Core.List.{List}
 use Rattle.records.specs.Outcome.{Outcome, accepted, refused}
 use Rattle.records.specs.Check.{vocabularyCheck}
 use Rattle.records.specs.Call.{recordCall}
 use Rattle.records.proofs.Bounds.{Small, vocabulary-small, record-small}
+use Rattle.records.proofs.Passed.{clash}
 use Rattle.judge.specs.Packed.{numberOf, valueOf, packed}
 
 pub record Unpacked (o : Outcome ℕ) : Type 0 where
@@ -29,7 +30,7 @@ unpacked m (accepted x) h s =
       number = omega arith;
       value = omega arith;
       fits = omega arith;
-      told = λ n p e. absurd (let z : _≡_ {A = ℕ} 0 1 = cc in omega arith);
+      told = λ n p e. absurd (clash (cc));
     }
 unpacked m (refused n p) h s = record { number = omega arith; value = omega arith; fits = omega arith; told = λ _ _ _. s .0 }
 

@@ -5,7 +5,7 @@
 -- Assumes nothing.
 use Prim.Native.Nat.{ℕ, zero, suc, _-_, _≤_, _<_}
 use native.Mathlib.Omega.{arith}
-use mathlib.Core.Path.{_≡_, refl, sym, _∙_, ap}
+use mathlib.Core.Path.{_≡_, refl, sym, _∙_}
 use mathlib.Core.Bool.{Bool, true, false, not, _&&_, _||_}
 use mathlib.Core.List.{List, [], _∷_}
 use lib.ListN.{length, getD, drop}
@@ -15,15 +15,16 @@ use borrow.Author.Tests.{ltb-true, leb-true, eqb-true, eq-eqb, not-true}
 use Rattle.records.specs.Outcome.{accepted, pass, _then_, require, inTurn}
 use Rattle.records.specs.Format.{recordAt, count, firstStatement, roleCount}
 use Rattle.records.specs.Kinds.{Construct, none, top, bottom, name, negation, conjunction, disjunction, existential}
-use Rattle.records.specs.Kinds.{universal, inclusion, constructOf, constantFields, nameFields, negationFields}
+use Rattle.records.specs.Kinds.{universal, inclusion, constructOf, nameFields, negationFields}
 use Rattle.records.specs.Kinds.{junctionFields, restrictionFields, inclusionFields, Kind, noKind, kinds, kindOf}
 use Rattle.records.specs.Kinds.{sortsOf, isTerm, isStatement}
 use Rattle.records.specs.Check.{headCheck, lengthCheck, headerFits, headerCheck, kindFits, kindCheck, named, labelled}
 use Rattle.records.specs.Check.{termFits}
-use Rattle.records.specs.Check.{linkFits, rowsCheck, fieldsCheck, recordCheck, nextFits, linkCheck, linksCheck}
+use Rattle.records.specs.Check.{linkFits, rowsCheck, recordCheck, nextFits, linkCheck, linksCheck}
 use Rattle.records.specs.Check.{vocabularyCheck}
 use Rattle.records.specs.declared.fields.Record.{Record}
-use Rattle.records.proofs.Passed.{Sized, length-passed, both-left, both-right, require-passed, then-passed, turn-at}
+use Rattle.records.proofs.Passed.{clash, Sized, length-passed, both-left, both-right, require-passed, then-passed}
+use Rattle.records.proofs.Passed.{turn-at}
 use Rattle.records.proofs.Passed.{any-at}
 use Rattle.records.proofs.Rows.{name-rows, negation-rows, junction-rows, restriction-rows, inclusion-rows}
 
@@ -222,7 +223,7 @@ accepted-vocabulary v n e =
           let clear = record-unlabelled v i (passed i (omega arith) h) q in
           let at = any-at (named v (recordAt v i .a)) i clear j p in
           let hit : named v (recordAt v i .a) j ≡ true = rw (eq-eqb _ 3 k, eq-eqb _ _ (sym same)) in
-          let z : _≡_ {A = ℕ} 0 1 = cc in omega arith;
+          clash (cc);
       first = linked v 0 (firstStatement v) (require-passed (linkFits v 0 (firstStatement v)) 8 0 (l .0));
       rises = λ i p h q. record-linked v i (turn-at (linkCheck v) (count v - 1) 1 (l .1) i p (omega arith)) q;
     }

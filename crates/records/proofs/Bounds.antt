@@ -6,7 +6,7 @@
 -- Assumes nothing.
 use Prim.Native.Nat.{ℕ, zero, suc, _+_, _-_, _*_, _≤_, _<_, max}
 use native.Mathlib.Omega.{arith}
-use mathlib.Core.Path.{_≡_, refl, _∙_, sym, ap, subst}
+use mathlib.Core.Path.{_≡_, refl}
 use mathlib.Core.Bool.{Bool, true, false}
 use mathlib.Core.List.{List}
 use lib.ListN.{length}
@@ -14,7 +14,7 @@ use lib.Dec.{ltb}
 use borrow.Author.Tests.{ltb-true}
 use Rattle.records.specs.Outcome.{Outcome, Check, accepted, refused, pass, _then_, require, inTurn}
 use Rattle.records.specs.Format.{count, recordAt, firstStatement}
-use Rattle.records.specs.Kinds.{isStatement, sortsOf}
+use Rattle.records.specs.Kinds.{sortsOf}
 use Rattle.records.specs.Check.{lengthFits, lengthCheck, headerFits, headerCheck, kindFits, kindCheck, rowCheck}
 use Rattle.records.specs.Check.{rowFits, recordCheck, linkFits, headCheck, nextFits, linkCheck, linksCheck}
 use Rattle.records.specs.Check.{vocabularyCheck}

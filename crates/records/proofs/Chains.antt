@@ -7,14 +7,15 @@
 -- Assumes nothing.
 use Prim.Native.Nat.{ℕ, zero, suc, _+_, _-_, _≤_, _<_}
 use native.Mathlib.Omega.{arith}
-use mathlib.Core.Path.{_≡_, refl, sym, _∙_, ap, subst}
+use mathlib.Core.Path.{_≡_, refl, sym, ap, subst}
 use mathlib.Core.Bool.{Bool, true, false, _||_}
 use mathlib.Core.List.{List, [], _∷_}
-use mathlib.Core.Logic.{_⊎_, inl, inr, ⊎-elim}
+use mathlib.Core.Logic.{inl, inr}
 use lib.Dec.{eqb}
 use borrow.Author.Tests.{eqb-true}
 use Rattle.records.specs.Format.{recordAt, count, firstStatement}
 use Rattle.records.specs.Chain.{follow, chainFrom, chain, occurs, chained}
+use Rattle.records.proofs.Passed.{clash}
 use Rattle.records.proofs.Accepted.{Accepted, Later, Linked}
 
 -- Numbers that rise, from above i.
@@ -29,7 +30,7 @@ left n (suc i) = n - i
 
 none-occurs : (j : ℕ) → occurs j [] ≡ true → ⊥
 unfolding occurs
-none-occurs j e = let z : _≡_ {A = ℕ} 0 1 = cc in omega arith
+none-occurs j e = clash (cc)
 
 module _ (v : List ℕ) where
   pub chain-nil : (n : ℕ) → follow v n 0 ≡ []

@@ -1,4 +1,5 @@
 -- What a passed check tells: the inversions of `require`, `then`, `inTurn` and `anyBelow`, and of the length check.
+--   clash                                              two different constructors are not equal
 --   both-left, both-right, either-left, either-right   the parts of a true conjunction, or of a false disjunction
 --   require-passed, then-passed                        a row that passed; both checks of a chain that was accepted
 --   turn-at, any-at                                    each check of a run that passed; each test of a search that failed
@@ -7,7 +8,7 @@
 use Prim.Native.Nat.{ℕ, zero, suc, _+_, _%_, _<_, _≤_}
 use native.Mathlib.Omega.{arith}
 use native.Mathlib.Decide.{ℕ-discrete}
-use mathlib.Core.Path.{_≡_, refl, sym, _∙_, ap, subst}
+use mathlib.Core.Path.{_≡_, refl, sym, subst}
 use mathlib.Core.Bool.{Bool, true, false, _&&_, _||_}
 use mathlib.Core.List.{List}
 use lib.ListN.{length}
@@ -16,29 +17,33 @@ use borrow.Author.Tests.{leb-true, eqb-true}
 use Rattle.records.specs.Outcome.{Outcome, Check, accepted, refused, pass, _then_, require, inTurn}
 use Rattle.records.specs.Check.{anyBelow, lengthCheck, lengthFits}
 
+-- what two different constructors would show, were they equal
+pub clash : _≡_ {A = ℕ} 0 1 → ⊥
+clash e = omega arith
+
 pub both-left : (a b : Bool) → (a && b) ≡ true → a ≡ true
 both-left true b e = refl
 both-left false b e = e
 
 pub both-right : (a b : Bool) → (a && b) ≡ true → b ≡ true
 both-right true b e = e
-both-right false b e = absurd (let z : _≡_ {A = ℕ} 0 1 = cc in omega arith)
+both-right false b e = absurd (clash (cc))
 
 pub either-left : (a b : Bool) → (a || b) ≡ false → a ≡ false
 either-left true b e = e
 either-left false b e = refl
 
 pub either-right : (a b : Bool) → (a || b) ≡ false → b ≡ false
-either-right true b e = absurd (let z : _≡_ {A = ℕ} 0 1 = cc in omega arith)
+either-right true b e = absurd (clash (cc))
 either-right false b e = e
 
 pub require-passed : (b : Bool) (n p : ℕ) → require b n p ≡ pass → b ≡ true
 require-passed true n p e = refl
-require-passed false n p e = absurd (let z : _≡_ {A = ℕ} 0 1 = cc in omega arith)
+require-passed false n p e = absurd (clash (cc))
 
 pub then-passed : {B : Type 0} (a : Check) (b : Outcome B) (x : B) → (a then b) ≡ accepted x → (a ≡ pass) × (b ≡ accepted x)
 then-passed (accepted u) b x e = (refl, e)
-then-passed (refused n p) b x e = absurd (let z : _≡_ {A = ℕ} 0 1 = cc in omega arith)
+then-passed (refused n p) b x e = absurd (clash (cc))
 
 pub turn-at : (check : ℕ → Check) (n i : ℕ) → inTurn check i n ≡ pass → (k : ℕ) → i ≤ k → k < i + n → check k ≡ pass
 unfolding inTurn

@@ -1,5 +1,5 @@
 -- Kinds by ranges: the tests of a `match` over kind ranges, and what they say of the definitions by kind.
---   sorts-name, -negation, -junction, -restriction, -inclusion, -low, -high   what the fields of the kinds of an arm hold
+--   sorts-at, sorts-pair, sorts-low, sorts-high     what the fields of the kinds of an arm hold
 --   atom-role, atom-not                             which kinds are atoms
 --   key-same                                        a key made of kind and A
 -- Assumes nothing.
@@ -7,42 +7,27 @@ use Prim.Native.Nat.{ℕ, zero, suc, _+_, _*_, _<_, _≤_}
 use native.Mathlib.Omega.{arith}
 use native.Mathlib.Decide.{ℕ-discrete}
 use mathlib.Core.Path.{_≡_, refl, ap, sym, _∙_}
-use mathlib.Core.Bool.{Bool, true, false, _&&_}
+use mathlib.Core.Bool.{true, false, _&&_}
 use mathlib.Core.Logic.{_⊎_, inl, inr, ⊎-elim}
 use lib.ListN.{List·getD-eq-default}
 use lib.Dec.{eqb}
-use borrow.Author.Tests.{le-leb, lt-leb, eq-eqb, ne-eqb}
-use Rattle.records.specs.Kinds.{Kind, noKind, kindOf, sortsOf, isTerm, isAtom, constantFields, nameFields}
-use Rattle.records.specs.Kinds.{negationFields, junctionFields}
-use Rattle.records.specs.Kinds.{restrictionFields, inclusionFields, kinds}
+use borrow.Author.Tests.{eq-eqb, ne-eqb}
+use Rattle.records.specs.Kinds.{Kind, noKind, kinds, kindOf, sortsOf, isAtom, constantFields}
 
 -- the two kinds of a range of two
-pub one-of-two : (k a : ℕ) → a ≤ k → k < a + 2 → (k ≡ a) ⊎ (k ≡ a + 1)
+one-of-two : (k a : ℕ) → a ≤ k → k < a + 2 → (k ≡ a) ⊎ (k ≡ a + 1)
 one-of-two k a l h = pick (ℕ-discrete k a)
   where
     pick : Dec (k ≡ a) → (k ≡ a) ⊎ (k ≡ a + 1)
     pick (yes e) = inl e
     pick (no n) = inr (omega arith)
 
-pub sorts-name : (k : ℕ) → k ≡ 3 → nameFields ≡ sortsOf k
-unfolding kindOf
-sorts-name k e = rw e
+-- an arm of one kind, and an arm of two kinds whose fields hold the same
+pub sorts-at : (k a : ℕ) → k ≡ a → sortsOf a ≡ sortsOf k
+sorts-at k a e = ap sortsOf (sym e)
 
-pub sorts-negation : (k : ℕ) → k ≡ 4 → negationFields ≡ sortsOf k
-unfolding kindOf
-sorts-negation k e = rw e
-
-pub sorts-inclusion : (k : ℕ) → k ≡ 9 → inclusionFields ≡ sortsOf k
-unfolding kindOf
-sorts-inclusion k e = rw e
-
-pub sorts-junction : (k : ℕ) → 5 ≤ k → k < 7 → junctionFields ≡ sortsOf k
-unfolding kindOf
-sorts-junction k l h = ⊎-elim (λ e. rw e) (λ e. rw e) (one-of-two k 5 l h)
-
-pub sorts-restriction : (k : ℕ) → 7 ≤ k → k < 9 → restrictionFields ≡ sortsOf k
-unfolding kindOf
-sorts-restriction k l h = ⊎-elim (λ e. rw e) (λ e. rw e) (one-of-two k 7 l h)
+pub sorts-pair : (k a : ℕ) → sortsOf a ≡ sortsOf (a + 1) → a ≤ k → k < a + 2 → sortsOf a ≡ sortsOf k
+sorts-pair k a same l h = ⊎-elim (sorts-at k a) (λ e. same ∙ sorts-at k (a + 1) e) (one-of-two k a l h)
 
 pub sorts-low : (k : ℕ) → k < 3 → constantFields ≡ sortsOf k
 unfolding kindOf

@@ -9,7 +9,7 @@ use mathlib.Core.Bool.{Bool, not, _&&_, and-true}
 use mathlib.Core.List.{List}
 use lib.Dec.{ltb, eqb}
 use Rattle.records.specs.Outcome.{Check, accepted, refused, pass, _then_, require}
-use Rattle.records.specs.Format.{recordAt, firstStatement, roleCount}
+use Rattle.records.specs.Format.{recordAt, roleCount}
 use Rattle.records.specs.Kinds.{constantFields, nameFields, negationFields, junctionFields, restrictionFields}
 use Rattle.records.specs.Kinds.{inclusionFields, Sorts, sortsOf}
 use Rattle.records.specs.Check.{termFits, labelled, rowsCheck, linkFits, headCheck}

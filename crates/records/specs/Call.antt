@@ -1,5 +1,5 @@
 -- The record call.
-use Prim.Native.Nat.{ℕ, _*_}
+use Prim.Native.Nat.{ℕ, _+_, _*_}
 use mathlib.Core.List.{List, []}
 use lib.ListN.{take, drop}
 use lib.Dec.{ltb}
@@ -18,3 +18,11 @@ partFor (refused n p) v = []
 
 abbrev pub recordPart : List ℕ → ℕ → List ℕ
 recordPart v number = partFor (recordCall v number) v
+
+-- "as part of the lent vocabulary": where it lies. A reference points to a block of memory and an offset in it.
+abbrev pub placeFor : Outcome ℕ → ℕ × ℕ → ℕ × ℕ
+placeFor (accepted at) start = (start .0, at + start .1)
+placeFor (refused n p) start = start
+
+abbrev pub recordPlace : List ℕ → ℕ → ℕ × ℕ → ℕ × ℕ
+recordPlace v number start = placeFor (recordCall v number) start

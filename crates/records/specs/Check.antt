@@ -1,10 +1,10 @@
 -- Rows 1 to 8 of the table of refusals, and the vocabulary check.
 use Prim.Native.Nat.{ℕ, zero, suc, _-_, _%_}
-use mathlib.Core.Bool.{Bool, true, false, not, _&&_, _||_}
+use mathlib.Core.Bool.{Bool, false, not, _&&_, _||_}
 use mathlib.Core.List.{List}
 use lib.ListN.{length}
 use lib.Dec.{ltb, leb, eqb}
-use Rattle.records.specs.Outcome.{Outcome, Check, accepted, pass, _then_, require, inTurn}
+use Rattle.records.specs.Outcome.{Outcome, Check, accepted, _then_, require, inTurn}
 use Rattle.records.specs.Format.{recordAt, count, firstStatement, roleCount}
 use Rattle.records.specs.Kinds.{Sort, Spare, Term, Role, Label, Link, Sorts, isTerm, isStatement, sortsOf}
 use Rattle.records.specs.declared.fields.Record.{Record}

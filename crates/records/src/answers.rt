@@ -1,4 +1,4 @@
-// The answers of the checks and calls. `specs/Outcome.antt` says which outcome of paper 01 each stands for.
+// The answers of the checks and calls. `specs/Answers.antt` says which outcome of paper 01 each stands for.
 ghost use mathlib.Core.Path.{_≡_};
 ghost use Rattle.records.specs.Outcome.{_then_, accepted, require};
 ghost use Rattle.records.specs.Answers.{checked, counted, located};

@@ -7,7 +7,7 @@ use crate::check::check_length;
 use crate::fields::Record;
 ghost use mathlib.Core.Path.{_≡_};
 ghost use Rattle.records.specs.Answers.{located};
-ghost use Rattle.records.specs.Call.{recordCall, recordPart};
+ghost use Rattle.records.specs.Call.{recordCall, recordPart, recordPlace};
 
 // Where the record call finds record `number`: its offset, or the refusal.
 pub fn find_record(v: &[u8], number: u32) -> Located
@@ -27,7 +27,8 @@ pub fn find_record(v: &[u8], number: u32) -> Located
 
 // The record call: the record's eight bytes as a part of the vocabulary, or an empty part where `find_record` refuses.
 pub fn record(v: &[u8], number: u32) -> &[u8]
-    ensures { λ r. ⌜ now r ≡ recordPart (now (v .entry)) number ⌝ }
+    ensures bytes { λ r. ⌜ now r ≡ recordPart (now (v .entry)) number ⌝ }
+    ensures within { λ r. ⌜ r .ptr ≡ recordPlace (now (v .entry)) number (v .entry .ptr) ⌝ }
 {
     let found = find_record(v, number);
     let Located::At(at) = found else {

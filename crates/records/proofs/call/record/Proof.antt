@@ -22,7 +22,10 @@ slice-aggregate-result : tie.Need-slice-aggregate-result
 slice-aggregate-result c = search needs
 
 returns : tie.Need-returns
-returns c = rw (← c .before .before .before .find-record .ensures, c .before .enum-told .given .1)
+returns c = (
+  rw (← c .before .before .before .find-record .ensures, c .before .enum-told .given .1),
+  rw (← c .before .before .before .find-record .ensures, c .before .enum-told .given .1),
+)
 
 add-end : tie.Need-add-end
 add-end c =
@@ -41,8 +44,10 @@ part-result-end c =
     (arith, record-within _ _ _ (sym (c .before .before .before .find-record .ensures) ∙ ap located (c .before .found .given .1)))
 
 returns-2 : tie.Need-returns-2
-returns-2 c =
-    rw (← c .before .before .before .before .find-record .ensures, c .before .before .found .given .1, add-sub-cancel-left)
+returns-2 c = (
+  rw (← c .before .before .before .before .find-record .ensures, c .before .before .found .given .1, add-sub-cancel-left),
+  rw (← c .before .before .before .before .find-record .ensures, c .before .before .found .given .1),
+)
 
 pub record-spec : {M : Type 1} → statement M
 record-spec =

@@ -2,10 +2,11 @@
 -- Assumes nothing.
 use native.Mathlib.Omega.{arith}
 use mathlib.Core.Logic.{⊎-elim}
+use mathlib.Core.Path.{refl}
 use denote.Ref.{now}
 use borrow.Author.Needs.{needs}
-use Rattle.records.proofs.Ranges.{sorts-low, sorts-high}
-use Rattle.records.proofs.Ranges.{sorts-name, sorts-negation, sorts-inclusion, sorts-junction, sorts-restriction}
+use Rattle.records.specs.Kinds.{kindOf}
+use Rattle.records.proofs.Ranges.{sorts-at, sorts-pair, sorts-low, sorts-high}
 use Rattle.records.proofs.Rows.{rows-at}
 use Rattle.records.proofs.check.check_rows.Statement.{statement}
 use Rattle.records.proofs.check.check_rows.Tie as tie
@@ -29,33 +30,38 @@ check-constant-requires : tie.Need-check-constant-requires
 check-constant-requires c κs = search needs
 
 returns : tie.Need-returns
+unfolding kindOf
 returns c =
     let a = c .before .before .before .args in
-    rows-at (now (a .v)) (a .i) (a .fields) _ _ (c .check-name .ensures) (sorts-name (a .fields .kind) (c .before .match .keys1))
+    rows-at (now (a .v)) (a .i) (a .fields) _ _ (c .check-name .ensures) (sorts-at (a .fields .kind) 3 (c .before .match .keys1))
 
 returns-2 : tie.Need-returns-2
+unfolding kindOf
 returns-2 c =
     let a = c .before .before .before .args in
     rows-at (now (a .v)) (a .i) (a .fields) _ _ (c .check-negation .ensures)
-    (sorts-negation (a .fields .kind) (c .before .match .keys2))
+    (sorts-at (a .fields .kind) 4 (c .before .match .keys2))
 
 returns-3 : tie.Need-returns-3
+unfolding kindOf
 returns-3 c =
     let a = c .before .before .before .args in
     rows-at (now (a .v)) (a .i) (a .fields) _ _ (c .check-inclusion .ensures)
-    (sorts-inclusion (a .fields .kind) (c .before .match .keys3))
+    (sorts-at (a .fields .kind) 9 (c .before .match .keys3))
 
 returns-4 : tie.Need-returns-4
+unfolding kindOf
 returns-4 c =
     let a = c .before .before .before .before .before .args in
     rows-at (now (a .v)) (a .i) (a .fields) _ _ (c .check-junction .ensures)
-    (sorts-junction (a .fields .kind) (omega arith) (c .before .if2 .taken))
+    (sorts-pair (a .fields .kind) 5 refl (omega arith) (c .before .if2 .taken))
 
 returns-5 : tie.Need-returns-5
+unfolding kindOf
 returns-5 c =
     let a = c .before .before .before .before .before .before .args in
     rows-at (now (a .v)) (a .i) (a .fields) _ _ (c .check-restriction .ensures)
-    (sorts-restriction (a .fields .kind) (omega arith) (c .before .if3 .taken))
+    (sorts-pair (a .fields .kind) 7 refl (omega arith) (c .before .if3 .taken))
 
 returns-6 : tie.Need-returns-6
 returns-6 c =
