@@ -1,0 +1,2 @@
+// Types: truth at a type, type elimination, and the comparison of two terms.
+pub mod answers;
