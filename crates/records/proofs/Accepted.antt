@@ -59,6 +59,7 @@ Formed v i (inclusion a b) = Operand v i a × Operand v i b
 
 pub record Accepted (v : List ℕ) : Type 0 where
   pub sized : Sized v
+  pub header : recordAt v 0 .kind ≡ 16
   pub roles : roleCount v ≤ 64
   pub formed : (i : ℕ) → 0 < i → i < count v → Formed v i (constructOf (recordAt v i))
   pub labels : (i j : ℕ) → j < i → i < count v
@@ -217,6 +218,7 @@ accepted-vocabulary v n e =
     = λ i p h. turn-at (recordCheck v) (count v - 1) 1 (c .0) i p (omega arith) in
     record {
       sized = sized;
+      header = eqb-true (r .kind) 16 (both-left (eqb (r .kind) 16) (eqb (r .second) 1 && (leb (r .b) 64 && eqb (r .next) 0)) fit);
       roles = leb-true (r .b) 64 (both-left (leb (r .b) 64) (eqb (r .next) 0) roles);
       formed = λ i p h. record-formed v i (passed i p h);
       labels = λ i j p h q k same.

@@ -3,6 +3,8 @@ pub mod Order
 pub mod Ranges
 pub mod Rows
 pub mod Passed
+pub mod Search
 pub mod Bounds
 pub mod Accepted
+pub mod Constructs
 pub mod Chains
