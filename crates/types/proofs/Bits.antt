@@ -17,7 +17,7 @@ use lib.Pow.{shr-shr}
 use borrow.Author.Tests.{eq-eqb, ne-eqb}
 use Rattle.types.specs.Below.{digit, bit, number}
 
-digit-small : (b : Bool) → digit b < 2
+pub digit-small : (b : Bool) → digit b < 2
 digit-small true = omega arith
 digit-small false = omega arith
 

@@ -1,15 +1,22 @@
 -- The words by which the code tests `served`, and the table it keeps of them. No promise to a caller speaks of them:
 -- proofs/Served.antt shows that the test is the paper's.
-use Prim.Native.Nat.{ℕ, zero, suc, _-_, _^_}
-use mathlib.Core.Bool.{Bool, true, false, cond, not, _&&_, _||_}
+use Prim.Native.Nat.{ℕ, zero, suc, _-_, _^_, _≤_, _<_}
+use mathlib.Core.Path.{_≡_}
+use mathlib.Core.Bool.{Bool, true, false, Bool·beq, cond, not, _&&_, _||_}
 use mathlib.Core.List.{List, [], _∷_, _++_}
 use lib.ListN.{length, getD}
 use lib.Dec.{eqb}
 use lib.Bits.{bitOr}
+use Rattle.records.specs.Outcome.{accepted}
 use Rattle.records.specs.Format.{recordAt, count}
-use Rattle.records.specs.Check.{anyBelow}
+use Rattle.records.specs.Check.{anyBelow, vocabularyCheck}
+use Rattle.records.specs.Chain.{chained}
+use Rattle.types.specs.declared.profile.Profile.{Profile}
 use Rattle.types.specs.Below.{has, bit, number}
-use Rattle.types.specs.Types.{types, truth}
+use Rattle.types.specs.Types.{atoms, types, truth}
+use Rattle.types.specs.Survivors.{fits}
+use Rattle.types.specs.Compare.{atomLimit}
+use Rattle.types.specs.Rules.{Decoded}
 
 -- Kinds 7 and 8.
 abbrev pub isRestriction : ℕ → Bool
@@ -70,3 +77,55 @@ reached v t r = bitOr (demand v t) (others v r)
 
 abbrev pub roleServed : List ℕ → List Bool → ℕ → ℕ → Bool
 roleServed v S t r = eqb (bitOr (cover v S (reached v t r)) (others v r)) (reached v t r)
+
+-- Tables that hold the restrictions, and of each its filler, its role and whether it is negated.
+abbrev pub Listed : List ℕ → List ℕ → Type 0
+Listed v places = (m : ℕ) → m < width v → getD places m 0 ≡ restriction v m
+
+abbrev pub Fillers : List ℕ → List ℕ → Type 0
+Fillers v fillers = (m : ℕ) → m < width v → getD fillers m 0 ≡ recordAt v (restriction v m) .b
+
+abbrev pub Roles : List ℕ → List ℕ → Type 0
+Roles v roles = (m : ℕ) → m < width v → getD roles m 0 ≡ recordAt v (restriction v m) .a
+
+abbrev pub Signs : List ℕ → List Bool → Type 0
+Signs v signs = (m : ℕ) → m < width v → getD signs m false ≡ negated v (restriction v m)
+
+-- What the profile of a type is taken from: an accepted vocabulary of few enough atoms, decoded, its chain marked.
+pub record Prepared (v rules firsts seconds : List ℕ) (marks : List Bool) (places fillers : List ℕ) (signs : List Bool) : Type 0 where
+  pub accepts : vocabularyCheck v ≡ accepted (count v)
+  pub few : atoms v ≤ atomLimit
+  pub decoded : Decoded v rules firsts seconds
+  pub marked : (i : ℕ) → getD marks i false ≡ chained v i
+  pub listed : Listed v places
+  pub fillers-at : Fillers v fillers
+  pub signs-at : Signs v signs
+
+-- Whether the terms a and b differ at t.
+abbrev pub differ : List ℕ → ℕ → ℕ → ℕ → Bool
+differ v a b t = not (Bool·beq (truth v t a) (truth v t b))
+
+abbrev pub profileAt : List ℕ → ℕ → ℕ → ℕ → Profile
+profileAt v a b t = record { fits = fits v t; differs = differ v a b t; demand = demand v t; offer = offer v t }
+
+-- Tables that hold the profiles of all types.
+abbrev pub Demands : List ℕ → List ℕ → Type 0
+Demands v demands = (t : ℕ) → t < types v → getD demands t 0 ≡ demand v t
+
+abbrev pub Offers : List ℕ → List ℕ → Type 0
+Offers v offers = (t : ℕ) → t < types v → getD offers t 0 ≡ offer v t
+
+abbrev pub Differs : List ℕ → ℕ → ℕ → List Bool → Type 0
+Differs v a b differs = (t : ℕ) → t < types v → getD differs t false ≡ differ v a b t
+
+-- Two tables hold the same set.
+abbrev pub SameSet : List Bool → List Bool → Type 0
+SameSet S R = (t : ℕ) → has S t ≡ has R t
+
+-- x itself where a number of the set below n has x in a table, else 0.
+abbrev pub offeredIn : List ℕ → List Bool → ℕ → ℕ → ℕ
+offeredIn offers S n x = cond (anyBelow (λ s. has S s && eqb (getD offers s 0) x) n) x 0
+
+-- What a demand word asks of one role is met by a table of covers.
+abbrev pub metBy : List ℕ → ℕ → ℕ → Bool
+metBy cover others demand = eqb (bitOr (getD cover (bitOr demand others) 0) others) (bitOr demand others)

@@ -1,0 +1,240 @@
+-- The truth rules of the code are the paper's.
+--   Run, between                   what holds at each number of a range
+--   rule-range, rule-low, rule-high, first-.., second-..   the tables of shapes by the ranges of a `match`
+--   select-..                      what each rule selects
+--   rule-connects                  what a record says, by its rule
+--   operands-earlier               its operands come no later than the record
+--   rule-atom                      atoms by their rule
+-- Assumes nothing.
+use Prim.Native.Nat.{ℕ, zero, suc, _+_, _≤_, _<_}
+use native.Mathlib.Omega.{arith}
+use native.Mathlib.Decide.{ℕ-discrete, decLt}
+use mathlib.Core.Path.{_≡_, refl, sym, ap, subst}
+use mathlib.Core.Bool.{Bool, true, false, not, _&&_, _||_}
+use lib.ListN.{List·getD-eq-default}
+use lib.Dec.{eqb}
+use borrow.Author.Tests.{ne-eqb}
+use Rattle.records.specs.Kinds.{Kind, noKind, kinds, kindOf, constructOf, isAtom}
+use Rattle.records.specs.declared.fields.Record.{Record}
+use Rattle.records.proofs.Constructs.{Earlier}
+use Rattle.types.specs.Below.{bit}
+use Rattle.types.specs.Meaning.{connect}
+use Rattle.types.specs.Words.{isRestriction}
+use Rattle.types.specs.Rules.{Shape, shape, shapes, shapeOf, ruleOf, firstOf, secondOf, select}
+
+-- What holds at each of n numbers from k on.
+abbrev Run : (ℕ → Type 0) → ℕ → ℕ → Type 0
+Run P k zero = Unit {0}
+Run P k (suc n) = P k × Run P (suc k) n
+
+between : (P : ℕ → Type 0) (n a : ℕ) → Run P a n → (k : ℕ) → a ≤ k → k < a + n → P k
+between P zero a r k l h = absurd (omega arith)
+between P (suc n) a r k l h = at (ℕ-discrete a k) (between P n (suc a) (r .1) k)
+  where
+    at : Dec (a ≡ k) → (suc a ≤ k → k < suc a + n → P k) → P k
+    at (yes e) next = subst P e (r .0)
+    at (no e) next = next (omega arith) (omega arith)
+
+shape-past : (k : ℕ) → 10 ≤ k → shapeOf k ≡ shape 0 false false
+unfolding shapeOf
+shape-past k h = List·getD-eq-default shapes (shape 0 false false) h
+
+-- The rule, A and B of the kinds in an arm of a `match`.
+pub rule-restriction : (k : ℕ) → 7 ≤ k → k < 9 → 240 ≡ ruleOf k
+unfolding shapeOf
+rule-restriction = between (λ k. 240 ≡ ruleOf k) 2 7 (refl, (refl, tt))
+
+pub rule-low : (k : ℕ) → k < 7 → (k ≡ 1 → ⊥) → (k ≡ 3 → ⊥) → (k ≡ 4 → ⊥) → (k ≡ 5 → ⊥) → (k ≡ 6 → ⊥) → 0 ≡ ruleOf k
+unfolding shapeOf
+rule-low zero h a b c d e = refl
+rule-low (suc zero) h a b c d e = absurd (a refl)
+rule-low (suc (suc zero)) h a b c d e = refl
+rule-low (suc (suc (suc zero))) h a b c d e = absurd (b refl)
+rule-low (suc (suc (suc (suc zero)))) h a b c d e = absurd (c refl)
+rule-low (suc (suc (suc (suc (suc zero))))) h a b c d e = absurd (d refl)
+rule-low (suc (suc (suc (suc (suc (suc zero)))))) h a b c d e = absurd (e refl)
+rule-low (suc (suc (suc (suc (suc (suc (suc k))))))) h a b c d e = absurd (omega arith)
+
+pub rule-high : (k : ℕ) → 10 ≤ k → 0 ≡ ruleOf k
+rule-high k h = sym (ap (λ (s : Shape). s .rule) (shape-past k h))
+
+module _ (x : ℕ) where
+  pub first-operand : (k : ℕ) → 4 ≤ k → k < 7 → x ≡ firstOf k x
+  unfolding shapeOf
+  first-operand = between (λ k. x ≡ firstOf k x) 3 4 (refl, (refl, (refl, tt)))
+
+  pub first-low : (k : ℕ) → k < 4 → 0 ≡ firstOf k x
+  unfolding shapeOf
+  first-low k h = between (λ k. 0 ≡ firstOf k x) 4 0 (refl, (refl, (refl, (refl, tt)))) k (omega arith) h
+
+  pub first-above : (k : ℕ) → 7 ≤ k → (k ≡ 9 → ⊥) → 0 ≡ firstOf k x
+  unfolding shapeOf
+  first-above k l n = at (decLt k 9)
+    where
+      at : Dec (k < 9) → 0 ≡ firstOf k x
+      at (yes h) = between (λ k. 0 ≡ firstOf k x) 2 7 (refl, (refl, tt)) k l h
+      at (no h) = rw (shape-past k (omega arith))
+
+  pub second-operand : (k : ℕ) → 5 ≤ k → k < 10 → x ≡ secondOf k x
+  unfolding shapeOf
+  second-operand = between (λ k. x ≡ secondOf k x) 5 5 (refl, (refl, (refl, (refl, (refl, tt)))))
+
+  pub second-low : (k : ℕ) → k < 5 → 0 ≡ secondOf k x
+  unfolding shapeOf
+  second-low k h = between (λ k. 0 ≡ secondOf k x) 5 0 (refl, (refl, (refl, (refl, (refl, tt))))) k (omega arith) h
+
+  pub second-high : (k : ℕ) → 10 ≤ k → 0 ≡ secondOf k x
+  second-high k h = rw (shape-past k h)
+
+-- Two rules that agree at all eight places.
+abbrev Agree : (Bool → Bool → Bool → Bool) → (Bool → Bool → Bool → Bool) → Type 0
+Agree f g =
+    (f false false false ≡ g false false false)
+    × (f false false true ≡ g false false true)
+    × (f false true false ≡ g false true false)
+    × (f false true true ≡ g false true true)
+    × (f true false false ≡ g true false false)
+    × (f true false true ≡ g true false true)
+    × (f true true false ≡ g true true false)
+    × (f true true true ≡ g true true true)
+
+agree : (f g : Bool → Bool → Bool → Bool) → Agree f g → (x y z : Bool) → f x y z ≡ g x y z
+agree f g h false false false = h .0
+agree f g h false false true = h .1
+agree f g h false true false = h .2
+agree f g h false true true = h .3
+agree f g h true false false = h .4
+agree f g h true false true = h .5
+agree f g h true true false = h .6
+agree f g h true true true = h .7
+
+module _ (x y z : Bool) where
+  select-never : select 0 x y z ≡ false
+  unfolding select bit
+  select-never = agree (select 0) (λ x y z. false) (refl, refl, refl, refl, refl, refl, refl, refl) x y z
+
+  select-always : select 255 x y z ≡ true
+  unfolding select bit
+  select-always = agree (select 255) (λ x y z. true) (refl, refl, refl, refl, refl, refl, refl, refl) x y z
+
+  select-atom : select 240 x y z ≡ z
+  unfolding select bit
+  select-atom = agree (select 240) (λ x y z. z) (refl, refl, refl, refl, refl, refl, refl, refl) x y z
+
+  select-not : select 85 x y z ≡ not x
+  unfolding select bit
+  select-not = agree (select 85) (λ x y z. not x) (refl, refl, refl, refl, refl, refl, refl, refl) x y z
+
+  select-and : select 136 x y z ≡ (x && y)
+  unfolding select bit
+  select-and = agree (select 136) (λ x y z. x && y) (refl, refl, refl, refl, refl, refl, refl, refl) x y z
+
+  select-or : select 238 x y z ≡ (x || y)
+  unfolding select bit
+  select-or = agree (select 238) (λ x y z. x || y) (refl, refl, refl, refl, refl, refl, refl, refl) x y z
+
+  select-implies : select 221 x y z ≡ (not x || y)
+  unfolding select bit
+  select-implies = agree (select 221) (λ x y z. not x || y) (refl, refl, refl, refl, refl, refl, refl, refl) x y z
+
+kind-past : (k : ℕ) → 10 ≤ k → kindOf k ≡ noKind
+unfolding kindOf
+kind-past k h = List·getD-eq-default kinds noKind h
+
+pub rule-connects : (r : Record) (z : Bool) (f : ℕ → Bool)
+    → select (ruleOf (r .kind)) (f (firstOf (r .kind) (r .a))) (f (secondOf (r .kind) (r .b))) z ≡ connect (constructOf r) z f
+unfolding kindOf shapeOf
+rule-connects r z f = at (decLt (r .kind) 10)
+  where
+    Connects : ℕ → Type 0
+    Connects k = select (ruleOf k) (f (firstOf k (r .a))) (f (secondOf k (r .b))) z ≡ connect (kindOf k .says r) z f
+
+    at : Dec (r .kind < 10) → Connects (r .kind)
+    at (yes h) =
+        between Connects 10 0 (
+          select-never (f 0) (f 0) z,
+          (
+            select-always (f 0) (f 0) z,
+            (
+              select-never (f 0) (f 0) z,
+              (
+                select-atom (f 0) (f 0) z,
+                (
+                  select-not (f (r .a)) (f 0) z,
+                  (
+                    select-and (f (r .a)) (f (r .b)) z,
+                    (
+                      select-or (f (r .a)) (f (r .b)) z,
+                      (
+                        select-atom (f 0) (f (r .b)) z,
+                        (select-atom (f 0) (f (r .b)) z, (select-implies (f (r .a)) (f (r .b)) z, tt)),
+                      ),
+                    ),
+                  ),
+                ),
+              ),
+            ),
+          ),
+        ) (r .kind) (omega arith) h
+    at (no n) = rw (shape-past (r .kind) (omega arith), kind-past (r .kind) (omega arith)) (select-never (f 0) (f 0) z)
+
+pub operands-earlier : (r : Record) (i : ℕ) → Earlier i (constructOf r)
+    → (firstOf (r .kind) (r .a) ≤ i) × (secondOf (r .kind) (r .b) ≤ i)
+unfolding kindOf shapeOf
+operands-earlier r i = at (decLt (r .kind) 10)
+  where
+    Bound : ℕ → Type 0
+    Bound k = Earlier i (kindOf k .says r) → (firstOf k (r .a) ≤ i) × (secondOf k (r .b) ≤ i)
+
+    none : Earlier i (kindOf 0 .says r) → (0 ≤ i) × (0 ≤ i)
+    none e = (omega arith, omega arith)
+
+    at : Dec (r .kind < 10) → Bound (r .kind)
+    at (yes h) =
+        between Bound 10 0 (
+          none,
+          (
+            none,
+            (
+              none,
+              (
+                none,
+                (
+                  λ e. (omega arith, omega arith),
+                  (
+                    λ e. (omega (arith, e .0), omega (arith, e .1)),
+                    (
+                      λ e. (omega (arith, e .0), omega (arith, e .1)),
+                      (
+                        λ e. (omega arith, omega arith),
+                        (λ e. (omega arith, omega arith), (λ e. (omega (arith, e .0), omega (arith, e .1)), tt)),
+                      ),
+                    ),
+                  ),
+                ),
+              ),
+            ),
+          ),
+        ) (r .kind) (omega arith) h
+    at (no n) = λ e. rw (shape-past (r .kind) (omega arith)) (omega arith, omega arith)
+
+pub rule-atom : (k : ℕ) → eqb (ruleOf k) 240 ≡ isAtom k
+unfolding shapeOf
+rule-atom k = at (decLt k 10)
+  where
+    Same : ℕ → Type 0
+    Same k = eqb (ruleOf k) 240 ≡ isAtom k
+
+    at : Dec (k < 10) → Same k
+    at (yes h) =
+        between Same 10 0 (refl, (refl, (refl, (refl, (refl, (refl, (refl, (refl, (refl, (refl, tt)))))))))) k (omega arith) h
+    at (no n) =
+        rw (
+          shape-past k (omega arith),
+          ne-eqb k 3 (λ e. n (omega arith)),
+          ne-eqb k 7 (λ e. n (omega arith)),
+          ne-eqb k 8 (λ e. n (omega arith)),
+        )
+
+pub restriction-range : (k : ℕ) → 7 ≤ k → k < 9 → true ≡ isRestriction k
+restriction-range = between (λ k. true ≡ isRestriction k) 2 7 (refl, (refl, tt))

@@ -1,0 +1,78 @@
+-- The profile of a type from a table of its truths.
+--   place-below, filler-below        where the words look
+--   fits-done, differ-done           whether the statements hold, and the terms differ
+--   demand-done, offer-done          the words
+--   profile-same                     the profile from its parts
+-- Assumes nothing.
+use Prim.Native.Nat.{ℕ, _<_}
+use native.Mathlib.Omega.{arith}
+use mathlib.Core.Path.{_≡_, refl, sym, ap, ap₂, _∙_}
+use mathlib.Core.Bool.{Bool, true, false, Bool·beq, not, _||_}
+use mathlib.Core.List.{List}
+use lib.ListN.{getD}
+use lib.Dec.{eqb}
+use borrow.Author.Tests.{eqb-true}
+use Rattle.records.specs.Format.{recordAt, count}
+use Rattle.records.specs.Chain.{chained}
+use Rattle.records.proofs.Accepted.{Accepted, accepted-vocabulary}
+use Rattle.types.specs.declared.profile.Profile.{Profile}
+use Rattle.types.specs.Below.{number}
+use Rattle.types.specs.Types.{truth}
+use Rattle.types.specs.Survivors.{fits}
+use Rattle.types.specs.Rules.{holding}
+use Rattle.types.specs.Words.{width, restriction, signed, negated, demand, offer, Prepared, differ, profileAt}
+use Rattle.types.proofs.Tests.{either-rest}
+use Rattle.types.proofs.Below.{all-cong}
+use Rattle.types.proofs.Bits.{number-cong}
+use Rattle.types.proofs.Truths.{some-earlier, all-earlier}
+use Rattle.types.proofs.Restrictions.{restricts, restriction-sound}
+use Rattle.types.proofs.Signed.{says-some, says-all}
+
+module _ (v rules firsts seconds : List ℕ) (marks : List Bool) (places fillers : List ℕ) (signs : List Bool)
+    (p : Prepared v rules firsts seconds marks places fillers signs) where
+  pub prepared-good : Accepted v
+  prepared-good = accepted-vocabulary v (count v) (p .accepts)
+
+  pub place-below : (m : ℕ) → m < width v → getD places m 0 < count v
+  place-below m h = omega (arith, p .listed m h, restriction-sound v (count v) m h .before)
+
+  filler-earlier : (i : ℕ) → restricts v i ≡ true → recordAt v i .b < i
+  filler-earlier i h = at (eqb (recordAt v i .kind) 7) refl
+    where
+      at : (x : Bool) → eqb (recordAt v i .kind) 7 ≡ x → recordAt v i .b < i
+      at true e = some-earlier v prepared-good i _ _ (says-some v i (eqb-true _ 7 e))
+      at false e =
+          all-earlier v prepared-good i _ _
+          (says-all v i (eqb-true _ 8 (either-rest (eqb (recordAt v i .kind) 7) (eqb (recordAt v i .kind) 8) h e)))
+
+  pub filler-below : (m : ℕ) → m < width v → getD fillers m 0 < count v
+  filler-below m h =
+      let sound = restriction-sound v (count v) m h in
+      omega (arith, p .fillers-at m h, sound .before, filler-earlier (restriction v m) (sound .restricts))
+
+  module _ (t : ℕ) (done : List Bool) (filled : (i : ℕ) → i < count v → getD done i false ≡ truth v t i) where
+    pub fits-done : holding marks done (count v) ≡ fits v t
+    unfolding holding fits
+    fits-done = all-cong _ _ (count v) (λ i h. ap₂ (λ (x y : Bool). not x || y) (p .marked i) (filled i h))
+
+    pub differ-done : (a b : ℕ) → a < count v → b < count v → not (Bool·beq (getD done a false) (getD done b false)) ≡ differ v a b t
+    differ-done a b h k = ap₂ (λ (x y : Bool). not (Bool·beq x y)) (filled a h) (filled b k)
+
+    pub demand-done : (bits : ℕ) → bits ≡ width v
+        → number bits (λ m. signed (getD signs m false) (getD done (getD places m 0) false)) ≡ demand v t
+    unfolding demand
+    demand-done bits e =
+        rw e (number-cong (width v) _ _
+        (λ m h. ap₂ signed (p .signs-at m h) (filled (getD places m 0) (place-below m h) ∙ ap (truth v t) (p .listed m h))))
+
+    pub offer-done : (bits : ℕ) → bits ≡ width v
+        → number bits (λ m. signed (getD signs m false) (getD done (getD fillers m 0) false)) ≡ offer v t
+    unfolding offer
+    offer-done bits e =
+        rw e (number-cong (width v) _ _
+        (λ m h. ap₂ signed (p .signs-at m h) (filled (getD fillers m 0) (filler-below m h) ∙ ap (truth v t) (p .fillers-at m h))))
+
+pub profile-same : (v : List ℕ) (a b t : ℕ) (fit apart : Bool) (x y : ℕ)
+    → fit ≡ fits v t → apart ≡ differ v a b t → x ≡ demand v t → y ≡ offer v t
+    → _≡_ {A = Profile} record { fits = fit; differs = apart; demand = x; offer = y } (profileAt v a b t)
+profile-same v a b t fit apart x y e f g h = rw (e, f, g, h)

@@ -1,0 +1,98 @@
+-- One turn of the code's loops, over plain values.
+--   Filled, fill-start, fill-turn   a table filled in order
+--   types-bound                     few atoms have few types
+--   Ends, ends-turn, ends-empty     a set that has nothing from there on
+--   rank-turn                       atoms counted
+--   all-fails-turn, all-holds-turn  a test of all, one number further
+--   word-start, word-turn, word-end, word-bound   a word built from its top bit
+-- Assumes nothing.
+use Prim.Native.Nat.{ℕ, zero, suc, _+_, _-_, _*_, _^_, _≤_, _<_}
+use native.Mathlib.Omega.{arith}
+use native.Mathlib.Decide.{ℕ-discrete}
+use native.Mathlib.Numerals.{add-one}
+use mathlib.Core.Path.{_≡_, refl, sym, ap, subst, _∙_}
+use mathlib.Core.Bool.{Bool, true, false, _&&_, and-false, and-true}
+use mathlib.Core.List.{List}
+use lib.ListN.{length, getD, set, replicate, length-set}
+use lib.Pow.{pow-mono}
+use lib.Seq.{getD-set-same, getD-set-other}
+use Rattle.records.specs.Format.{recordAt}
+use Rattle.records.specs.Kinds.{isAtom}
+use Rattle.types.specs.Below.{allBelow, digit, number}
+use Rattle.types.specs.Types.{rank, atoms, types}
+use Rattle.types.proofs.Bits.{number-step, number-small, number-cong}
+
+-- The entries below i are right.
+abbrev pub Right : {A : Type 0} → A → List A → (ℕ → A) → ℕ → Type 0
+Right d l f i = (j : ℕ) → j < i → getD l j d ≡ f j
+
+-- A table of n entries, right below i.
+pub record Filled {A : Type 0} (d : A) (n : ℕ) (l : List A) (f : ℕ → A) (i : ℕ) : Type 0 where
+  pub size : length l ≡ n
+  pub right : Right d l f i
+
+module _ {A : Type 0} (d : A) (n : ℕ) (l : List A) (f : ℕ → A) where
+  pub fill-start : length l ≡ n → Filled d n l f 0
+  fill-start e = record { size = e; right = λ j h. absurd (omega arith) }
+
+  pub fill-turn : (i : ℕ) (x : A) → i < n → Filled d n l f i → x ≡ f i → Filled d n (set l i x) f (i + 1)
+  fill-turn i x h r e = record { size = length-set l i x ∙ r .size; right = λ j k. at j k (ℕ-discrete j i) }
+    where
+      at : (j : ℕ) → j < i + 1 → Dec (j ≡ i) → getD (set l i x) j d ≡ f j
+      at j k (yes q) = rw q (getD-set-same l i x d (omega (arith, r .size)) ∙ e)
+      at j k (no q) = getD-set-other l i j x d q ∙ r .right j (omega arith)
+
+  pub fill-same : (i : ℕ) → Filled d n l f i → (g : ℕ → A) → ((j : ℕ) → j < i → f j ≡ g j) → Filled d n l g i
+  fill-same i r g e = record { size = r .size; right = λ j k. r .right j k ∙ e j k }
+
+-- Few atoms have few types.
+pub types-bound : (v : List ℕ) → atoms v ≤ 12 → types v ≤ 4096
+types-bound v h = pow-mono {j = 12} h
+
+-- A set that has nothing from i on.
+abbrev pub Ends : List Bool → ℕ → Type 0
+Ends l i = (u : ℕ) → i ≤ u → getD l u false ≡ false
+
+pub ends-turn : (l : List Bool) (i : ℕ) (x : Bool) → Ends l i → Ends (set l i x) (i + 1)
+ends-turn l i x h u k = getD-set-other l i u x false (λ e. omega arith) ∙ h u (omega arith)
+
+pub ends-empty : (n i : ℕ) → Ends (replicate n false) i
+ends-empty zero i u h = refl
+ends-empty (suc n) i zero h = refl
+ends-empty (suc n) i (suc u) h = ends-empty n 0 u (omega arith)
+
+pub rank-turn : (v : List ℕ) (i found : ℕ) (b : Bool) → found ≡ rank v i → isAtom (recordAt v i .kind) ≡ b → found + digit b ≡ rank v (i + 1)
+unfolding rank
+rank-turn v i found b e q = rw (add-one, e, q)
+
+module _ (test : ℕ → Bool) (i : ℕ) where
+  pub all-fails-turn : test i ≡ false → false ≡ allBelow test (i + 1)
+  unfolding allBelow
+  all-fails-turn e = rw (add-one, e) (sym (and-false (allBelow test i)))
+
+  pub all-holds-turn : (fit : Bool) → fit ≡ allBelow test i → test i ≡ true → fit ≡ allBelow test (i + 1)
+  unfolding allBelow
+  all-holds-turn fit f e = rw (add-one, e) (f ∙ sym (and-true (allBelow test i)))
+
+module _ (bits : ℕ) (f : ℕ → Bool) where
+  -- The bits from m on, as a word.
+  abbrev pub wordFrom : ℕ → ℕ
+  wordFrom m = number (bits - m) (λ i. f (m + i))
+
+  pub word-start : 0 ≡ wordFrom bits
+  unfolding number
+  word-start = let none : bits - bits ≡ 0 = omega arith in rw none
+
+  pub word-bound : (m w : ℕ) → bits ≤ 12 → w ≡ wordFrom m → w < 4096
+  word-bound m w h e =
+      omega (arith, number-small (bits - m) (λ i. f (m + i)), pow-mono {i = bits - m} {j = 12} (omega arith))
+
+  pub word-turn : (m : ℕ) (w : ℕ) (x : Bool) → 0 < m → m ≤ bits → w ≡ wordFrom m → x ≡ f (m - 1) → digit x + 2 * w ≡ wordFrom (m - 1)
+  word-turn m w x p h e q =
+      let back : m - 1 + 1 ≡ m = omega arith in
+      sym (number-step bits (m - 1) f (omega arith) ∙ rw (back, ← e, ← q))
+
+  pub word-end : (w : ℕ) → w ≡ wordFrom 0 → w ≡ number bits f
+  word-end w e =
+      let all : bits - 0 ≡ bits = omega arith in
+      e ∙ rw all (number-cong bits (λ i. f (0 + i)) f (λ j l. ap f (omega arith)))
