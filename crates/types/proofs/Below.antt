@@ -2,12 +2,14 @@
 --   all-intro, all-at, all-fails, all-cong   every number passes, or one does not
 --   least-bound, least-holds, least-before   what the smallest is
 --   least-is, least-end                      what is the smallest
+--   least-cong                               tests that agree below the bound
+--   None, none-start, none-turn              no number passes so far, one number further
 -- Assumes nothing.
-use Prim.Native.Nat.{ℕ, zero, suc, _≤_, _<_}
+use Prim.Native.Nat.{ℕ, zero, suc, _+_, _≤_, _<_}
 use native.Mathlib.Omega.{arith}
 use native.Mathlib.Decide.{ℕ-discrete}
-use mathlib.Core.Path.{_≡_, refl, sym, subst, ap, _∙_}
-use mathlib.Core.Bool.{Bool, true, false, cond, _&&_, and-false}
+use mathlib.Core.Path.{_≡_, refl, sym, subst, ap}
+use mathlib.Core.Bool.{Bool, true, false, cond, _&&_}
 use Rattle.records.proofs.Passed.{clash, both-left, both-right}
 use Rattle.types.specs.Below.{allBelow, least}
 
@@ -85,3 +87,25 @@ unfolding least
 least-end zero test none = refl
 least-end (suc n) test none =
     rw (none 0 (omega arith)) (ap (λ (x : ℕ). suc x) (least-end n (λ i. test (suc i)) (λ u k. none (suc u) (omega arith))))
+
+pub least-cong : (n : ℕ) (f g : ℕ → Bool) → ((i : ℕ) → i < n → f i ≡ g i) → least f n ≡ least g n
+unfolding least
+least-cong zero f g h = refl
+least-cong (suc n) f g h =
+    rw (h 0 (omega arith))
+    (ap (λ (x : ℕ). cond (g 0) 0 (suc x)) (least-cong n (λ i. f (suc i)) (λ i. g (suc i)) (λ i l. h (suc i) (omega arith))))
+
+-- No number below n passes.
+abbrev pub None : (ℕ → Bool) → ℕ → Type 0
+None test n = (u : ℕ) → u < n → test u ≡ false
+
+module _ (test : ℕ → Bool) where
+  pub none-start : None test 0
+  none-start u h = absurd (omega arith)
+
+  pub none-turn : (n : ℕ) → None test n → test n ≡ false → None test (n + 1)
+  none-turn n none e u h = at (ℕ-discrete u n)
+    where
+      at : Dec (u ≡ n) → test u ≡ false
+      at (yes q) = subst (λ (j : ℕ). test j ≡ false) (sym q) e
+      at (no q) = none u (omega arith)

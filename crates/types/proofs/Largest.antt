@@ -2,6 +2,7 @@
 --   has-table, table-has                   the members of a set given by a test
 --   stage-keeps                            what rounds keep holds of every stage
 --   served-more                            a greater set serves more
+--   stage-length                           each stage says of each type whether it is in it
 --   rounds-bound, rounds-end               the rounds are at most 2^k, and the last leaves nothing to remove
 --   rounds-before, rounds-is               which number of rounds it is
 --   Serving                                a set of types at which all statements hold, and which serves each of its members
@@ -49,7 +50,7 @@ abbrev rests : List ℕ → ℕ → Bool
 rests v n = not (removes v (stage v n))
 
 -- Each round before the n-th removes something.
-abbrev Removing : List ℕ → ℕ → Type 0
+abbrev pub Removing : List ℕ → ℕ → Type 0
 Removing v n = (m : ℕ) → m < n → removes v (stage v m) ≡ true
 
 module _ (v : List ℕ) where
@@ -83,7 +84,7 @@ module _ (v : List ℕ) where
       all-intro (λ i. met v R t i (restrictionAt v i)) (count v)
       (λ i l. met-more S R more t i (restrictionAt v i) (all-at (λ i. met v S t i (restrictionAt v i)) (count v) e i l))
 
-  stage-length : (n : ℕ) → length (stage v n) ≡ types v
+  pub stage-length : (n : ℕ) → length (stage v n) ≡ types v
   unfolding stage
   stage-length zero = length-table (types v) (fits v)
   stage-length (suc n) = length-table (types v) (stays v (stage v n))
@@ -102,7 +103,7 @@ module _ (v : List ℕ) where
       members-less (round v S) S t (length-table (types v) (stays v S) ∙ sym l) (round-within S) inside out
 
   -- each round that removes something is paid for by a type
-  stage-falls : (n : ℕ) → Removing v n → members (stage v n) + n ≤ types v
+  pub stage-falls : (n : ℕ) → Removing v n → members (stage v n) + n ≤ types v
   unfolding stage
   stage-falls zero h = omega (arith, members-bound (table (types v) (fits v)), length-table (types v) (fits v))
   stage-falls (suc n) h =

@@ -24,4 +24,9 @@ pub mod Allowed
 pub mod Served
 pub mod Connects
 pub mod Turns
+pub mod Spreading
+pub mod Sweeps
+pub mod Counted
 pub mod Profiles
+pub mod Outcomes
+pub mod Rounds

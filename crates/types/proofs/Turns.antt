@@ -1,5 +1,6 @@
 -- One turn of the code's loops, over plain values.
 --   Filled, fill-start, fill-turn   a table filled in order
+--   zeros                           a table of nothing but zeros
 --   types-bound                     few atoms have few types
 --   Ends, ends-turn, ends-empty     a set that has nothing from there on
 --   rank-turn                       atoms counted
@@ -96,3 +97,9 @@ module _ (bits : ℕ) (f : ℕ → Bool) where
   word-end w e =
       let all : bits - 0 ≡ bits = omega arith in
       e ∙ rw all (number-cong bits (λ i. f (0 + i)) f (λ j l. ap f (omega arith)))
+
+-- A table of nothing but zeros.
+pub zeros : (n x : ℕ) → getD {A = ℕ} (replicate n 0) x 0 ≡ 0
+zeros zero x = refl
+zeros (suc n) zero = refl
+zeros (suc n) (suc x) = zeros n x

@@ -34,6 +34,11 @@ unfoldable pub members : List Bool → ℕ
 members [] = 0
 members (b ∷ S) = digit b + members S
 
+-- How many numbers below n pass a test.
+unfoldable pub countBelow : (ℕ → Bool) → ℕ → ℕ
+countBelow test zero = 0
+countBelow test (suc n) = countBelow test n + digit (test n)
+
 -- Bit j of a number, and the number of n bits.
 unfoldable pub bit : ℕ → ℕ → Bool
 bit x j = eqb (x / 2 ^ j % 2) 1

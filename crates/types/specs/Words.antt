@@ -129,3 +129,13 @@ offeredIn offers S n x = cond (anyBelow (λ s. has S s && eqb (getD offers s 0) 
 -- What a demand word asks of one role is met by a table of covers.
 abbrev pub metBy : List ℕ → ℕ → ℕ → Bool
 metBy cover others demand = eqb (bitOr (getD cover (bitOr demand others) 0) others) (bitOr demand others)
+
+-- A list of types that has every member of a set.
+pub record Covering (live : List ℕ) (left : ℕ) (S : List Bool) : Type 0 where
+  pub few : left ≤ 4096
+  pub inside : (j : ℕ) → j < left → getD live j 0 < 4096
+  pub finds : (t : ℕ) → has S t ≡ true → (j : ℕ) × (j < left) × (getD live j 0 ≡ t)
+
+-- A table of the covers of all words.
+abbrev pub Covers : List ℕ → List Bool → List ℕ → Type 0
+Covers v S table = (x : ℕ) → x < 2 ^ width v → getD table x 0 ≡ cover v S x

@@ -5,6 +5,7 @@ use crate::truth::statements_hold;
 use crate::truth::truths;
 ghost use mathlib.Core.Path.{_≡_};
 ghost use Prim.Native.Nat.{_<_};
+ghost use lib.ListN.{length};
 ghost use Rattle.records.specs.Format.{count};
 ghost use Rattle.types.specs.Types.{types};
 ghost use Rattle.types.specs.Survivors.{stage};
@@ -87,6 +88,7 @@ pub fn profile_types(
     ensures { λ r. ⌜ Differs (now (v .entry)) a b (r .differs) ⌝ }
     ensures { λ r. ⌜ Demands (now (v .entry)) (r .demands) ⌝ }
     ensures { λ r. ⌜ Offers (now (v .entry)) (r .offers) ⌝ }
+    ensures { λ r. ⌜ length (r .alive) ≡ 4096 ⌝ }
 {
     let mut alive = [false; Profile::TYPES];
     let mut differs = [false; Profile::TYPES];

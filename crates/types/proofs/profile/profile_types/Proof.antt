@@ -97,7 +97,7 @@ loop-again c = let w = c .before .before .loop .inv in let at : c .before .befor
 
 -- src/profile.rt:67:1
 returns : tie.Need-returns Inv-loop μ-loop
-returns c = let w = c .before .loop .inv in let v = now (c .before .before .before .args .v) in let e : c .before .loop .t ≡ types v = omega (arith, w .within, c .before .before .before .pre .1 .1 .1 .1) in (alive-at v (c .before .loop .alive) (subst (Filled false 4096 (c .before .loop .alive) (fits v)) e (w .alive-filled)) (subst (Ends (c .before .loop .alive)) e (w .ends)), (λ t h. w .differs-filled .right t (omega arith), (λ t h. w .demands-filled .right t (omega arith), λ t h. w .offers-filled .right t (omega arith))))
+returns c = let w = c .before .loop .inv in let v = now (c .before .before .before .args .v) in let e : c .before .loop .t ≡ types v = omega (arith, w .within, c .before .before .before .pre .1 .1 .1 .1) in (alive-at v (c .before .loop .alive) (subst (Filled false 4096 (c .before .loop .alive) (fits v)) e (w .alive-filled)) (subst (Ends (c .before .loop .alive)) e (w .ends)), (λ t h. w .differs-filled .right t (omega arith), (λ t h. w .demands-filled .right t (omega arith), (λ t h. w .offers-filled .right t (omega arith), w .alive-filled .size))))
 
 pub profile-types-spec : {M : Type 1} → statement M
 profile-types-spec =

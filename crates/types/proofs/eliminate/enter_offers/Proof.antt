@@ -1,0 +1,97 @@
+-- `types::eliminate::enter_offers` meets its contract. The loop's invariant: `cover` holds what the first `j` listed types
+-- offer. The list has every type of the set.
+-- Assumes nothing.
+use Prim.Native.Nat.{_-_, _≤_, _<_}
+use native.Mathlib.Omega.{arith}
+use mathlib.Core.Logic.{⊎-elim}
+use mathlib.Core.Path.{_≡_, subst}
+use lib.ListN.{getD}
+use denote.Ref.{now}
+use Rattle.types.proofs.Sweeps.{Entered, enter-start, enter-more, enter-same, enter-end}
+use Rattle.types.proofs.eliminate.enter_offers.Statement.{statement}
+use Rattle.types.proofs.eliminate.enter_offers.Tie as tie
+
+abbrev Inv-loop : tie.InvT-loop
+Inv-loop offers alive live left cover₀ j₀ cover j = (j ≤ left) × Entered offers live alive cover j
+
+abbrev μ-loop : tie.MeasureT-loop
+μ-loop offers alive live left cover₀ j₀ cover j = left - j
+
+-- the listed type is one of the tables' 4096
+inside : (c : tie.In-loop Inv-loop μ-loop) → getD (now (c .before .before .args .live)) (c .before .loop .j) 0 < 4096
+inside c = c .before .before .pre .0 .inside (c .before .loop .j) (c .loop-test .taken)
+
+loop-holds : tie.Need-loop-holds Inv-loop μ-loop
+loop-holds c = (omega arith, enter-start _ _ _ _ (c .pre .1 .1 .1) (c .pre .1 .1 .0))
+
+mul-t : tie.Need-mul-t Inv-loop μ-loop
+mul-t c = omega (arith, c .before .before .pre .0 .few)
+
+element-copy-out-t : tie.Need-element-copy-out-t Inv-loop μ-loop
+element-copy-out-t c = omega (arith, c .before .before .pre .0 .few)
+
+cast-t : tie.Need-cast-t Inv-loop μ-loop
+cast-t c = omega (arith, inside (c .before))
+
+element-copy-out-if1 : tie.Need-element-copy-out-if1 Inv-loop μ-loop
+element-copy-out-if1 c = inside (c .before)
+
+mul-offer : tie.Need-mul-offer Inv-loop μ-loop
+mul-offer c = omega (arith, inside (c .before .before .before))
+
+element-copy-out-offer : tie.Need-element-copy-out-offer Inv-loop μ-loop
+element-copy-out-offer c = inside (c .before .before .before)
+
+-- and so is the word it offers
+element-write-cover : tie.Need-element-write-cover Inv-loop μ-loop
+element-write-cover c = c .before .before .before .before .before .before .pre .1 .0 _ (c .before .if1 .taken)
+
+cast-cover : tie.Need-cast-cover Inv-loop μ-loop
+cast-cover c = omega (arith, element-write-cover c)
+
+mul-cover : tie.Need-mul-cover Inv-loop μ-loop
+mul-cover c = omega (arith, element-write-cover c)
+
+add-j : tie.Need-add-j Inv-loop μ-loop
+add-j c = omega (arith, c .before .before .before .before .before .pre .0 .few)
+
+loop-less : tie.Need-loop-less Inv-loop μ-loop
+loop-less c = omega arith
+
+loop-again : tie.Need-loop-again Inv-loop μ-loop
+loop-again c =
+    let l = c .before .before .before .before .loop .inv .1 in (
+      omega arith,
+      ⊎-elim
+          (λ w. rw (w .2)
+              (enter-more _ _ _ _ _ l (w .0 .taken) (c .before .before .before .before .before .pre .1 .0 _ (w .0 .taken))))
+          (λ w. rw (w .1) (enter-same _ _ _ _ _ l (w .0 .left)))
+          (c .if1 .came),
+    )
+
+returns : tie.Need-returns Inv-loop μ-loop
+returns c =
+    let l = c .before .loop .inv .1 in
+    let e : c .before .loop .j ≡ c .before .before .args .left = omega arith in
+    (l .size, enter-end _ _ _ _ _ (c .before .before .pre .0) (subst (Entered _ _ _ _) e l))
+
+pub enter-offers-spec : {M : Type 1} → statement M
+enter-offers-spec =
+    tie.close
+    (tie.spec
+    Inv-loop
+    μ-loop
+    loop-holds
+    mul-t
+    element-copy-out-t
+    cast-t
+    element-copy-out-if1
+    mul-offer
+    element-copy-out-offer
+    cast-cover
+    mul-cover
+    element-write-cover
+    add-j
+    loop-less
+    loop-again
+    returns)

@@ -1,0 +1,155 @@
+// The comparison: rows 1 to 8, 10, 11 and 12 of the table of refusals, type elimination, and the answer.
+use records::answers::Checked;
+use records::answers::Counted;
+use records::answers::pass_if;
+use records::chain::mark_chain;
+use records::fields::Record;
+use records::fields::read_at;
+use records::kinds::is_term;
+use crate::answers::Compared;
+use crate::answers::compare_after;
+use crate::answers::compare_after_count;
+use crate::answers::conclude;
+use crate::decode::decode;
+use crate::eliminate::eliminate;
+use crate::form::count_alive;
+use crate::form::find_first;
+use crate::form::write_form;
+use crate::profile::Profile;
+use crate::profile::Profiles;
+use crate::profile::profile_types;
+use crate::restrict::Details;
+use crate::restrict::Listing;
+use crate::restrict::describe_restrictions;
+use crate::restrict::list_restrictions;
+use crate::truth::count_atoms;
+ghost use mathlib.Core.Path.{_≡_};
+ghost use mathlib.Core.Bool.{_&&_};
+ghost use mathlib.Core.List.{_++_};
+ghost use Prim.Native.Nat.{_≤_, _<_, _%_};
+ghost use lib.ListN.{length, drop};
+ghost use lib.Dec.{ltb};
+ghost use Rattle.records.specs.Outcome.{accepted};
+ghost use Rattle.records.specs.Answers.{checked};
+ghost use Rattle.records.specs.Format.{recordAt, count};
+ghost use Rattle.records.specs.Kinds.{isTerm};
+ghost use Rattle.records.specs.Check.{vocabularyCheck};
+ghost use Rattle.types.specs.Types.{atoms, types};
+ghost use Rattle.types.specs.Survivors.{stage};
+ghost use Rattle.types.specs.Compare.{termCheck, queryCheck, verdict, comparison};
+ghost use Rattle.types.specs.Form.{form, written};
+ghost use Rattle.types.specs.Answers.{compared};
+ghost use Rattle.types.specs.Words.{width, Listed, Fillers, Roles, Signs, Differs, Demands, Offers, SameSet};
+
+// Row 10: whether a number of the query names a term.
+fn names_term(v: &[u8], number: usize) -> bool
+    ensures { λ r. ⌜ r ≡ (ltb number (count (now (v .entry))) && isTerm (recordAt (now (v .entry)) number .kind)) ⌝ }
+{
+    if number < v.len() / Record::SIZE {
+        return is_term(read_at(v, number).kind);
+    }
+    false
+}
+
+fn check_term(v: &[u8], number: usize) -> Checked
+    ensures { λ r. ⌜ checked r ≡ termCheck (now (v .entry)) number ⌝ }
+{
+    pass_if(names_term(v, number), 10, number)
+}
+
+// Rows 10, 11 and 12, where the vocabulary has k atoms.
+fn check_query(v: &[u8], a: usize, b: usize, k: usize, lent: usize) -> Checked
+    requires { ⌜ k ≡ atoms (now v) ⌝ }
+    ensures { λ r. ⌜ checked r ≡ queryCheck (now (v .entry)) a b lent ⌝ }
+{
+    let first = check_term(v, a);
+    let Checked::Fine = first else {
+        return first;
+    };
+    let second = check_term(v, b);
+    let Checked::Fine = second else {
+        return second;
+    };
+    let few = pass_if(k <= Profile::ATOMS, 11, k);
+    let Checked::Fine = few else {
+        return few;
+    };
+    pass_if(Profile::BYTES <= lent, 12, 0)
+}
+
+// The restrictions and what is known of each.
+fn profile_all(v: &[u8], listing: Listing, details: Details, a: usize, b: usize, size: usize) -> Profiles
+    requires { ⌜ vocabularyCheck (now v) ≡ accepted (count (now v)) ⌝ }
+    requires { ⌜ atoms (now v) ≤ 12 ⌝ }
+    requires { ⌜ a < count (now v) ⌝ }
+    requires { ⌜ b < count (now v) ⌝ }
+    requires { ⌜ size ≡ types (now v) ⌝ }
+    requires { ⌜ listing .found ≡ width (now v) ⌝ }
+    requires { ⌜ Listed (now v) (listing .places) ⌝ }
+    requires { ⌜ Fillers (now v) (details .fillers) ⌝ }
+    requires { ⌜ Signs (now v) (details .signs) ⌝ }
+    ensures { λ r. ⌜ SameSet (r .alive) (stage (now (v .entry)) 0) ⌝ }
+    ensures { λ r. ⌜ Differs (now (v .entry)) a b (r .differs) ⌝ }
+    ensures { λ r. ⌜ Demands (now (v .entry)) (r .demands) ⌝ }
+    ensures { λ r. ⌜ Offers (now (v .entry)) (r .offers) ⌝ }
+    ensures { λ r. ⌜ length (r .alive) ≡ 4096 ⌝ }
+{
+    let decoded = decode(v);
+    let rules = decoded.rules;
+    let firsts = decoded.firsts;
+    let seconds = decoded.seconds;
+    let marks = mark_chain(v);
+    let places = listing.places;
+    let fillers = details.fillers;
+    let signs = details.signs;
+    profile_types(v, &rules, &firsts, &seconds, &marks, &places, &fillers, &signs, listing.found, a, b, size)
+}
+
+// The answer for two terms of an accepted vocabulary of few enough atoms; the survivors are written.
+fn decide(v: &[u8], a: usize, b: usize, k: usize, lent: &mut [u8]) -> Compared
+    requires { ⌜ vocabularyCheck (now v) ≡ accepted (count (now v)) ⌝ }
+    requires { ⌜ atoms (now v) ≤ 12 ⌝ }
+    requires { ⌜ k ≡ atoms (now v) ⌝ }
+    requires { ⌜ a < count (now v) ⌝ }
+    requires { ⌜ b < count (now v) ⌝ }
+    requires { ⌜ 512 ≤ length (now lent) ⌝ }
+    ensures { λ r. ⌜ compared r ≡ accepted (verdict (now (v .entry)) a b) ⌝ }
+    ensures { λ _. ⌜ now (lent .exit) ≡ form (now (v .entry)) ++ drop 512 (now (lent .entry)) ⌝ }
+{
+    let size = 1 << k;
+    let listing = list_restrictions(v);
+    let bits = listing.found;
+    let places = listing.places;
+    let details = describe_restrictions(v, &places, bits);
+    let roles = details.roles;
+    let profiles = profile_all(v, listing, details, a, b, size);
+    let mut alive = profiles.alive;
+    let differs = profiles.differs;
+    let demands = profiles.demands;
+    let offers = profiles.offers;
+    let rounds = eliminate(v, &roles, bits, &demands, &offers, size, &mut alive);
+    let element = find_first(&alive, &differs, size);
+    let survivors = count_alive(&alive, size);
+    write_form(&alive, lent);
+    conclude(element < size, element, survivors, rounds)
+}
+
+// The comparison of the terms a and b: Equal, or Different with the smallest survivor at which they differ, or the first
+// refusal in table order, which writes nothing.
+pub fn compare(v: &[u8], a: u32, b: u32, lent: &mut [u8]) -> Compared
+    ensures { λ r. ⌜ compared r ≡ comparison (now (v .entry)) a b (length (now (lent .entry))) ⌝ }
+    ensures { λ _. ⌜ now (lent .exit) ≡ written (comparison (now (v .entry)) a b (length (now (lent .entry)))) (now (v .entry)) (now (lent .entry)) ⌝ }
+{
+    let vocabulary = records::check_vocabulary(v);
+    let Counted::Records(_) = vocabulary else {
+        return compare_after_count(vocabulary);
+    };
+    let first = a as usize;
+    let second = b as usize;
+    let k = count_atoms(v);
+    let query = check_query(v, first, second, k, lent.len());
+    let Checked::Fine = query else {
+        return compare_after(query);
+    };
+    decide(v, first, second, k, lent)
+}

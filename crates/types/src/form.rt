@@ -1,0 +1,69 @@
+// What a set of types shows: how many there are, the first at which the terms differ, and the bytes that hold it.
+use crate::profile::Profile;
+use crate::truth::digit;
+ghost use mathlib.Core.Path.{_≡_};
+ghost use mathlib.Core.Bool.{false, _&&_};
+ghost use mathlib.Core.List.{_++_};
+ghost use Prim.Native.Nat.{ℕ, _+_, _*_, _≤_, _<_};
+ghost use lib.ListN.{length, getD, drop};
+ghost use Rattle.types.specs.Below.{has, least, table, number, countBelow};
+
+// How many are below `size`.
+pub fn count_alive(alive: &[bool; Profile::TYPES], size: usize) -> usize
+    requires { ⌜ size ≤ 4096 ⌝ }
+    ensures { λ r. ⌜ r ≡ countBelow (has (now (alive .entry))) size ⌝ }
+{
+    let mut found = 0;
+    let mut t = 0;
+    while t < size {
+        if alive[t] {
+            found += 1;
+        }
+        t += 1;
+    }
+    found
+}
+
+// The smallest that is in both tables, or `size`.
+pub fn find_first(alive: &[bool; Profile::TYPES], differs: &[bool; Profile::TYPES], size: usize) -> usize
+    requires { ⌜ size ≤ 4096 ⌝ }
+    ensures { λ r. ⌜ r ≡ least (λ t. has (now (alive .entry)) t && getD (now (differs .entry)) t false) size ⌝ }
+{
+    let mut t = 0;
+    while t < size {
+        if alive[t] {
+            if differs[t] {
+                return t;
+            }
+        }
+        t += 1;
+    }
+    size
+}
+
+// Byte n of the form, built from its top bit.
+fn byte_of(alive: &[bool; Profile::TYPES], n: usize) -> u8
+    requires { ⌜ n < 512 ⌝ }
+    ensures { λ r. ⌜ r ≡ number 8 (λ j. has (now (alive .entry)) (8 * n + j)) ⌝ }
+{
+    let start = 8 * n;
+    let mut byte = 0;
+    let mut j = 8;
+    while j > 0 {
+        j -= 1;
+        byte = digit(alive[start + j]) + 2 * byte;
+    }
+    byte as u8
+}
+
+// Writes the form into the first bytes of what is lent.
+pub fn write_form(alive: &[bool; Profile::TYPES], lent: &mut [u8])
+    requires { ⌜ 512 ≤ length (now lent) ⌝ }
+    ensures { λ _. ⌜ now (lent .exit) ≡ table 512 (λ n. number 8 (λ j. has (now (alive .entry)) (8 * n + j))) ++ drop 512 (now (lent .entry)) ⌝ }
+{
+    let mut n = 0;
+    while n < Profile::BYTES {
+        lent[n] = byte_of(alive, n);
+        n += 1;
+    }
+}

@@ -1,0 +1,56 @@
+// A table of words, each entry spread to the words that have it within them.
+use crate::profile::Profile;
+ghost use mathlib.Core.Path.{_≡_};
+ghost use mathlib.Core.Bool.{cond, _&&_};
+ghost use Prim.Native.Nat.{ℕ, _+_, _-_, _*_, _^_, _≤_, _<_};
+ghost use lib.ListN.{length, getD};
+ghost use lib.Dec.{ltb, leb};
+ghost use lib.Bits.{bitOr};
+ghost use Rattle.types.specs.Below.{bit};
+ghost use Rattle.types.specs.Words.{spread};
+
+// Adds to each of `half` entries from `at + half` on the entry `half` places before it.
+fn join_block(cover: &mut [u16; Profile::TYPES], at: usize, half: usize)
+    requires { ⌜ at + 2 * half ≤ 4096 ⌝ }
+    requires { ⌜ length (now cover) ≡ 4096 ⌝ }
+    ensures { λ _. ⌜ length (now (cover .exit)) ≡ 4096 ⌝ }
+    ensures { λ _. ⌜ ((y : ℕ) → getD (now (cover .exit)) y 0 ≡ cond (leb (at + half) y && ltb y (at + 2 * half)) (bitOr (getD (now (cover .entry)) y 0) (getD (now (cover .entry)) (y - half) 0)) (getD (now (cover .entry)) y 0)) ⌝ }
+{
+    let end = at + half;
+    let mut x = at;
+    while x < end {
+        cover[x + half] = cover[x + half] | cover[x];
+        x += 1;
+    }
+}
+
+// Adds to each word with bit n what stands at the word without it, block by block.
+fn spread_bit(cover: &mut [u16; Profile::TYPES], bits: usize, n: usize)
+    requires { ⌜ bits ≤ 12 ⌝ }
+    requires { ⌜ n < bits ⌝ }
+    requires { ⌜ length (now cover) ≡ 4096 ⌝ }
+    ensures { λ _. ⌜ length (now (cover .exit)) ≡ 4096 ⌝ }
+    ensures { λ _. ⌜ ((x : ℕ) → x < 2 ^ bits → getD (now (cover .exit)) x 0 ≡ cond (bit x n) (bitOr (getD (now (cover .entry)) x 0) (getD (now (cover .entry)) (x - 2 ^ n) 0)) (getD (now (cover .entry)) x 0)) ⌝ }
+{
+    let size = 1 << bits;
+    let half = 1 << n;
+    let mut at = 0;
+    while at < size {
+        join_block(cover, at, half);
+        at += 2 * half;
+    }
+}
+
+// Then each word below 2^bits holds the or of all entries within it.
+pub fn spread_words(cover: &mut [u16; Profile::TYPES], bits: usize)
+    requires { ⌜ bits ≤ 12 ⌝ }
+    requires { ⌜ length (now cover) ≡ 4096 ⌝ }
+    ensures { λ _. ⌜ length (now (cover .exit)) ≡ 4096 ⌝ }
+    ensures { λ _. ⌜ ((x : ℕ) → x < 2 ^ bits → getD (now (cover .exit)) x 0 ≡ spread (λ y. getD (now (cover .entry)) y 0) bits x) ⌝ }
+{
+    let mut n = 0;
+    while n < bits {
+        spread_bit(cover, bits, n);
+        n += 1;
+    }
+}
