@@ -1,6 +1,8 @@
 -- One number for an outcome.
-use Prim.Native.Nat.{ℕ, _+_, _*_}
+use Prim.Native.Nat.{ℕ, _+_, _*_, _^_}
+use mathlib.Core.Bool.{Bool, true, false}
 use Rattle.records.specs.Outcome.{Outcome, accepted, refused}
+use Rattle.types.specs.Compare.{Verdict, equal, different}
 
 -- "Bits 0-7: the refusal number, 0 where there is none."
 abbrev pub numberOf : Outcome ℕ → ℕ
@@ -15,3 +17,17 @@ valueOf (refused number place) = place
 -- Other bits are 0.
 abbrev pub packed : Outcome ℕ → ℕ
 packed outcome = numberOf outcome + 256 * valueOf outcome
+
+abbrev pub flag : Bool → ℕ
+flag true = 1
+flag false = 0
+
+-- "Bit 8: 0 Equal, 1 Different; bits 9-24 the element, bits 25-41 the survivors, bits 42-58 the rounds."
+abbrev pub packedParts : Bool → ℕ → ℕ → ℕ → ℕ
+packedParts differs element survivors rounds = 2 ^ 8 * flag differs + 2 ^ 9 * element + 2 ^ 25 * survivors + 2 ^ 42 * rounds
+
+-- The comparison's; a refusal as for the other calls.
+abbrev pub packedVerdict : Outcome Verdict → ℕ
+packedVerdict (accepted (equal survivors rounds)) = packedParts false 0 survivors rounds
+packedVerdict (accepted (different element survivors rounds)) = packedParts true element survivors rounds
+packedVerdict (refused number place) = number + 256 * place

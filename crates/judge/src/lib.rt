@@ -2,11 +2,15 @@
 // include/judge.h declares the calls, and specs/Packed.antt says which number stands for which outcome.
 use records::answers::Counted;
 use records::answers::Located;
+use types::answers::Compared;
 ghost use mathlib.Core.Path.{_≡_};
 ghost use Prim.Native.Nat.{_+_, _*_, _<_, _^_};
+ghost use lib.ListN.{length};
 ghost use Rattle.records.specs.Check.{vocabularyCheck};
 ghost use Rattle.records.specs.Call.{recordCall};
-ghost use Rattle.judge.specs.Packed.{packed};
+ghost use Rattle.types.specs.Compare.{comparison};
+ghost use Rattle.types.specs.Form.{written};
+ghost use Rattle.judge.specs.Packed.{packed, flag, packedParts, packedVerdict};
 
 // Bits 0 to 7: the refusal's number, or 0. Bits 8 to 39: its place, or the value answered.
 fn pack(number: u8, value: usize) -> u64
@@ -35,5 +39,34 @@ pub extern "C" fn judge_record(vocabulary: &[u8], number: u32) -> u64
     match answer {
         Located::At(offset) => pack(0, offset),
         Located::Refused { number: row, place } => pack(row, place),
+    }
+}
+
+fn flag(b: bool) -> u64
+    ensures { λ r. ⌜ r ≡ flag b ⌝ }
+{
+    if b { 1 } else { 0 }
+}
+
+// Bit 8: 1 for Different. Bits 9 to 24: the element. Bits 25 to 41: the survivors. Bits 42 to 58: the rounds.
+fn pack_verdict(differs: bool, element: usize, survivors: usize, rounds: usize) -> u64
+    requires { ⌜ element < 2 ^ 16 ⌝ }
+    requires { ⌜ survivors < 2 ^ 17 ⌝ }
+    requires { ⌜ rounds < 2 ^ 17 ⌝ }
+    ensures { λ r. ⌜ r ≡ packedParts differs element survivors rounds ⌝ }
+{
+    256 * flag(differs) + 512 * (element as u64) + 33554432 * (survivors as u64) + 4398046511104 * (rounds as u64)
+}
+
+#[no_mangle]
+pub extern "C" fn judge_compare(vocabulary: &[u8], a: u32, b: u32, buffer: &mut [u8]) -> u64
+    ensures { λ r. ⌜ r ≡ packedVerdict (comparison (now (vocabulary .entry)) a b (length (now (buffer .entry)))) ⌝ }
+    ensures { λ _. ⌜ now (buffer .exit) ≡ written (comparison (now (vocabulary .entry)) a b (length (now (buffer .entry)))) (now (vocabulary .entry)) (now (buffer .entry)) ⌝ }
+{
+    let answer = types::compare(vocabulary, a, b, buffer);
+    match answer {
+        Compared::Equal { survivors, rounds } => pack_verdict(false, 0, survivors, rounds),
+        Compared::Different { element, survivors, rounds } => pack_verdict(true, element, survivors, rounds),
+        Compared::Refused { number, place } => pack(number, place),
     }
 }

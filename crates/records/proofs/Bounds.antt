@@ -2,6 +2,7 @@
 --   vocabulary-count   the vocabulary check's count
 --   vocabulary-small   its count or place is at most 512, its number not 0
 --   record-within      the record call's offset leaves room for a record
+--   Nearby, require-near, then-near   a check whose refusal is near
 --   record-small       its offset or place is at most 4,096 or the number asked for
 -- Assumes nothing.
 use Prim.Native.Nat.{ℕ, zero, suc, _+_, _-_, _*_, _≤_, _<_, max}
@@ -31,16 +32,16 @@ Small m (accepted x) = x ≤ m
 Small m (refused n p) = Near m n p
 
 -- A check whose refusal is near.
-abbrev Nearby : ℕ → Check → Type 0
+abbrev pub Nearby : ℕ → Check → Type 0
 Nearby m (accepted u) = Unit {0}
 Nearby m (refused n p) = Near m n p
 
 module _ (m : ℕ) where
-  require-near : (b : Bool) (n p : ℕ) → Near m n p → Nearby m (require b n p)
+  pub require-near : (b : Bool) (n p : ℕ) → Near m n p → Nearby m (require b n p)
   require-near true n p h = tt
   require-near false n p h = h
 
-  then-near : (a b : Check) → Nearby m a → Nearby m b → Nearby m (a then b)
+  pub then-near : (a b : Check) → Nearby m a → Nearby m b → Nearby m (a then b)
   then-near (accepted u) b x y = y
   then-near (refused n p) b x y = x
 

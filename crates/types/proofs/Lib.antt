@@ -14,6 +14,7 @@ pub mod Filed
 pub mod Written
 pub mod Verdicts
 pub mod Comparison
+pub mod Bounds
 pub mod Samples
 pub mod Width
 pub mod Restrictions
