@@ -1,6 +1,7 @@
 //! A second implementation of paper 01, written from the paper alone, that makes test vectors and
 //! the output expected for them. See README.md.
 
+mod comparison;
 mod decode;
 mod draft;
 mod faults;
@@ -20,13 +21,19 @@ const UNFIT: u8 = 1;
 /// The exit status where the command line or the vector file is malformed, or writing fails.
 const MALFORMED: u8 = 2;
 
+/// How the program is called.
+const USAGE: &str = "usage: second vectors > VECTORS, or second expect < VECTORS > EXPECTED, \
+     or second comparisons > CASES, or second expect-comparisons < CASES > EXPECTED";
+
 /// Runs the subcommand that the command line names.
 fn main() -> ExitCode {
     let words: Vec<String> = std::env::args().skip(1).collect();
     let status = match words.iter().map(String::as_str).collect::<Vec<_>>()[..] {
         ["vectors"] => make_vectors(),
         ["expect"] => expect_output(),
-        _ => complain("usage: second vectors > VECTORS, or second expect < VECTORS > EXPECTED"),
+        ["comparisons"] => make_comparisons(),
+        ["expect-comparisons"] => expect_comparisons(),
+        _ => complain(USAGE),
     };
     ExitCode::from(status)
 }
@@ -66,6 +73,38 @@ fn expect_output() -> u8 {
     match vectors::decode(&bytes) {
         Err(message) => complain(&message),
         Ok(cases) if write_out(print::lines(&cases).as_bytes()) => DONE,
+        Ok(_) => complain("cannot write"),
+    }
+}
+
+/// Writes the file of comparison cases to standard output, and the table of their sorts to standard
+/// error.
+fn make_comparisons() -> u8 {
+    let planned = comparison::all();
+    let table = comparison::Table::of(&planned);
+    eprint!("{}", table.text());
+    let faults = table.faults();
+    for fault in &faults {
+        eprintln!("second: {fault}");
+    }
+    let cases: Vec<comparison::Case> = planned.into_iter().map(|p| p.case).collect();
+    match comparison::encode(&cases) {
+        Err(message) => complain(&message),
+        Ok(bytes) if !write_out(&bytes) => complain("cannot write"),
+        Ok(_) if faults.is_empty() => DONE,
+        Ok(_) => UNFIT,
+    }
+}
+
+/// Reads a file of comparison cases from standard input, and writes the expected output.
+fn expect_comparisons() -> u8 {
+    let mut bytes = Vec::new();
+    if let Err(error) = std::io::stdin().read_to_end(&mut bytes) {
+        return complain(&error.to_string());
+    }
+    match comparison::decode(&bytes) {
+        Err(message) => complain(&message),
+        Ok(cases) if write_out(comparison::lines(&cases).as_bytes()) => DONE,
         Ok(_) => complain("cannot write"),
     }
 }

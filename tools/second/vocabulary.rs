@@ -15,7 +15,7 @@ pub struct Refusal {
 }
 
 /// Refuses with a number and a place where a condition applies.
-fn refuse_if(applies: bool, number: u8, place: usize) -> Result<(), Refusal> {
+pub fn refuse_if(applies: bool, number: u8, place: usize) -> Result<(), Refusal> {
     if applies {
         Err(Refusal { number, place })
     } else {

@@ -1,0 +1,73 @@
+//! The file of comparison cases, one after the other. A case is the length of its vocabulary
+//! (16 bits), the two term numbers (32 bits each), the number of bytes lent (16 bits), all low byte
+//! first, the seed of what they hold (8 bits), and the vocabulary.
+
+/// A vocabulary, the two terms to compare, and the bytes that are lent.
+#[derive(Clone)]
+pub struct Case {
+    pub vocabulary: Vec<u8>,
+    pub a: u32,
+    pub b: u32,
+    pub lent: u16,
+    pub seed: u8,
+}
+
+/// The bytes of a case's head.
+const HEAD_BYTES: usize = 13;
+
+/// How far each lent byte is above the one before it.
+const STEP: u8 = 7;
+
+impl Case {
+    /// The lent bytes before the call: byte i is 7 i + seed, modulo 256.
+    pub fn buffer(&self) -> Vec<u8> {
+        let bytes = std::iter::successors(Some(self.seed), |byte| Some(byte.wrapping_add(STEP)));
+        bytes.take(usize::from(self.lent)).collect()
+    }
+
+    /// The case that a head and what follows it hold, and what is left.
+    fn split<'a>(head: &[u8; HEAD_BYTES], body: &'a [u8]) -> Option<(Case, &'a [u8])> {
+        let [l0, l1, a0, a1, a2, a3, b0, b1, b2, b3, n0, n1, seed] = *head;
+        let (vocabulary, rest) =
+            body.split_at_checked(usize::from(u16::from_le_bytes([l0, l1])))?;
+        let case = Case {
+            vocabulary: vocabulary.to_vec(),
+            a: u32::from_le_bytes([a0, a1, a2, a3]),
+            b: u32::from_le_bytes([b0, b1, b2, b3]),
+            lent: u16::from_le_bytes([n0, n1]),
+            seed,
+        };
+        Some((case, rest))
+    }
+}
+
+/// The bytes of the file, or what is wrong with the cases.
+pub fn encode(cases: &[Case]) -> Result<Vec<u8>, String> {
+    let mut bytes = Vec::new();
+    for case in cases {
+        let length = u16::try_from(case.vocabulary.len())
+            .map_err(|_| "a vocabulary is too long for a case".to_string())?;
+        bytes.extend(length.to_le_bytes());
+        bytes.extend(case.a.to_le_bytes());
+        bytes.extend(case.b.to_le_bytes());
+        bytes.extend(case.lent.to_le_bytes());
+        bytes.push(case.seed);
+        bytes.extend(&case.vocabulary);
+    }
+    Ok(bytes)
+}
+
+/// The cases of a file, or where it is malformed.
+pub fn decode(bytes: &[u8]) -> Result<Vec<Case>, String> {
+    let mut cases = Vec::new();
+    let mut rest = bytes;
+    while !rest.is_empty() {
+        let whole = rest.split_first_chunk::<HEAD_BYTES>();
+        let (case, after) = whole
+            .and_then(|(head, body)| Case::split(head, body))
+            .ok_or_else(|| format!("the file ends inside case {}", cases.len()))?;
+        cases.push(case);
+        rest = after;
+    }
+    Ok(cases)
+}

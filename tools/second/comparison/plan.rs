@@ -1,0 +1,87 @@
+//! The cases of the comparison, in groups. A case carries how its expected line has to begin, where
+//! the paper or its making says so.
+
+use crate::comparison::call::first_difference;
+use crate::comparison::file::Case;
+use crate::comparison::types::Types;
+use crate::decode::records;
+use crate::random::Random;
+
+/// The seed of all random choices.
+const SEED: u64 = 20_240_715;
+
+/// Numbers of lent bytes that are enough.
+const ENOUGH: [u16; 8] = [512, 512, 512, 513, 519, 600, 768, 1024];
+
+/// A case, and how its expected line has to begin.
+pub struct Planned {
+    pub case: Case,
+    pub meant: String,
+}
+
+/// The cases so far, and the source of random choices.
+pub struct Plan {
+    pub cases: Vec<Planned>,
+    pub random: Random,
+}
+
+/// All cases.
+pub fn all() -> Vec<Planned> {
+    let mut plan = Plan {
+        cases: Vec::new(),
+        random: Random::new(SEED),
+    };
+    plan.samples();
+    plan.families();
+    plan.random_vocabularies();
+    plan.large();
+    plan.refusals();
+    plan.cases
+}
+
+impl Plan {
+    /// Adds a case that lends enough bytes.
+    pub fn add(&mut self, vocabulary: &[u8], a: u32, b: u32, meant: &str) {
+        let lent = self.random.pick(&ENOUGH).unwrap_or(512);
+        self.add_lent(vocabulary, [a, b], lent, meant);
+    }
+
+    /// Adds a case.
+    pub fn add_lent(&mut self, vocabulary: &[u8], [a, b]: [u32; 2], lent: u16, meant: &str) {
+        let case = Case {
+            vocabulary: vocabulary.to_vec(),
+            a,
+            b,
+            lent,
+            seed: self.random.byte(),
+        };
+        let meant = meant.to_string();
+        self.cases.push(Planned { case, meant });
+    }
+
+    /// Adds an accepted vocabulary with some pairs of terms that are equal, some that differ at type
+    /// 0, and some that differ at a later type first: up to `each` of each sort.
+    pub fn add_pairs(&mut self, vocabulary: &[u8], each: usize) {
+        let types = Types::of(records(vocabulary));
+        let (set, _) = types.survivors();
+        let terms = (1..types.records.len()).filter(|n| types.records[*n].is_term());
+        let terms: Vec<u32> = terms.map(|number| number as u32).collect();
+        let mut sorts: [Vec<[u32; 2]>; 3] = Default::default();
+        for a in &terms {
+            for b in terms.iter().filter(|b| *b != a) {
+                let sort = match first_difference(&types, &set, *a, *b) {
+                    None => 0,
+                    Some(0) => 1,
+                    Some(_) => 2,
+                };
+                sorts[sort].push([*a, *b]);
+            }
+        }
+        for (pairs, meant) in sorts.iter().zip(["equal ", "different 0 ", "different "]) {
+            for _ in 0..each.min(pairs.len()) {
+                let [a, b] = self.random.pick(pairs).unwrap_or([1, 1]);
+                self.add(vocabulary, a, b, meant);
+            }
+        }
+    }
+}

@@ -1,0 +1,140 @@
+//! The refusals of the comparison: each alone, and all mixtures of them, of which the first in table
+//! order is given.
+
+use crate::comparison::plan::Plan;
+use crate::comparison::terms::Terms;
+use crate::decode::{records, Record};
+use crate::generate;
+use crate::vocabulary::check_vocabulary;
+
+/// One in so many refused cases of the vocabulary check is compared too.
+const ONE_IN: usize = 9;
+/// The longest of them, in bytes.
+const LONGEST: usize = 300;
+
+/// The vocabulary that is spoiled: names, a restriction of each kind and statements.
+fn sound(atoms: usize) -> Vec<u8> {
+    let mut terms = Terms::new(3);
+    let names = terms.names(atoms - 2);
+    let some = terms.some(0, names[0]);
+    let all = terms.all(2, some);
+    terms.aside(all, some);
+    terms.within(names[1], all);
+    terms.bytes()
+}
+
+/// A sound vocabulary with one byte changed, or for row 1 added, so that a row of the table refuses
+/// it, and the place of the refusal: the header, a name, the some-record or the last statement.
+fn spoil(row: u8, vocabulary: &[u8]) -> (Vec<u8>, usize) {
+    if row == 1 {
+        return ([vocabulary, &[0]].concat(), 0);
+    }
+    let last = vocabulary.len() / 8 - 1;
+    let some = last - 3;
+    let (place, byte, value) = match row {
+        2 => (0, 0, 15),
+        3 => (2, 0, 10),
+        4 => (2, 7, 1),
+        5 => (some, 4, 0),
+        6 => (some, 2, 3),
+        7 => (2, 2, 1),
+        _ => (last, 6, 1),
+    };
+    let mut bytes = vocabulary.to_vec();
+    bytes[8 * place + byte] = value;
+    (bytes, place)
+}
+
+/// Numbers that are no term of a vocabulary: header, statements, past the end, and numbers whose low
+/// bytes are those of a term.
+fn no_terms(records: &[Record]) -> Vec<u32> {
+    let count = records.len() as u32;
+    let mut numbers = vec![0, count, count + 1, 511, 512, 65535, 65536, 65537];
+    numbers.extend([256 + 1, 0x0100_0001, 0x8000_0001, u32::MAX - 1, u32::MAX]);
+    let statements = (0..count).zip(records).filter(|(_, r)| r.is_statement());
+    numbers.extend(statements.map(|(number, _)| number));
+    numbers.retain(|n| !records.get(*n as usize).is_some_and(Record::is_term));
+    numbers
+}
+
+impl Plan {
+    /// All refusals.
+    pub fn refusals(&mut self) {
+        self.wrong_lengths();
+        self.wrong_queries();
+        for row in 0..=8 {
+            for atoms in [4, 12, 13, 20] {
+                for wrong in 0..8 {
+                    self.mixture(row, atoms, wrong);
+                }
+            }
+        }
+        self.refused_vocabularies();
+    }
+
+    /// Row 1 next to the limits.
+    fn wrong_lengths(&mut self) {
+        let mut terms = Terms::new(0);
+        terms.names(512);
+        let bytes = terms.bytes();
+        for length in [0, 1, 7, 9, 4088 + 7, 4096 + 1, 4096 + 8] {
+            self.add(&bytes[..length], 1, 2, "refused 1 0 ");
+        }
+    }
+
+    /// Row 10: every number that is no term as A, as B, and as both with different ones.
+    fn wrong_queries(&mut self) {
+        let vocabulary = sound(5);
+        let wrong = no_terms(&records(&vocabulary));
+        for (i, number) in wrong.iter().enumerate() {
+            let other = wrong[(i + 1) % wrong.len()];
+            let refused = format!("refused 10 {number} ");
+            self.add(&vocabulary, *number, 2, &refused);
+            self.add(&vocabulary, 2, *number, &refused);
+            self.add(&vocabulary, *number, other, &refused);
+            self.add_lent(&vocabulary, [*number, *number], 0, &refused);
+        }
+    }
+
+    /// A vocabulary that a row refuses (none for 0), and, by the bits of `wrong`, a wrong A, a wrong
+    /// B, and too few bytes lent.
+    fn mixture(&mut self, row: u8, atoms: usize, wrong: usize) {
+        let vocabulary = sound(atoms);
+        let (bytes, place) = match row {
+            0 => (vocabulary.clone(), 0),
+            _ => spoil(row, &vocabulary),
+        };
+        let bad = no_terms(&records(&vocabulary));
+        let mut pick = |bit: usize, good: u32| match wrong >> bit & 1 {
+            1 => self.random.pick(&bad).unwrap_or(0),
+            _ => good,
+        };
+        let (a, b) = (pick(0, 1), pick(1, 2));
+        let short = self.random.pick(&[0, 100, 511]).unwrap_or(0);
+        let lent = if wrong >> 2 & 1 == 1 { short } else { 520 };
+        let meant = match (row, wrong & 3) {
+            (1.., _) => format!("refused {row} {place} "),
+            (0, 2) => format!("refused 10 {b} "),
+            (0, 1 | 3) => format!("refused 10 {a} "),
+            _ if atoms > 12 => format!("refused 11 {atoms} "),
+            _ if lent < 512 => "refused 12 0 ".to_string(),
+            _ => "different 1 ".to_string(),
+        };
+        self.add_lent(&bytes, [a, b], lent, &meant);
+    }
+
+    /// Some of the vocabularies that the vocabulary check refuses, with random queries.
+    fn refused_vocabularies(&mut self) {
+        for planned in generate::all() {
+            let vocabulary = planned.case.vocabulary;
+            let refusal = check_vocabulary(&vocabulary).err();
+            let short = vocabulary.len() <= LONGEST;
+            if let (Some(refusal), true) = (refusal, short && self.random.chance(ONE_IN)) {
+                let [a, b] = [0, 1].map(|_| self.random.below(6) as u32);
+                let lent = self.random.pick(&[0, 511, 512, 600]).unwrap_or(0);
+                let meant = format!("refused {} {} ", refusal.number, refusal.place);
+                self.add_lent(&vocabulary, [a, b], lent, &meant);
+            }
+        }
+    }
+}

@@ -1,0 +1,100 @@
+//! The table of how many cases there are of each sort, and how many tell each error.
+
+use crate::comparison::call::Compared;
+use crate::comparison::checks::fault;
+use crate::comparison::errors::ERRORS;
+use crate::comparison::plan::Planned;
+use crate::comparison::print::{run, Outcome};
+use crate::comparison::types::Types;
+use crate::decode::records;
+
+/// Vocabularies with more types do not have the errors tried on them, for their time.
+const MOST_TYPES: usize = 256;
+
+/// The refusals that cases have to meet.
+const REFUSALS: [u8; 11] = [1, 2, 3, 4, 5, 6, 7, 8, 10, 11, 12];
+
+/// A sort of answer: its name, and whether an answer is one.
+type Sort = (&'static str, fn(&Compared) -> bool);
+
+/// The sorts of answers that cases have to get.
+const SORTS: [Sort; 10] = [
+    ("equal", |c| c.element.is_none()),
+    ("different", |c| c.element.is_some()),
+    ("different, element not 0", |c| {
+        c.element.is_some_and(|t| t > 0)
+    }),
+    ("rounds 0", |c| c.rounds == 0),
+    ("rounds 1", |c| c.rounds == 1),
+    ("rounds 2", |c| c.rounds == 2),
+    ("rounds 3 to 9", |c| (3..10).contains(&c.rounds)),
+    ("rounds 10 and more", |c| c.rounds >= 10),
+    ("no survivor, no round", |c| {
+        c.survivors.is_empty() && c.rounds == 0
+    }),
+    ("no survivor, rounds", |c| {
+        c.survivors.is_empty() && c.rounds > 0
+    }),
+];
+
+/// How many cases there are of each sort, and what is wrong with some.
+pub struct Table {
+    rows: Vec<(String, usize)>,
+    faults: Vec<String>,
+}
+
+/// For each error whether it changes the answer to a case.
+fn told(planned: &Planned, outcome: &Outcome) -> [bool; ERRORS.len()] {
+    let Ok(right) = &outcome.answer else {
+        return [false; ERRORS.len()];
+    };
+    let (a, b) = (planned.case.a, planned.case.b);
+    let types = Types::of(records(&planned.case.vocabulary));
+    let few = types.count() <= MOST_TYPES;
+    ERRORS.map(|(_, wrong)| few && wrong(&types, a, b) != *right)
+}
+
+impl Table {
+    /// The table of cases.
+    pub fn of(cases: &[Planned]) -> Table {
+        let outcomes: Vec<Outcome> = cases.iter().map(|planned| run(&planned.case)).collect();
+        let with = |test: &dyn Fn(&Outcome) -> bool| outcomes.iter().filter(|o| test(o)).count();
+        let mut rows = vec![("cases".to_string(), cases.len())];
+        for number in REFUSALS {
+            let refused = |o: &Outcome| o.answer.as_ref().is_err_and(|r| r.number == number);
+            rows.push((format!("refused {number}"), with(&refused)));
+        }
+        for (name, is_one) in SORTS {
+            rows.push((
+                name.to_string(),
+                with(&|o| o.answer.as_ref().is_ok_and(is_one)),
+            ));
+        }
+        let pairs = || cases.iter().zip(&outcomes);
+        let told: Vec<_> = pairs()
+            .map(|(planned, outcome)| told(planned, outcome))
+            .collect();
+        for (i, (name, _)) in ERRORS.iter().enumerate() {
+            let count = told.iter().filter(|errors| errors[i]).count();
+            rows.push((format!("would change by: {name}"), count));
+        }
+        let found = pairs().enumerate().filter_map(|(i, (planned, outcome))| {
+            fault(planned, outcome).map(|text| format!("case {i} {text}"))
+        });
+        let faults = found.collect();
+        Table { rows, faults }
+    }
+
+    /// The table as text.
+    pub fn text(&self) -> String {
+        let line = |(name, count): &(String, usize)| format!("{count:6}  {name}\n");
+        self.rows.iter().map(line).collect()
+    }
+
+    /// What is wrong: cases with other answers than meant, and sorts that no case has.
+    pub fn faults(&self) -> Vec<String> {
+        let lacking = self.rows.iter().filter(|(_, count)| *count == 0);
+        let lacking = lacking.map(|(name, _)| format!("no case: {name}"));
+        self.faults.iter().cloned().chain(lacking).collect()
+    }
+}

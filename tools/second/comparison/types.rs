@@ -1,0 +1,171 @@
+//! The types of a vocabulary, the pairs allowed for a role, the types that a set serves, and the
+//! rounds: the section "Types and comparison" of the paper, sentence by sentence.
+
+use crate::decode::{Record, A, B, NEXT};
+
+/// The kind of a name.
+const NAME: u8 = 3;
+/// The kind of "some role A to B".
+pub const SOME: u8 = 7;
+/// The kind of "all role A to B".
+pub const ALL: u8 = 8;
+
+/// The records of an accepted vocabulary, with the truth of each at each type.
+pub struct Types {
+    pub records: Vec<Record>,
+    /// The records of kinds 7 and 8.
+    pub restrictions: Vec<Restriction>,
+    /// For each record its truth at each type; false for bottom and for records that are no term.
+    truths: Vec<Vec<bool>>,
+}
+
+/// A record of kind 7 or 8.
+#[derive(Clone, Copy)]
+pub struct Restriction {
+    pub number: usize,
+    pub kind: u8,
+    pub role: u16,
+    pub filler: usize,
+}
+
+/// A set of types, rising.
+pub type Set = Vec<usize>;
+
+/// The numbers of the atoms, in record order.
+pub fn atoms(records: &[Record]) -> Vec<usize> {
+    let is_atom = |number: &usize| [NAME, SOME, ALL].contains(&records[*number].kind);
+    (1..records.len()).filter(is_atom).collect()
+}
+
+/// The statements on the chain.
+pub fn chained(records: &[Record]) -> Vec<Record> {
+    let mut chain = Vec::new();
+    let mut next = records[0].fields[A];
+    while next != 0 {
+        let statement = records[usize::from(next)];
+        chain.push(statement);
+        next = statement.fields[NEXT];
+    }
+    chain
+}
+
+/// The truth of each record at each type, in record order.
+fn truths(records: &[Record]) -> Vec<Vec<bool>> {
+    let atoms = atoms(records);
+    let mut truths: Vec<Vec<bool>> = Vec::new();
+    for (number, record) in records.iter().enumerate() {
+        let of = |field: usize, t: usize| truths[usize::from(record.fields[field])][t];
+        let atom = atoms.iter().position(|atom| *atom == number);
+        let truth = |t: usize| match record.kind {
+            1 => true,
+            4 => !of(A, t),
+            5 => of(A, t) && of(B, t),
+            6 => of(A, t) || of(B, t),
+            _ => atom.is_some_and(|j| t >> j & 1 == 1),
+        };
+        truths.push((0..1 << atoms.len()).map(truth).collect());
+    }
+    truths
+}
+
+impl Types {
+    /// The types of an accepted vocabulary.
+    pub fn of(records: Vec<Record>) -> Types {
+        let restriction = |(number, record): (usize, &Record)| Restriction {
+            number,
+            kind: record.kind,
+            role: record.fields[A],
+            filler: usize::from(record.fields[B]),
+        };
+        let restrictions = records.iter().enumerate().map(restriction);
+        Types {
+            truths: truths(&records),
+            restrictions: restrictions
+                .filter(|r| r.kind == SOME || r.kind == ALL)
+                .collect(),
+            records,
+        }
+    }
+
+    /// How many types there are.
+    pub fn count(&self) -> usize {
+        self.truths[0].len()
+    }
+
+    /// Whether a term is true at a type.
+    pub fn is_true(&self, term: usize, t: usize) -> bool {
+        self.truths[term][t]
+    }
+
+    /// Whether a statement holds at a type.
+    pub fn holds(&self, statement: &Record, t: usize) -> bool {
+        let [a, b] = [A, B].map(|field| usize::from(statement.fields[field]));
+        !self.is_true(a, t) || self.is_true(b, t)
+    }
+
+    /// Whether the pair (t, s) is allowed for a role.
+    pub fn allowed(&self, role: u16, t: usize, s: usize) -> bool {
+        self.keeps(&self.bounds(role, t), s)
+    }
+
+    /// What the partners of t for a role have to keep to: every kind-7 record of the role false at
+    /// t, and every kind-8 record of the role true at t.
+    fn bounds(&self, role: u16, t: usize) -> Vec<Restriction> {
+        let bounds =
+            |r: &&Restriction| r.role == role && self.is_true(r.number, t) == (r.kind == ALL);
+        self.restrictions.iter().filter(bounds).copied().collect()
+    }
+
+    /// Whether a type keeps to bounds: has B false for kind 7, and B true for kind 8.
+    fn keeps(&self, bounds: &[Restriction], s: usize) -> bool {
+        let keeps = |r: &Restriction| self.is_true(r.filler, s) == (r.kind == ALL);
+        bounds.iter().all(keeps)
+    }
+
+    /// Whether a restriction asks for a witness at a type: kind 7 where true, kind 8 where false.
+    pub fn asks(&self, r: &Restriction, t: usize) -> bool {
+        self.is_true(r.number, t) == (r.kind == SOME)
+    }
+
+    /// Whether s has the filler that a witness of a restriction needs: true for kind 7, false for
+    /// kind 8.
+    pub fn fills(&self, r: &Restriction, s: usize) -> bool {
+        self.is_true(r.filler, s) == (r.kind == SOME)
+    }
+
+    /// Whether a type is served by a set.
+    pub fn served(&self, set: &Set, t: usize) -> bool {
+        let mut asking = self.restrictions.iter().filter(|r| self.asks(r, t));
+        asking.all(|r| {
+            let bounds = self.bounds(r.role, t);
+            let is_witness = |s: &usize| self.fills(r, *s) && self.keeps(&bounds, *s);
+            set.iter().any(is_witness)
+        })
+    }
+
+    /// The types at which each of the statements holds.
+    pub fn first_set(&self, statements: &[Record]) -> Set {
+        let all_hold = |t: &usize| statements.iter().all(|s| self.holds(s, *t));
+        (0..self.count()).filter(all_hold).collect()
+    }
+
+    /// The survivors, and the number of rounds that removed something.
+    pub fn survivors(&self) -> (Set, usize) {
+        let mut set = self.first_set(&chained(&self.records));
+        let mut rounds = 0;
+        loop {
+            let left = self.round(&set);
+            if left.len() == set.len() {
+                return (set, rounds);
+            }
+            set = left;
+            rounds += 1;
+        }
+    }
+
+    /// What one round leaves of a set: the types that the set, as the round began, serves.
+    pub fn round(&self, set: &Set) -> Set {
+        let served = |t: &usize| self.served(set, *t);
+        set.iter().copied().filter(served).collect()
+    }
+}
