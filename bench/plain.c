@@ -3,29 +3,6 @@
 
 #include <stdbool.h>
 
-struct record {
-    uint8_t kind, second;
-    uint16_t a, b, next;
-};
-
-static uint16_t read_u16(const uint8_t *bytes)
-{
-    return (uint16_t)(bytes[0] | bytes[1] << 8);
-}
-
-static struct record read_record(const uint8_t *vocabulary, size_t number)
-{
-    const uint8_t *bytes = vocabulary + RECORD_BYTES * number;
-
-    return (struct record){
-        .kind = bytes[0],
-        .second = bytes[1],
-        .a = read_u16(bytes + 2),
-        .b = read_u16(bytes + 4),
-        .next = read_u16(bytes + 6),
-    };
-}
-
 static uint8_t kind_of(const uint8_t *vocabulary, size_t number)
 {
     return vocabulary[RECORD_BYTES * number];

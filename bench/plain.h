@@ -17,13 +17,36 @@ enum kind {
 enum refusal {
     ACCEPTED = 0,
     BAD_LENGTH, BAD_HEADER, BAD_KIND, BAD_UNUSED, BAD_TERM, BAD_ROLE, BAD_LABEL, BAD_NEXT,
-    PAST_END
+    PAST_END, NO_TERM, MANY_ATOMS, SHORT_BUFFER
 };
 
 /* Bits 0-7 the refusal, bits 8-39 the place or, where accepted, the value. */
 static inline uint64_t pack_answer(enum refusal refusal, uint32_t value)
 {
     return (uint64_t)refusal | (uint64_t)value << 8;
+}
+
+struct record {
+    uint8_t kind, second;
+    uint16_t a, b, next;
+};
+
+static inline uint16_t read_u16(const uint8_t *bytes)
+{
+    return (uint16_t)(bytes[0] | bytes[1] << 8);
+}
+
+static inline struct record read_record(const uint8_t *vocabulary, size_t number)
+{
+    const uint8_t *bytes = vocabulary + RECORD_BYTES * number;
+
+    return (struct record){
+        .kind = bytes[0],
+        .second = bytes[1],
+        .a = read_u16(bytes + 2),
+        .b = read_u16(bytes + 4),
+        .next = read_u16(bytes + 6),
+    };
 }
 
 uint64_t plain_check_vocabulary(const uint8_t *vocabulary, size_t vocabulary_len);

@@ -35,7 +35,7 @@ trap 'rm -rf -- "$build"' EXIT
 trap 'exit 1' HUP INT TERM
 
 gcc -O2 -Wall -Wextra -Werror -I "$root/include" -o "$build/vocabulary" \
-    "$bench/vocabulary.c" "$bench/plain.c" "$archive"
+    "$bench/vocabulary.c" "$bench/plain.c" "$bench/support.c" "$archive"
 
 # Instructions of the whole process for $2 calls of $1.
 count() {

@@ -6,56 +6,23 @@
  *
  * Exit status: 0 done, 1 the answers differ, 2 bad usage. */
 #include "judge.h"
-#include "plain.h"
+#include "support.h"
 
 #include <inttypes.h>
 #include <stdbool.h>
 #include <stdio.h>
 #include <stdlib.h>
 #include <string.h>
-#include <time.h>
 
 enum {
-    MAX_BYTES = RECORD_BYTES * MAX_RECORDS,
-    ROOM = MAX_BYTES + 2 * RECORD_BYTES, /* so that a vocabulary can be made too long */
-    DAMAGES = 5000,                      /* for each input */
+    DAMAGES = 5000, /* for each input */
     ROUNDS = 11
 };
 static const double MEASUREMENT_NS = 50e6;
 
-struct input {
-    const char *name;
-    uint64_t expected;
-    size_t len;
-    uint8_t bytes[ROOM];
-};
-
 typedef uint64_t check_function(const uint8_t *vocabulary, size_t vocabulary_len);
 
 /* --- inputs --- */
-
-static void write_u16(uint8_t *bytes, unsigned value)
-{
-    bytes[0] = (uint8_t)value;
-    bytes[1] = (uint8_t)(value >> 8);
-}
-
-static void add(struct input *input, enum kind kind, unsigned a, unsigned b, unsigned next)
-{
-    uint8_t *bytes = input->bytes + input->len;
-
-    bytes[0] = (uint8_t)kind;
-    bytes[1] = kind == HEADER;
-    write_u16(bytes + 2, a);
-    write_u16(bytes + 4, b);
-    write_u16(bytes + 6, next);
-    input->len += RECORD_BYTES;
-}
-
-static size_t count_of(const struct input *input)
-{
-    return input->len / RECORD_BYTES;
-}
 
 static uint8_t *last_record(struct input *input)
 {
@@ -140,27 +107,6 @@ static void (*const makers[])(struct input *) = {
 enum { INPUTS = sizeof makers / sizeof *makers };
 
 /* --- agreement --- */
-
-/* splitmix64: the same damages in every run. */
-static uint64_t random_u64(void)
-{
-    static uint64_t state = 1;
-    uint64_t z = state += 0x9e3779b97f4a7c15;
-
-    z = (z ^ z >> 30) * 0xbf58476d1ce4e5b9;
-    z = (z ^ z >> 27) * 0x94d049bb133111eb;
-    return z ^ z >> 31;
-}
-
-static size_t below(size_t bound)
-{
-    return random_u64() % bound;
-}
-
-static uint8_t *some_record(struct input *input)
-{
-    return input->bytes + RECORD_BYTES * below(count_of(input));
-}
 
 static void damage_bytes(struct input *input)
 {
@@ -296,15 +242,6 @@ static void call(check_function *check, const struct input *input, uint64_t call
     }
 }
 
-/* Processor time, so that other processes on the machine count as little as possible. */
-static double now_ns(void)
-{
-    struct timespec t;
-
-    clock_gettime(CLOCK_PROCESS_CPUTIME_ID, &t);
-    return 1e9 * (double)t.tv_sec + (double)t.tv_nsec;
-}
-
 static double time_calls(check_function *check, const struct input *input, uint64_t calls)
 {
     double start = now_ns();
@@ -324,19 +261,6 @@ static uint64_t calibrate(check_function *check, const struct input *input)
     return 1 + (uint64_t)((double)calls * MEASUREMENT_NS / ns);
 }
 
-static int compare_doubles(const void *left, const void *right)
-{
-    double a = *(const double *)left, b = *(const double *)right;
-
-    return (a > b) - (a < b);
-}
-
-static double median(double *values)
-{
-    qsort(values, ROUNDS, sizeof *values, compare_doubles);
-    return values[ROUNDS / 2];
-}
-
 static void measure(const struct input *input)
 {
     uint64_t library_calls = calibrate(judge_check_vocabulary, input);
@@ -347,7 +271,7 @@ static void measure(const struct input *input)
         library[i] = time_calls(judge_check_vocabulary, input, library_calls) / (double)library_calls;
         plain[i] = time_calls(plain_check_vocabulary, input, plain_calls) / (double)plain_calls;
     }
-    double library_ns = median(library), plain_ns = median(plain);
+    double library_ns = median(library, ROUNDS), plain_ns = median(plain, ROUNDS);
     printf("| %s | %zu | %.1f | %.1f | %.2f |\n",
            input->name, input->len, library_ns, plain_ns, library_ns / plain_ns);
     fflush(stdout);
