@@ -22,6 +22,17 @@ uint64_t judge_check_vocabulary(const uint8_t *vocabulary, size_t vocabulary_len
 /* The record call. Accepted: the byte offset of the record; its eight bytes start there. */
 uint64_t judge_record(const uint8_t *vocabulary, size_t vocabulary_len, uint32_t number);
 
+/* The comparison of the terms numbered a and b, in every finite interpretation that satisfies the statements. Accepted:
+ *   bit 8        0 Equal, 1 Different
+ *   bits 9-24    Different: the smallest survivor at which the two differ; Equal: 0
+ *   bits 25-41   the number of survivors
+ *   bits 42-58   the number of rounds that removed something
+ * The survivors are written into the first 512 bytes of the buffer, which must hold as many (bit t mod 8 of byte t div 8
+ * is 1 for a survivor t); later bytes keep their content. A refusal writes nothing. The buffer must not overlap the
+ * vocabulary, and must be writable. */
+uint64_t judge_compare(const uint8_t *vocabulary, size_t vocabulary_len, uint32_t a, uint32_t b, uint8_t *buffer,
+                       size_t buffer_len);
+
 #ifdef __cplusplus
 }
 #endif
