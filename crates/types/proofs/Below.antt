@@ -1,5 +1,5 @@
 -- Tests below a bound: `allBelow`, and the smallest number at which a test holds.
---   all-intro, all-at, all-fails, all-cong   every number passes, or one does not
+--   all-intro, all-at, all-fails, all-miss, all-cong   every number passes, or one does not
 --   least-bound, least-holds, least-before   what the smallest is
 --   least-is, least-end                      what is the smallest
 --   least-cong                               tests that agree below the bound
@@ -38,6 +38,14 @@ module _ (test : ℕ → Bool) where
           → (i : ℕ) × (i < suc n) × (test i ≡ false)
       at true q h r = (n, omega arith, h)
       at false q h r = let f = r q in (f .0, omega (arith, f .1), f .2)
+
+  -- a test that fails somewhere does not hold everywhere
+  pub all-miss : (n i : ℕ) → i < n → test i ≡ false → allBelow test n ≡ false
+  all-miss n i h e = at (allBelow test n) refl
+    where
+      at : (b : Bool) → allBelow test n ≡ b → b ≡ false
+      at true q = let holds = all-at n q i h in absurd (clash (cc))
+      at false q = refl
 
 pub all-cong : (f g : ℕ → Bool) (n : ℕ) → ((i : ℕ) → i < n → f i ≡ g i) → allBelow f n ≡ allBelow g n
 unfolding allBelow

@@ -1,5 +1,5 @@
 -- One turn of the loops of type elimination, over plain values.
---   LiveBelow, list-start, list-more, list-same, list-end     the members of a set, listed
+--   list-covering                                             the members of a set, listed, cover it
 --   member-below, search-list                                 a list that has every member; a search for one over it
 --   Entered, enter-start, enter-more, enter-same, enter-end   the words that members offer, each at its own place
 --   Swept, sweep-start, sweep-out, sweep-met, sweep-past      the members that fail a test, removed
@@ -21,71 +21,22 @@ use Rattle.records.proofs.Passed.{clash, both-left, both-right}
 use Rattle.records.proofs.Search.{any-intro, any-elim}
 use Rattle.types.specs.Below.{has}
 use Rattle.types.specs.Words.{offeredIn, Covering}
+use Rattle.types.proofs.Listing.{ListedBelow}
 use Rattle.types.proofs.Tests.{both-true, unless-false, same-truth}
 
--- The members of a set below t, listed.
-pub record LiveBelow (S : List Bool) (types : List ℕ) (left t : ℕ) : Type 0 where
-  pub size : length types ≡ 4096
-  pub few : left ≤ t
-  pub inside : (j : ℕ) → j < left → getD types j 0 < t
-  pub finds : (u : ℕ) → u < t → has S u ≡ true → (j : ℕ) × (j < left) × (getD types j 0 ≡ u)
-
-module _ (S : List Bool) (types : List ℕ) where
-  pub list-start : length types ≡ 4096 → LiveBelow S types 0 0
-  list-start e =
-      record { size = e; few = omega arith; inside = λ j h. absurd (omega arith); finds = λ u h m. absurd (omega arith) }
-
-  module _ (left t : ℕ) (l : LiveBelow S types left t) where
-    pub list-more : t < 4096 → LiveBelow S (set types left t) (left + 1) (t + 1)
-    list-more h =
-        record {
-          size = length-set types left t ∙ l .size;
-          few = omega (arith, l .few);
-          inside = λ j k. inside-at j k (ℕ-discrete j left);
-          finds = λ u k m. finds-at u k m (ℕ-discrete u t);
-        }
-      where
-        last : getD (set types left t) left 0 ≡ t
-        last = getD-set-same types left t 0 (omega (arith, l .size, l .few))
-
-        inside-at : (j : ℕ) → j < left + 1 → Dec (j ≡ left) → getD (set types left t) j 0 < t + 1
-        inside-at j k (yes q) = rw (q, last) (omega arith)
-        inside-at j k (no q) = rw (getD-set-other types left j t 0 q) (omega (arith, l .inside j (omega arith)))
-
-        Place : ℕ → Type 0
-        Place u = (j : ℕ) × (j < left + 1) × (getD (set types left t) j 0 ≡ u)
-
-        kept : (u : ℕ) → (j : ℕ) × (j < left) × (getD types j 0 ≡ u) → Place u
-        kept u f = (f .0, omega (arith, f .1), getD-set-other types left (f .0) t 0 (λ e. omega (arith, f .1)) ∙ f .2)
-
-        finds-at : (u : ℕ) → u < t + 1 → has S u ≡ true → Dec (u ≡ t) → Place u
-        finds-at u k m (yes q) = (left, omega arith, last ∙ sym q)
-        finds-at u k m (no q) = kept u (l .finds u (omega arith) m)
-
-    pub list-same : has S t ≡ false → LiveBelow S types left (t + 1)
-    list-same e =
-        record {
-          size = l .size;
-          few = omega (arith, l .few);
-          inside = λ j k. omega (arith, l .inside j k);
-          finds = λ u k m. at u k m (ℕ-discrete u t);
-        }
-      where
-        at : (u : ℕ) → u < t + 1 → has S u ≡ true → Dec (u ≡ t) → (j : ℕ) × (j < left) × (getD types j 0 ≡ u)
-        at u k m (yes q) = absurd (clash (cc))
-        at u k m (no q) = l .finds u (omega arith) m
-
-    pub list-end : t ≤ 4096 → ((u : ℕ) → t ≤ u → has S u ≡ false) → Covering types left S
-    list-end h ends =
-        record {
-          few = omega (arith, l .few);
-          inside = λ j k. omega (arith, l .inside j k);
-          finds = λ u m. at u m (decLt u t);
-        }
-      where
-        at : (u : ℕ) → has S u ≡ true → Dec (u < t) → (j : ℕ) × (j < left) × (getD types j 0 ≡ u)
-        at u m (yes k) = l .finds u k m
-        at u m (no k) = let none = ends u (omega arith) in absurd (clash (cc))
+-- The members of a set, listed, cover it.
+pub list-covering : (S : List Bool) (types : List ℕ) (left t : ℕ) → ListedBelow 4096 S types left t → t ≤ 4096
+    → ((u : ℕ) → t ≤ u → has S u ≡ false) → Covering types left S
+list-covering S types left t l h ends =
+    record {
+      few = omega (arith, l .few);
+      inside = λ j k. omega (arith, l .inside j k);
+      finds = λ u m. at u m (decLt u t);
+    }
+  where
+    at : (u : ℕ) → has S u ≡ true → Dec (u < t) → (j : ℕ) × (j < left) × (getD types j 0 ≡ u)
+    at u m (yes k) = l .finds u k m
+    at u m (no k) = let none = ends u (omega arith) in absurd (clash (cc))
 
 -- A list that has every member: a search over it for a member is one over all types.
 module _ (live : List ℕ) (left : ℕ) (S : List Bool) (c : Covering live left S) where

@@ -2,7 +2,7 @@
 -- them: proofs/Connects.antt shows that the rules are the paper's.
 use Prim.Native.Nat.{ℕ, _+_, _*_, _<_}
 use mathlib.Core.Path.{_≡_}
-use mathlib.Core.Bool.{Bool, true, false, cond, not, _||_}
+use mathlib.Core.Bool.{Bool, true, false, cond}
 use mathlib.Core.List.{List, [], _∷_}
 use lib.ListN.{getD}
 use Rattle.records.specs.Format.{recordAt, count}
@@ -54,6 +54,6 @@ pub record Decoded (v rules firsts seconds : List ℕ) : Type 0 where
   pub first-at : (i : ℕ) → i < count v → getD firsts i 0 ≡ firstOf (recordAt v i .kind) (recordAt v i .a)
   pub second-at : (i : ℕ) → i < count v → getD seconds i 0 ≡ secondOf (recordAt v i .kind) (recordAt v i .b)
 
--- Every marked record below n is done true.
-unfoldable pub holding : List Bool → List Bool → ℕ → Bool
-holding marks done n = allBelow (λ i. not (getD marks i false) || getD done i false) n
+-- Each of n listed records is done true.
+unfoldable pub holding : List ℕ → List Bool → ℕ → Bool
+holding places done n = allBelow (λ j. getD done (getD places j 0) false) n

@@ -91,12 +91,20 @@ Roles v roles = (m : ℕ) → m < width v → getD roles m 0 ≡ recordAt v (res
 abbrev pub Signs : List ℕ → List Bool → Type 0
 Signs v signs = (m : ℕ) → m < width v → getD signs m false ≡ negated v (restriction v m)
 
--- What the profile of a type is taken from: an accepted vocabulary of few enough atoms, decoded, its chain marked.
-pub record Prepared (v rules firsts seconds : List ℕ) (marks : List Bool) (places fillers : List ℕ) (signs : List Bool) : Type 0 where
+-- A list of the chained statements.
+pub record Stating (v statements : List ℕ) (found : ℕ) : Type 0 where
+  pub few : found ≤ count v
+  pub within : (j : ℕ) → j < found → getD statements j 0 < count v
+  pub states : (j : ℕ) → j < found → chained v (getD statements j 0) ≡ true
+  pub finds : (i : ℕ) → chained v i ≡ true → (j : ℕ) × (j < found) × (getD statements j 0 ≡ i)
+
+-- What the profile of a type is taken from: an accepted vocabulary of few enough atoms, decoded, its statements listed.
+pub record Prepared (v rules firsts seconds statements : List ℕ) (found : ℕ) (places fillers : List ℕ) (signs : List Bool)
+    : Type 0 where
   pub accepts : vocabularyCheck v ≡ accepted (count v)
   pub few : atoms v ≤ atomLimit
   pub decoded : Decoded v rules firsts seconds
-  pub marked : (i : ℕ) → getD marks i false ≡ chained v i
+  pub stated : Stating v statements found
   pub listed : Listed v places
   pub fillers-at : Fillers v fillers
   pub signs-at : Signs v signs

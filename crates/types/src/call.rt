@@ -2,7 +2,6 @@
 use records::answers::Checked;
 use records::answers::Counted;
 use records::answers::pass_if;
-use records::chain::mark_chain;
 use records::fields::Record;
 use records::fields::read_at;
 use records::kinds::is_term;
@@ -23,6 +22,7 @@ use crate::restrict::Listing;
 use crate::restrict::describe_restrictions;
 use crate::restrict::list_restrictions;
 use crate::truth::count_atoms;
+use crate::truth::list_statements;
 ghost use mathlib.Core.Path.{_≡_};
 ghost use mathlib.Core.Bool.{_&&_};
 ghost use mathlib.Core.List.{_++_};
@@ -98,11 +98,12 @@ fn profile_all(v: &[u8], listing: Listing, details: Details, a: usize, b: usize,
     let rules = decoded.rules;
     let firsts = decoded.firsts;
     let seconds = decoded.seconds;
-    let marks = mark_chain(v);
+    let listed = list_statements(v);
+    let statements = listed.places;
     let places = listing.places;
     let fillers = details.fillers;
     let signs = details.signs;
-    profile_types(v, &rules, &firsts, &seconds, &marks, &places, &fillers, &signs, listing.found, a, b, size)
+    profile_types(v, &rules, &firsts, &seconds, &statements, listed.found, &places, &fillers, &signs, listing.found, a, b, size)
 }
 
 // The answer for two terms of an accepted vocabulary of few enough atoms; the survivors are written.

@@ -33,7 +33,8 @@ fn profile_of(
     rules: &[u8; Record::LIMIT],
     firsts: &[u16; Record::LIMIT],
     seconds: &[u16; Record::LIMIT],
-    marks: &[bool; Record::LIMIT],
+    statements: &[u16; Record::LIMIT],
+    found: usize,
     places: &[u16; Profile::ATOMS],
     fillers: &[u16; Profile::ATOMS],
     signs: &[bool; Profile::ATOMS],
@@ -42,7 +43,7 @@ fn profile_of(
     b: usize,
     t: usize,
 ) -> Profile
-    requires { ⌜ Prepared (now v) (now rules) (now firsts) (now seconds) (now marks) (now places) (now fillers) (now signs) ⌝ }
+    requires { ⌜ Prepared (now v) (now rules) (now firsts) (now seconds) (now statements) found (now places) (now fillers) (now signs) ⌝ }
     requires { ⌜ bits ≡ width (now v) ⌝ }
     requires { ⌜ a < count (now v) ⌝ }
     requires { ⌜ b < count (now v) ⌝ }
@@ -50,7 +51,7 @@ fn profile_of(
 {
     let done = truths(v, rules, firsts, seconds, t);
     Profile {
-        fits: statements_hold(v, marks, &done),
+        fits: statements_hold(&done, statements, found),
         differs: done[a] != done[b],
         demand: word_of(&done, places, signs, bits),
         offer: word_of(&done, fillers, signs, bits),
@@ -70,7 +71,8 @@ pub fn profile_types(
     rules: &[u8; Record::LIMIT],
     firsts: &[u16; Record::LIMIT],
     seconds: &[u16; Record::LIMIT],
-    marks: &[bool; Record::LIMIT],
+    statements: &[u16; Record::LIMIT],
+    found: usize,
     places: &[u16; Profile::ATOMS],
     fillers: &[u16; Profile::ATOMS],
     signs: &[bool; Profile::ATOMS],
@@ -79,7 +81,7 @@ pub fn profile_types(
     b: usize,
     size: usize,
 ) -> Profiles
-    requires { ⌜ Prepared (now v) (now rules) (now firsts) (now seconds) (now marks) (now places) (now fillers) (now signs) ⌝ }
+    requires { ⌜ Prepared (now v) (now rules) (now firsts) (now seconds) (now statements) found (now places) (now fillers) (now signs) ⌝ }
     requires { ⌜ bits ≡ width (now v) ⌝ }
     requires { ⌜ a < count (now v) ⌝ }
     requires { ⌜ b < count (now v) ⌝ }
@@ -96,7 +98,7 @@ pub fn profile_types(
     let mut offers = [0; Profile::TYPES];
     let mut t = 0;
     while t < size {
-        let profile = profile_of(v, rules, firsts, seconds, marks, places, fillers, signs, bits, a, b, t);
+        let profile = profile_of(v, rules, firsts, seconds, statements, found, places, fillers, signs, bits, a, b, t);
         alive[t] = profile.fits;
         differs[t] = profile.differs;
         demands[t] = profile.demand;

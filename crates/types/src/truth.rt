@@ -1,10 +1,11 @@
 // Truth at a type.
+use records::chain::mark_chain;
 use records::fields::Record;
 use records::fields::read_at;
 use records::kinds::is_atom;
 ghost use mathlib.Core.Path.{_≡_};
-ghost use Prim.Native.Nat.{ℕ, _<_};
-ghost use mathlib.Core.Bool.{false, not, _||_};
+ghost use Prim.Native.Nat.{ℕ, _≤_, _<_};
+ghost use mathlib.Core.Bool.{false};
 ghost use lib.ListN.{getD};
 ghost use Rattle.records.specs.Outcome.{accepted};
 ghost use Rattle.records.specs.Format.{count};
@@ -12,6 +13,7 @@ ghost use Rattle.records.specs.Check.{vocabularyCheck};
 ghost use Rattle.types.specs.Below.{digit};
 ghost use Rattle.types.specs.Types.{atoms, truth};
 ghost use Rattle.types.specs.Rules.{select, Decoded, holding};
+ghost use Rattle.types.specs.Words.{Stating};
 
 // "k is their count."
 pub fn count_atoms(v: &[u8]) -> usize
@@ -73,26 +75,44 @@ pub fn truths(
     done
 }
 
-// Whether a record that is marked is not true.
-fn breaks(mark: bool, truth: bool) -> bool
-    ensures { λ r. ⌜ r ≡ not (not mark || truth) ⌝ }
-{
-    if mark { !truth } else { false }
+// The chained statements, in record order.
+pub struct Statements {
+    pub found: usize,
+    pub places: [u16; Record::LIMIT],
 }
 
-// Whether every chained statement holds. No way out before the end, so that the compiler tests several at once.
-pub fn statements_hold(v: &[u8], marks: &[bool; Record::LIMIT], done: &[bool; Record::LIMIT]) -> bool
+pub fn list_statements(v: &[u8]) -> Statements
     requires { ⌜ vocabularyCheck (now v) ≡ accepted (count (now v)) ⌝ }
-    ensures { λ r. ⌜ r ≡ holding (now (marks .entry)) (now (done .entry)) (count (now (v .entry))) ⌝ }
+    ensures { λ r. ⌜ Stating (now (v .entry)) (r .places) (r .found) ⌝ }
 {
     let records = v.len() / Record::SIZE;
-    let mut fit = true;
+    let marks = mark_chain(v);
+    let mut places = [0; Record::LIMIT];
+    let mut found = 0;
     let mut i = 0;
     while i < records {
-        if breaks(marks[i], done[i]) {
-            fit = false;
+        if marks[i] {
+            places[found] = i as u16;
+            found += 1;
         }
         i += 1;
     }
-    fit
+    Statements { found, places }
+}
+
+// Whether every listed statement holds.
+pub fn statements_hold(done: &[bool; Record::LIMIT], statements: &[u16; Record::LIMIT], found: usize) -> bool
+    requires { ⌜ found ≤ 512 ⌝ }
+    requires { ⌜ ((j : ℕ) → j < found → getD (now statements) j 0 < 512) ⌝ }
+    ensures { λ r. ⌜ r ≡ holding (now (statements .entry)) (now (done .entry)) found ⌝ }
+{
+    let mut j = 0;
+    while j < found {
+        let at = statements[j] as usize;
+        if !done[at] {
+            return false;
+        }
+        j += 1;
+    }
+    true
 }

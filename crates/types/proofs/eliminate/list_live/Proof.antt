@@ -5,18 +5,19 @@ use Prim.Native.Nat.{_-_, _≤_}
 use native.Mathlib.Omega.{arith}
 use mathlib.Core.Logic.{⊎-elim}
 use mathlib.Core.Path.{refl}
-use Rattle.types.proofs.Sweeps.{LiveBelow, list-start, list-more, list-same, list-end}
+use Rattle.types.proofs.Listing.{ListedBelow, list-start, list-more, list-same}
+use Rattle.types.proofs.Sweeps.{list-covering}
 use Rattle.types.proofs.eliminate.list_live.Statement.{statement}
 use Rattle.types.proofs.eliminate.list_live.Tie as tie
 
 abbrev Inv-loop : tie.InvT-loop
-Inv-loop alive size types₀ left₀ t₀ types left t = (t ≤ size) × LiveBelow alive types left t
+Inv-loop alive size types₀ left₀ t₀ types left t = (t ≤ size) × ListedBelow 4096 alive types left t
 
 abbrev μ-loop : tie.MeasureT-loop
 μ-loop alive size types₀ left₀ t₀ types left t = size - t
 
 loop-holds : tie.Need-loop-holds Inv-loop μ-loop
-loop-holds c = (omega arith, list-start _ _ refl)
+loop-holds c = (omega arith, list-start _ _ _ refl)
 
 element-copy-out-if1 : tie.Need-element-copy-out-if1 Inv-loop μ-loop
 element-copy-out-if1 c = omega (arith, c .before .before .pre .0)
@@ -44,14 +45,14 @@ loop-again c =
     let l = c .before .before .before .loop .inv .1 in (
       omega arith,
       ⊎-elim
-          (λ w. rw (w .1, w .2) (list-more _ _ _ _ l (omega (arith, c .before .before .before .before .pre .0))))
-          (λ w. rw (w .1, w .2) (list-same _ _ _ _ l (w .0 .left)))
+          (λ w. rw (w .1, w .2) (list-more _ _ _ _ _ l (omega (arith, c .before .before .before .before .pre .0)) (w .0 .taken)))
+          (λ w. rw (w .1, w .2) (list-same _ _ _ _ _ l (w .0 .left)))
           (c .if1 .came),
     )
 
 returns : tie.Need-returns Inv-loop μ-loop
 returns c =
-    list-end _ _ _ _ (c .before .loop .inv .1) (omega (arith, c .before .before .pre .0))
+    list-covering _ _ _ _ (c .before .loop .inv .1) (omega (arith, c .before .before .pre .0))
     (λ u h. c .before .before .pre .1 u (omega arith))
 
 pub list-live-spec : {M : Type 1} → statement M
