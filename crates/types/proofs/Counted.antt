@@ -4,6 +4,7 @@
 --   inBoth, first-..                            the first number in both of two sets, looked for in order
 --   tableOver, over-start, over-turn, over-length   a table written over the front of a list
 --   alive-counted, alive-first, alive-form      what a table that holds the survivors shows of them
+--   size-word, verdict-same, number-none   the number of types, the verdict and an empty byte as the code makes them
 -- Assumes nothing.
 use Prim.Native.Nat.{ℕ, zero, suc, _+_, _*_, _%_, _^_, _≤_, _<_}
 use native.Mathlib.Omega.{arith}
@@ -131,3 +132,8 @@ pub verdict-same : (v : List ℕ) (a b element size found done : ℕ)
     → _≡_ {A = Outcome Verdict} (accepted (verdictWith (ltb element size) element found done)) (accepted (verdict v a b))
 unfolding verdict
 verdict-same v a b element size found done e s f d = rw (e, s, f, d)
+
+-- A byte with no bit.
+pub number-none : (f : ℕ → Bool) → ((j : ℕ) → f j ≡ false) → 0 ≡ number 8 f
+unfolding number
+number-none f none = sym (number-cong 8 f (λ j. false) (λ j h. none j))

@@ -6,7 +6,7 @@
 --   covering-less                                a list of types serves every smaller set
 --   offer-in, covers-done                        the table of covers
 --   round-same, removes-same                     a round goes by the set, not by its table
---   stage-ends, round-rests                      a set that has nothing past the types; a round that removes nothing
+--   stage-ends, survivors-end, round-rests       a set that has nothing past the types; a round that removes nothing
 --   Eliminating, eliminating-on, rests-survivors rounds one after the other
 -- Assumes nothing.
 use Prim.Native.Nat.{ℕ, zero, suc, _+_, _-_, _*_, _%_, _^_, _≤_, _<_}
@@ -226,6 +226,10 @@ module _ (v : List ℕ) where
   unfolding stage
   stage-ends zero t h = table-past (types v) (fits v) false t h
   stage-ends (suc n) t h = table-past (types v) (λ t. has (stage v n) t && served v (stage v n) t) false t h
+
+  pub survivors-end : Ends (survivors v) (types v)
+  unfolding survivors
+  survivors-end = stage-ends (rounds v)
 
   -- a round that removes nothing leaves the set as it was
   pub round-rests : (S : List Bool) → Ends S (types v) → removes v S ≡ false → SameSet (round v S) S

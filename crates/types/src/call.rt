@@ -131,7 +131,7 @@ fn decide(v: &[u8], a: usize, b: usize, k: usize, lent: &mut [u8]) -> Compared
     let rounds = eliminate(v, &roles, bits, &demands, &offers, size, &mut alive);
     let element = find_first(&alive, &differs, size);
     let survivors = count_alive(&alive, size);
-    write_form(&alive, lent);
+    write_form(&alive, size, lent);
     conclude(element < size, element, survivors, rounds)
 }
 

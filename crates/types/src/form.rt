@@ -56,14 +56,27 @@ fn byte_of(alive: &[bool; Profile::TYPES], n: usize) -> u8
     byte as u8
 }
 
-// Writes the form into the first bytes of what is lent.
-pub fn write_form(alive: &[bool; Profile::TYPES], lent: &mut [u8])
+// The same; bytes past the types are 0.
+fn byte_below(alive: &[bool; Profile::TYPES], size: usize, n: usize) -> u8
+    requires { ⌜ n < 512 ⌝ }
+    requires { ⌜ ((t : ℕ) → size ≤ t → has (now alive) t ≡ false) ⌝ }
+    ensures { λ r. ⌜ r ≡ number 8 (λ j. has (now (alive .entry)) (8 * n + j)) ⌝ }
+{
+    if 8 * n < size {
+        return byte_of(alive, n);
+    }
+    0
+}
+
+// Writes the form of the types below `size` into the first bytes of what is lent.
+pub fn write_form(alive: &[bool; Profile::TYPES], size: usize, lent: &mut [u8])
+    requires { ⌜ ((t : ℕ) → size ≤ t → has (now alive) t ≡ false) ⌝ }
     requires { ⌜ 512 ≤ length (now lent) ⌝ }
     ensures { λ _. ⌜ now (lent .exit) ≡ table 512 (λ n. number 8 (λ j. has (now (alive .entry)) (8 * n + j))) ++ drop 512 (now (lent .entry)) ⌝ }
 {
     let mut n = 0;
     while n < Profile::BYTES {
-        lent[n] = byte_of(alive, n);
+        lent[n] = byte_below(alive, size, n);
         n += 1;
     }
 }

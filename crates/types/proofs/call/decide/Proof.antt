@@ -1,3 +1,4 @@
+use Rattle.types.proofs.Rounds.{survivors-end}
 use mathlib.Core.Bool.{_&&_, false}
 use lib.ListN.{getD}
 use Rattle.types.specs.Below.{least, countBelow, has}
@@ -54,7 +55,7 @@ count-alive-requires c κs = omega (arith, (size-word (now (c .before .before .b
 
 -- src/call.rt:133:5
 write-form-requires : tie.Need-write-form-requires
-write-form-requires c κs = (c .before .before .before .before .before .before .before .before .before .before .before .before .before .before .before .before .before .before .before .before .before .before .before .before .pre .1 .1 .1 .1 .1)
+write-form-requires c κs = (λ t h. (c .before .before .before .before .before .before .before .eliminate .ensures .0) t ∙ survivors-end (now (c .before .before .before .before .before .before .before .before .before .before .before .before .before .before .before .before .before .before .before .before .before .before .before .before .args .v)) t (omega (arith, (size-word (now (c .before .before .before .before .before .before .before .before .before .before .before .before .before .before .before .before .before .before .before .before .before .before .before .before .args .v)) (c .before .before .before .before .before .before .before .before .before .before .before .before .before .before .before .before .before .before .before .before .before .before .before .before .args .k) (c .before .before .before .before .before .before .before .before .before .before .before .before .before .before .before .before .before .before .before .before .before .before .before .before .pre .1 .0) (c .before .before .before .before .before .before .before .before .before .before .before .before .before .before .before .before .before .before .before .before .before .before .before .before .pre .1 .1 .0)))), (c .before .before .before .before .before .before .before .before .before .before .before .before .before .before .before .before .before .before .before .before .before .before .before .before .pre .1 .1 .1 .1 .1))
 
 -- src/call.rt:134:5
 conclude-requires : tie.Need-conclude-requires

@@ -11,16 +11,16 @@ use Rattle.types.proofs.form.write_form.Statement.{statement}
 use Rattle.types.proofs.form.write_form.Tie as tie
 
 abbrev Inv-loop : tie.InvT-loop
-Inv-loop alive lent₀ n₀ lent n = (n ≤ 512) × (lent ≡ tableOver (byteOf alive) n lent₀)
+Inv-loop alive size lent₀ n₀ lent n = (n ≤ 512) × (lent ≡ tableOver (byteOf alive) n lent₀)
 
 abbrev μ-loop : tie.MeasureT-loop
-μ-loop alive lent₀ n₀ lent n = 512 - n
+μ-loop alive size lent₀ n₀ lent n = 512 - n
 
 loop-holds : tie.Need-loop-holds Inv-loop μ-loop
 loop-holds c = (omega arith, over-start (byteOf (now (c .before .args .alive))) (now (c .before .args .lent)))
 
-byte-of-requires : tie.Need-byte-of-requires Inv-loop μ-loop
-byte-of-requires c κs = omega arith
+byte-below-requires : tie.Need-byte-below-requires Inv-loop μ-loop
+byte-below-requires c κs = (omega arith, c .before .before .before .pre .0)
 
 -- as long as what was lent
 long : (c : tie.At-loop Inv-loop μ-loop) → length (c .loop .lent) ≡ length (now (c .before .before .args .lent))
@@ -42,8 +42,8 @@ loop-again c =
     let w = c .before .before in
     let a = w .before .before .args in (
       omega arith,
-      over-turn (byteOf (now (a .alive))) (w .loop .n) (now (a .lent)) (w .loop .lent) (c .byte-of .result) (omega arith)
-          (w .loop .inv .1) (c .byte-of .ensures),
+      over-turn (byteOf (now (a .alive))) (w .loop .n) (now (a .lent)) (w .loop .lent) (c .byte-below .result) (omega arith)
+          (w .loop .inv .1) (c .byte-below .ensures),
     )
 
 same-length : tie.Need-same-length Inv-loop μ-loop
@@ -62,7 +62,7 @@ write-form-spec =
     Inv-loop
     μ-loop
     loop-holds
-    byte-of-requires
+    byte-below-requires
     slice-write-lent
     add-n
     loop-less
