@@ -55,7 +55,10 @@ fn pack_verdict(differs: bool, element: usize, survivors: usize, rounds: usize) 
     requires { ⌜ rounds < 2 ^ 17 ⌝ }
     ensures { λ r. ⌜ r ≡ packedParts differs element survivors rounds ⌝ }
 {
-    256 * flag(differs) + 512 * (element as u64) + 33554432 * (survivors as u64) + 4398046511104 * (rounds as u64)
+    256 * flag(differs)
+        + 512 * (element as u64)
+        + 33554432 * (survivors as u64)
+        + 4398046511104 * (rounds as u64)
 }
 
 #[no_mangle]
@@ -66,7 +69,11 @@ pub extern "C" fn judge_compare(vocabulary: &[u8], a: u32, b: u32, buffer: &mut 
     let answer = types::compare(vocabulary, a, b, buffer);
     match answer {
         Compared::Equal { survivors, rounds } => pack_verdict(false, 0, survivors, rounds),
-        Compared::Different { element, survivors, rounds } => pack_verdict(true, element, survivors, rounds),
+        Compared::Different {
+            element,
+            survivors,
+            rounds,
+        } => pack_verdict(true, element, survivors, rounds),
         Compared::Refused { number, place } => pack(number, place),
     }
 }

@@ -8,10 +8,10 @@
 use Prim.Native.Nat.{ℕ, zero, suc, _*_, _≤_, _<_}
 use native.Mathlib.Omega.{arith}
 use native.Mathlib.Decide.{ℕ-discrete, decLt}
-use mathlib.Core.Path.{_≡_, refl, sym, ap, subst, _∙_}
+use mathlib.Core.Path.{_≡_, refl, sym, ap, subst}
 use mathlib.Core.Bool.{Bool, true, false}
 use mathlib.Core.List.{List}
-use lib.ListN.{getD, take, drop, drop-of-length-le, List·getD-eq-default}
+use lib.ListN.{getD, take, drop-of-length-le, List·getD-eq-default}
 use borrow.Author.Tests.{ne-eqb}
 use Rattle.records.specs.Format.{recordAt, count, roleCount}
 use Rattle.records.specs.Kinds.{Construct, none, top, bottom, name, negation, conjunction, disjunction, existential}
@@ -134,6 +134,7 @@ construct-atom r = at (decLt (r .kind) 10)
   where
     Says : ℕ → Type 0
     Says k = isAtom k ≡ atomic (kindOf k .says r)
+
     at : Dec (r .kind < 10) → Says (r .kind)
     at (yes h) =
         each-at 10 Says ((((((((((tt, refl), refl), refl), refl), refl), refl), refl), refl), refl), refl) (r .kind) h

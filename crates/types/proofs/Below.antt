@@ -34,7 +34,8 @@ module _ (test : ℕ → Bool) where
   all-fails zero e = absurd (clash (cc))
   all-fails (suc n) e = at (allBelow test n) refl e (all-fails n)
     where
-      at : (b : Bool) → allBelow test n ≡ b → (b && test n) ≡ false → (allBelow test n ≡ false → (i : ℕ) × (i < n) × (test i ≡ false))
+      at : (b : Bool) → allBelow test n ≡ b → (b && test n) ≡ false
+          → (allBelow test n ≡ false → (i : ℕ) × (i < n) × (test i ≡ false))
           → (i : ℕ) × (i < suc n) × (test i ≡ false)
       at true q h r = (n, omega arith, h)
       at false q h r = let f = r q in (f .0, omega (arith, f .1), f .2)
@@ -88,7 +89,8 @@ unfolding least
 least-is zero test t l h before = absurd (omega arith)
 least-is (suc n) test zero l h before = rw h
 least-is (suc n) test (suc t) l h before =
-    rw (before 0 (omega arith)) (ap (λ (x : ℕ). suc x) (least-is n (λ i. test (suc i)) t (omega arith) h (λ u k. before (suc u) (omega arith))))
+    rw (before 0 (omega arith)) (ap (λ (x : ℕ). suc x)
+    (least-is n (λ i. test (suc i)) t (omega arith) h (λ u k. before (suc u) (omega arith))))
 
 pub least-end : (n : ℕ) (test : ℕ → Bool) → ((u : ℕ) → u < n → test u ≡ false) → least test n ≡ n
 unfolding least

@@ -38,7 +38,8 @@ bit-rest b x j =
     let s = digit-small b in
     let e : (digit b + 2 * x) / 2 ≡ x = omega arith in
     let p : 2 ^ (1 + j) ≡ 2 ^ suc j = ap (λ (y : ℕ). 2 ^ y) (omega arith) in
-    ap (λ (y : ℕ). eqb (y % 2) 1) (ap (λ (y : ℕ). (digit b + 2 * x) / y) (sym p) ∙ sym (shr-shr (digit b + 2 * x) 1 j) ∙ ap (λ (y : ℕ). y / 2 ^ j) e)
+    ap (λ (y : ℕ). eqb (y % 2) 1) (ap (λ (y : ℕ). (digit b + 2 * x) / y) (sym p) ∙ sym (shr-shr (digit b + 2 * x) 1 j) ∙ ap
+    (λ (y : ℕ). y / 2 ^ j) e)
 
 pub bit-number : (n : ℕ) (f : ℕ → Bool) (j : ℕ) → j < n → bit (number n f) j ≡ f j
 unfolding number
@@ -58,7 +59,8 @@ pub number-cong : (n : ℕ) (f g : ℕ → Bool) → ((j : ℕ) → j < n → f 
 unfolding number
 number-cong zero f g h = refl
 number-cong (suc n) f g h =
-    rw (h 0 (omega arith)) (ap (λ (x : ℕ). digit (g 0) + 2 * x) (number-cong n (λ j. f (suc j)) (λ j. g (suc j)) (λ j l. h (suc j) (omega arith))))
+    rw (h 0 (omega arith)) (ap (λ (x : ℕ). digit (g 0) + 2 * x)
+    (number-cong n (λ j. f (suc j)) (λ j. g (suc j)) (λ j l. h (suc j) (omega arith))))
 
 -- a number's half has its other bits
 bit-half : (x j : ℕ) → bit (x / 2) j ≡ bit x (suc j)
@@ -79,7 +81,8 @@ last-digit x = at (ℕ-discrete (x % 2) 1)
 pub bits-same : (n x y : ℕ) → x < 2 ^ n → y < 2 ^ n → ((j : ℕ) → j < n → bit x j ≡ bit y j) → x ≡ y
 bits-same zero x y h k e = omega arith
 bits-same (suc n) x y h k e =
-    let half = bits-same n (x / 2) (y / 2) (omega arith) (omega arith) (λ j l. bit-half x j ∙ e (suc j) (omega arith) ∙ sym (bit-half y j)) in
+    let half = bits-same n (x / 2) (y / 2) (omega arith) (omega arith)
+    (λ j l. bit-half x j ∙ e (suc j) (omega arith) ∙ sym (bit-half y j)) in
     let odd : x % 2 ≡ y % 2 = last-digit x ∙ ap digit (e 0 (omega arith)) ∙ sym (last-digit y) in
     omega arith
 
@@ -97,7 +100,8 @@ unfolding bit
 bit-or x y j =
     let p = x / 2 ^ j in
     let q = y / 2 ^ j in
-    ap (λ (z : ℕ). eqb (z % 2) 1) (or-shr x y j) ∙ ap (λ (z : ℕ). eqb z 1) (or-mod p q 1) ∙ or-digits (p % 2) (q % 2) (omega arith) (omega arith)
+    ap (λ (z : ℕ). eqb (z % 2) 1) (or-shr x y j) ∙ ap (λ (z : ℕ). eqb z 1) (or-mod p q 1) ∙ or-digits (p % 2) (q % 2)
+    (omega arith) (omega arith)
 
 -- A word built from its top bit: one bit further down.
 pub number-step : (n m : ℕ) (f : ℕ → Bool) → m < n
@@ -128,7 +132,9 @@ cleared (suc i) x h =
     let e : x - 2 ^ suc i ≡ digit (bit x 0) + 2 * (x / 2 - 2 ^ i) = omega (arith, below .enough) in
     record { enough = omega (arith, below .enough); bits = at e below }
   where
-    at : x - 2 ^ suc i ≡ digit (bit x 0) + 2 * (x / 2 - 2 ^ i) → Cleared (x / 2) i → (j : ℕ) → bit (x - 2 ^ suc i) j ≡ (bit x j && not (eqb j (suc i)))
+    at : x - 2 ^ suc i ≡ digit (bit x 0) + 2 * (x / 2 - 2 ^ i) → Cleared (x / 2) i → (j : ℕ)
+        → bit (x - 2 ^ suc i) j ≡ (bit x j && not (eqb j (suc i)))
     at e below zero = rw (e, eqb·zero-suc i) (bit-first (bit x 0) (x / 2 - 2 ^ i) ∙ sym (and-true (bit x 0)))
     at e below (suc j) =
-        rw e (bit-rest (bit x 0) (x / 2 - 2 ^ i) j ∙ below .bits j ∙ ap₂ (λ (a b : Bool). a && not b) (bit-half x j) (sym (eqb·suc-suc j i)))
+        rw e (bit-rest (bit x 0) (x / 2 - 2 ^ i) j ∙ below .bits j ∙ ap₂ (λ (a b : Bool). a && not b) (bit-half x j)
+        (sym (eqb·suc-suc j i)))

@@ -3,29 +3,28 @@
 -- Assumes nothing.
 use Prim.Native.Nat.{ℕ, zero, suc, _≤_, _<_, max}
 use native.Mathlib.Omega.{arith}
-use mathlib.Core.Path.{_≡_, refl, sym, ap, subst, _∙_}
-use mathlib.Core.Bool.{Bool, true, false, _&&_}
+use mathlib.Core.Path.{_≡_, refl}
+use mathlib.Core.Bool.{_&&_}
 use mathlib.Core.List.{List}
-use lib.ListN.{length}
 use lib.Dec.{ltb, leb}
-use Rattle.records.specs.Outcome.{Outcome, Check, accepted, refused, pass, _then_, require}
+use Rattle.records.specs.Outcome.{Outcome, Check, accepted, refused, _then_}
 use Rattle.records.specs.Format.{recordAt, count}
 use Rattle.records.specs.Kinds.{isTerm, isAtom}
 use Rattle.records.specs.Check.{vocabularyCheck}
 use Rattle.records.proofs.Bounds.{Near, Nearby, Small, require-near, then-near, vocabulary-small}
 use Rattle.records.proofs.Passed.{clash}
 use Rattle.records.proofs.Accepted.{accepted-vocabulary}
-use Rattle.types.specs.Below.{digit, members}
+use Rattle.types.specs.Below.{members}
 use Rattle.types.specs.Types.{rank, atoms, types}
 use Rattle.types.specs.Survivors.{survivors, rounds}
-use Rattle.types.specs.Compare.{Verdict, equal, different, verdict, atomLimit, formBytes, termCheck, atomsCheck, lentCheck}
+use Rattle.types.specs.Compare.{Verdict, equal, different, verdict, atomLimit, formBytes, termCheck, atomsCheck}
 use Rattle.types.specs.Compare.{queryCheck, comparison}
 use Rattle.types.proofs.Sets.{members-bound}
 use Rattle.types.proofs.Bits.{digit-small}
 use Rattle.types.proofs.Turns.{types-bound}
 use Rattle.types.proofs.Largest.{stage-length, survivors-serving}
 use Rattle.types.proofs.Verdicts.{answered}
-use Rattle.types.proofs.Comparison.{Counts, counts, different-first}
+use Rattle.types.proofs.Comparison.{counts, different-first}
 
 -- An answer whose numbers are at most 2^12, or a refusal that is near.
 abbrev pub SmallVerdict : ℕ → Outcome Verdict → Type 0

@@ -14,7 +14,7 @@ use mathlib.Core.Bool.{Bool, true, false, not, _&&_, _||_}
 use lib.ListN.{List·getD-eq-default}
 use lib.Dec.{eqb}
 use borrow.Author.Tests.{ne-eqb}
-use Rattle.records.specs.Kinds.{Kind, noKind, kinds, kindOf, constructOf, isAtom}
+use Rattle.records.specs.Kinds.{noKind, kinds, kindOf, constructOf, isAtom}
 use Rattle.records.specs.declared.fields.Record.{Record}
 use Rattle.records.proofs.Constructs.{Earlier}
 use Rattle.types.specs.Below.{bit}

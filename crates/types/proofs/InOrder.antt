@@ -2,9 +2,9 @@
 --   Local      a rule that looks at earlier values only, at record i
 --   in-order   then the value is what the rule makes of the values
 -- Assumes nothing.
-use Prim.Native.Nat.{ℕ, zero, suc, _≤_, _<_}
+use Prim.Native.Nat.{ℕ, zero, suc, _<_}
 use native.Mathlib.Omega.{arith}
-use mathlib.Core.Path.{_≡_, refl, sym, _∙_}
+use mathlib.Core.Path.{_≡_}
 use Rattle.types.specs.Below.{unrolled, inRecordOrder}
 
 module _ {A : Type 0} (default : A) (rule : (ℕ → A) → ℕ → A) where

@@ -24,7 +24,13 @@ pub record ListedBelow (room : ℕ) (S : List Bool) (list : List ℕ) (left t : 
 module _ (room : ℕ) (S : List Bool) (list : List ℕ) where
   pub list-start : length list ≡ room → ListedBelow room S list 0 0
   list-start e =
-      record { size = e; few = omega arith; inside = λ j h. absurd (omega arith); members = λ j h. absurd (omega arith); finds = λ u h m. absurd (omega arith) }
+      record {
+        size = e;
+        few = omega arith;
+        inside = λ j h. absurd (omega arith);
+        members = λ j h. absurd (omega arith);
+        finds = λ u h m. absurd (omega arith);
+      }
 
   module _ (left t : ℕ) (l : ListedBelow room S list left t) where
     pub list-more : t < room → has S t ≡ true → ListedBelow room S (set list left t) (left + 1) (t + 1)

@@ -4,11 +4,11 @@
 --   decided-call                            all checks pass
 --   query-passed                            what the query then tells
 -- Assumes nothing.
-use Prim.Native.Nat.{ℕ, _≤_, _<_}
-use mathlib.Core.Path.{_≡_, refl, sym, ap, _∙_}
+use Prim.Native.Nat.{ℕ}
+use mathlib.Core.Path.{_≡_, sym, ap, _∙_}
 use mathlib.Core.List.{List, _++_}
 use lib.ListN.{length, drop}
-use Rattle.records.specs.Outcome.{Outcome, Check, accepted, refused, pass, _then_}
+use Rattle.records.specs.Outcome.{Outcome, accepted, refused, pass, _then_}
 use Rattle.records.specs.Check.{vocabularyCheck}
 use Rattle.records.specs.Answers.{checked, counted}
 use Rattle.records.specs.declared.answers.Checked.{Checked}
@@ -41,7 +41,8 @@ module _ (v : List ℕ) (a b : ℕ) (lent : List ℕ) where
     accepted-vocabulary-at = sym counts ∙ ap counted records
 
     pub refused-query : (answer : Compared) (q : Checked) (x : Outcome Verdict) (n p : ℕ)
-        → checked q ≡ queryCheck v a b (length lent) → q ≡ check.Refused n p → compared answer ≡ (checked q then x) → Called answer lent
+        → checked q ≡ queryCheck v a b (length lent) → q ≡ check.Refused n p → compared answer ≡ (checked q then x)
+        → Called answer lent
     unfolding comparison
     refused-query answer q x n p e told h =
         let no : queryCheck v a b (length lent) ≡ refused n p = sym e ∙ ap checked told in

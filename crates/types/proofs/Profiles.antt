@@ -22,7 +22,7 @@ use Rattle.types.specs.Below.{allBelow, number}
 use Rattle.types.specs.Types.{truth}
 use Rattle.types.specs.Survivors.{fits}
 use Rattle.types.specs.Rules.{holding}
-use Rattle.types.specs.Words.{width, restriction, signed, negated, demand, offer, Stating, Prepared, differ, profileAt}
+use Rattle.types.specs.Words.{width, restriction, signed, demand, offer, Stating, Prepared, differ, profileAt}
 use Rattle.types.proofs.Tests.{either-rest, implies-true, implies-rest, same-truth}
 use Rattle.types.proofs.Below.{all-intro, all-at}
 use Rattle.types.proofs.Bits.{number-cong}
@@ -77,9 +77,11 @@ module _ (v rules firsts seconds statements : List ℕ) (found : ℕ) (places fi
         back e =
             all-intro (λ j. getD done (getD statements j 0) false) found
             (λ j h. done-at j h ∙ implies-rest (chained v (getD statements j 0)) (truth v t (getD statements j 0))
-            (all-at (λ i. not (chained v i) || truth v t i) (count v) e (getD statements j 0) (p .stated .within j h)) (p .stated .states j h))
+            (all-at (λ i. not (chained v i) || truth v t i) (count v) e (getD statements j 0) (p .stated .within j h))
+            (p .stated .states j h))
 
-    pub differ-done : (a b : ℕ) → a < count v → b < count v → not (Bool·beq (getD done a false) (getD done b false)) ≡ differ v a b t
+    pub differ-done : (a b : ℕ) → a < count v → b < count v
+        → not (Bool·beq (getD done a false) (getD done b false)) ≡ differ v a b t
     differ-done a b h k = ap₂ (λ (x y : Bool). not (Bool·beq x y)) (filled a h) (filled b k)
 
     pub demand-done : (bits : ℕ) → bits ≡ width v

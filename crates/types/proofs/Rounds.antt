@@ -13,7 +13,7 @@ use Prim.Native.Nat.{ℕ, zero, suc, _+_, _-_, _*_, _%_, _^_, _≤_, _<_}
 use native.Mathlib.Omega.{arith}
 use native.Mathlib.Numerals.{add-one}
 use native.Mathlib.Decide.{decLt}
-use mathlib.Core.Path.{_≡_, refl, sym, ap, ap₂, subst, _∙_}
+use mathlib.Core.Path.{_≡_, refl, sym, ap, ap₂, _∙_}
 use mathlib.Core.Bool.{Bool, true, false, cond, not, _&&_, _||_, and-true, and-false, or-true}
 use mathlib.Core.List.{List}
 use lib.ListN.{length, getD}
@@ -31,7 +31,7 @@ use Rattle.types.specs.Types.{atoms, types, served}
 use Rattle.types.specs.Survivors.{fits, round, removes, stage, rounds, survivors}
 use Rattle.types.specs.Words.{width, others, offer, reached, spread, offered, roleServed, Roles, Demands, Offers, Covers}
 use Rattle.types.specs.Words.{offeredIn, metBy, Covering, SameSet}
-use Rattle.types.proofs.Tests.{both-true, both-rest, same-truth, unless-true}
+use Rattle.types.proofs.Tests.{both-rest, same-truth}
 use Rattle.types.proofs.Sets.{table-at, table-past, table-cong}
 use Rattle.types.proofs.Bits.{number-cong}
 use Rattle.types.proofs.Largest.{has-table, Removing, stage-falls, rounds-is}
@@ -69,7 +69,8 @@ module _ (v : List ℕ) (S : List Bool) where
         gone = sym (any-none (leaves 0) 4096 (λ t h. and-false (has S t)));
       }
 
-  pub swept-within : (alive : List Bool) (removed : Bool) (r : ℕ) → Swept alive removed r → (t : ℕ) → has alive t ≡ true → has S t ≡ true
+  pub swept-within : (alive : List Bool) (removed : Bool) (r : ℕ) → Swept alive removed r → (t : ℕ) → has alive t ≡ true
+      → has S t ≡ true
   swept-within alive removed r w t h = both-left (has S t) (below r t) (sym (w .kept t) ∙ h)
 
   -- one role further
@@ -112,7 +113,8 @@ module _ (v : List ℕ) (S : List Bool) where
         let unmet = sym (agrees t member) ∙ not-true (met t) (both-right (has alive t) (not (met t)) e) in
         rw (member, below-turn r t, both-right (has S t) (below r t) still, unmet)
 
-    either : (t : ℕ) → t < 4096 → leaves (r + 1) t ≡ true → (anyBelow (leaves r) 4096 || anyBelow (λ t. has alive t && not (met t)) 4096) ≡ true
+    either : (t : ℕ) → t < 4096 → leaves (r + 1) t ≡ true
+        → (anyBelow (leaves r) 4096 || anyBelow (λ t. has alive t && not (met t)) 4096) ≡ true
     either t h e = at (below r t) refl
       where
         member : has S t ≡ true
@@ -121,7 +123,8 @@ module _ (v : List ℕ) (S : List Bool) where
         at : (b : Bool) → below r t ≡ b → (anyBelow (leaves r) 4096 || anyBelow (λ t. has alive t && not (met t)) 4096) ≡ true
         at false q = rw (any-intro (leaves r) 4096 t h (rw (member, q)))
         at true q =
-            let unmet : roleServed v S t r ≡ false = both-rest (below r t) (roleServed v S t r) (sym (below-turn r t) ∙ not-true (below (r + 1) t) (both-right (has S t) (not (below (r + 1) t)) e)) q in
+            let unmet : roleServed v S t r ≡ false = both-rest (below r t) (roleServed v S t r)
+            (sym (below-turn r t) ∙ not-true (below (r + 1) t) (both-right (has S t) (not (below (r + 1) t)) e)) q in
             rw (any-intro (λ t. has alive t && not (met t)) 4096 t h (rw (w .kept t, member, q, agrees t member, unmet)))
             (or-true (anyBelow (leaves r) 4096))
 
@@ -133,16 +136,20 @@ module _ (v : List ℕ) (S : List Bool) where
           gone = ap₂ (λ (x y : Bool). x || y) (w .gone) told ∙ same-truth _ _ onward back;
         }
       where
-        onward : (anyBelow (leaves r) 4096 || anyBelow (λ t. has alive t && not (met t)) 4096) ≡ true → anyBelow (leaves (r + 1)) 4096 ≡ true
+        onward : (anyBelow (leaves r) 4096 || anyBelow (λ t. has alive t && not (met t)) 4096) ≡ true
+            → anyBelow (leaves (r + 1)) 4096 ≡ true
         onward e = at (anyBelow (leaves r) 4096) refl e
           where
-            at : (b : Bool) → anyBelow (leaves r) 4096 ≡ b → (b || anyBelow (λ t. has alive t && not (met t)) 4096) ≡ true → anyBelow (leaves (r + 1)) 4096 ≡ true
-            at true q h = let f = any-elim (leaves r) 4096 q in any-intro (leaves (r + 1)) 4096 (f .0) (f .1) (first (f .0) (f .2))
+            at : (b : Bool) → anyBelow (leaves r) 4096 ≡ b → (b || anyBelow (λ t. has alive t && not (met t)) 4096) ≡ true
+                → anyBelow (leaves (r + 1)) 4096 ≡ true
+            at true q h = let f = any-elim (leaves r) 4096 q in any-intro (leaves (r + 1)) 4096 (f .0) (f .1)
+                (first (f .0) (f .2))
             at false q h =
                 let f = any-elim (λ t. has alive t && not (met t)) 4096 h in
                 any-intro (leaves (r + 1)) 4096 (f .0) (f .1) (second (f .0) (f .2))
 
-        back : anyBelow (leaves (r + 1)) 4096 ≡ true → (anyBelow (leaves r) 4096 || anyBelow (λ t. has alive t && not (met t)) 4096) ≡ true
+        back : anyBelow (leaves (r + 1)) 4096 ≡ true
+            → (anyBelow (leaves r) 4096 || anyBelow (λ t. has alive t && not (met t)) 4096) ≡ true
         back e = let f = any-elim (leaves (r + 1)) 4096 e in either (f .0) (f .1) (f .2)
 
   module _ (good : Accepted v) (ends : Ends S (types v)) where
@@ -167,7 +174,8 @@ module _ (v : List ℕ) (S : List Bool) where
             w .kept t ∙ ap (λ (x : Bool). x && below (roleCount v) t) (ends t (omega arith))
             ∙ sym (table-past (types v) (λ t. has S t && served v S t) false t (omega arith))
 
-    pub swept-removes : (alive : List Bool) (removed : Bool) → types v ≤ 4096 → Swept alive removed (roleCount v) → removed ≡ removes v S
+    pub swept-removes : (alive : List Bool) (removed : Bool) → types v ≤ 4096 → Swept alive removed (roleCount v)
+        → removed ≡ removes v S
     swept-removes alive removed few w = w .gone ∙ same-truth _ _ onward back
       where
         same : (t : ℕ) → leaves (roleCount v) t ≡ (has S t && not (served v S t))
@@ -198,7 +206,8 @@ module _ (v : List ℕ) where
       → bitOr (getD demands t 0) x < 4096
   reached-in demands t r x few h d e = rw (e, d t h) (reached-bound t r few)
 
-  pub met-role : (S : List Bool) (demands table : List ℕ) (t r x : ℕ) → t < types v → Demands v demands → Covers v S table → x ≡ others v r
+  pub met-role : (S : List Bool) (demands table : List ℕ) (t r x : ℕ) → t < types v → Demands v demands → Covers v S table
+      → x ≡ others v r
       → metBy table x (getD demands t 0) ≡ roleServed v S t r
   met-role S demands table t r x h d c e = rw (e, d t h, c (reached v t r) (reached-small v t r))
 
@@ -236,7 +245,8 @@ module _ (v : List ℕ) where
   round-rests S ends e t = at (decLt t (types v))
     where
       at : Dec (t < types v) → has (round v S) t ≡ has S t
-      at (yes h) = table-at (types v) (λ t. has S t && served v S t) false t h ∙ stays (has S t) (served v S t) (any-at (λ t. has S t && not (served v S t)) (types v) e t h)
+      at (yes h) = table-at (types v) (λ t. has S t && served v S t) false t h ∙ stays (has S t) (served v S t)
+          (any-at (λ t. has S t && not (served v S t)) (types v) e t h)
         where
           stays : (a b : Bool) → (a && not b) ≡ false → (a && b) ≡ a
           stays true b q = not-false b q
@@ -247,12 +257,14 @@ module _ (v : List ℕ) where
   offer-in offers t few h o =
       omega (arith, o t h, offer-small v t, pow-mono {i = width v} {j = 12} (omega (arith, width-bound v)))
 
-  module _ (S : List Bool) (offers : List ℕ) (good : Accepted v) (ends : Ends S (types v)) (few : types v ≤ 4096) (o : Offers v offers) where
+  module _ (S : List Bool) (offers : List ℕ) (good : Accepted v) (ends : Ends S (types v)) (few : types v ≤ 4096)
+      (o : Offers v offers) where
     -- the offers entered are those of the set
     offered-in : (x : ℕ) → offeredIn offers S 4096 x ≡ offered v S x
     offered-in x = ap (λ (b : Bool). cond b x 0) (same-truth _ _ onward back)
       where
-        onward : anyBelow (λ s. has S s && eqb (getD offers s 0) x) 4096 ≡ true → anyBelow (λ s. has S s && eqb (offer v s) x) (types v) ≡ true
+        onward : anyBelow (λ s. has S s && eqb (getD offers s 0) x) 4096 ≡ true
+            → anyBelow (λ s. has S s && eqb (offer v s) x) (types v) ≡ true
         onward e =
             let f = any-elim (λ s. has S s && eqb (getD offers s 0) x) 4096 e in
             let member = both-left (has S (f .0)) (eqb (getD offers (f .0) 0) x) (f .2) in
@@ -260,7 +272,8 @@ module _ (v : List ℕ) where
             any-intro (λ s. has S s && eqb (offer v s) x) (types v) (f .0) h
             (ap (λ (y : ℕ). has S (f .0) && eqb y x) (sym (o (f .0) h)) ∙ f .2)
 
-        back : anyBelow (λ s. has S s && eqb (offer v s) x) (types v) ≡ true → anyBelow (λ s. has S s && eqb (getD offers s 0) x) 4096 ≡ true
+        back : anyBelow (λ s. has S s && eqb (offer v s) x) (types v) ≡ true
+            → anyBelow (λ s. has S s && eqb (getD offers s 0) x) 4096 ≡ true
         back e =
             let f = any-elim (λ s. has S s && eqb (offer v s) x) (types v) e in
             any-intro (λ s. has S s && eqb (getD offers s 0) x) 4096 (f .0) (omega (arith, f .1))
@@ -312,7 +325,8 @@ module _ (v live : List ℕ) (left : ℕ) (alive : List Bool) (done : ℕ) (w : 
   eliminating-on after size next e =
       record {
         size = size;
-        same = λ t. next t ∙ ap (λ (S : List Bool). has S t) (round-same v alive (stage v done) (w .same)) ∙ ap (λ (n : ℕ). has (stage v n) t) (sym (add-one done));
+        same = λ t. next t ∙ ap (λ (S : List Bool). has S t) (round-same v alive (stage v done) (w .same)) ∙ ap
+            (λ (n : ℕ). has (stage v n) t) (sym (add-one done));
         before = removing-on e;
         covering = covering-less live left alive after (λ t h. within t (sym (next t) ∙ h)) (w .covering);
       }

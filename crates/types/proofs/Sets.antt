@@ -4,10 +4,10 @@
 --   members-bound, members-same          how many are in it
 --   members-less                         a set within another that misses one
 -- Assumes nothing.
-use Prim.Native.Nat.{ℕ, zero, suc, _+_, _≤_, _<_}
+use Prim.Native.Nat.{ℕ, zero, suc, _≤_, _<_}
 use native.Mathlib.Omega.{arith}
-use mathlib.Core.Path.{_≡_, refl, sym, ap, _∙_}
-use mathlib.Core.Bool.{Bool, true, false, _&&_}
+use mathlib.Core.Path.{_≡_, refl, ap}
+use mathlib.Core.Bool.{Bool, true, false}
 use mathlib.Core.List.{List, [], _∷_}
 use lib.ListN.{length, getD}
 use Rattle.records.proofs.Passed.{clash}
@@ -35,7 +35,8 @@ module _ {A : Type 0} where
   unfolding table
   table-cong zero f g h = refl
   table-cong (suc n) f g h =
-      rw (h 0 (omega arith)) (ap (λ (l : List A). g 0 ∷ l) (table-cong n (λ i. f (suc i)) (λ i. g (suc i)) (λ i l. h (suc i) (omega arith))))
+      rw (h 0 (omega arith)) (ap (λ (l : List A). g 0 ∷ l)
+      (table-cong n (λ i. f (suc i)) (λ i. g (suc i)) (λ i l. h (suc i) (omega arith))))
 
 -- Within: each number of S is in R.
 abbrev pub Within : List Bool → List Bool → Type 0

@@ -64,7 +64,7 @@ module _ (old : List ℕ) (at half : ℕ) where
     reads h =
         let back : x + half - half ≡ x = omega arith in
         let kept : getD l (x + half) 0 ≡ getD old (x + half) 0 =
-            s .right (x + half) ∙ rw (past (at + half) (x + half) (x + half) (omega arith)) in
+        s .right (x + half) ∙ rw (past (at + half) (x + half) (x + half) (omega arith)) in
         let low : getD l x 0 ≡ getD old x 0 = s .right x ∙ rw (before (at + half) (x + half) x h) in
         rw (back, kept, low)
 
@@ -158,8 +158,13 @@ module _ (old : List ℕ) (n : ℕ) where
           (untouched y (omega arith))
       turned y (no p) (no q) (yes r) =
           let there = second-half n (s .blocks) y (omega (arith, s .place)) (omega (arith, s .place)) in
-          j y ∙ rw (between (at + 2 ^ n) (at + 2 * 2 ^ n) y (omega arith) r, lt-ltb y (at + 2 * 2 ^ n) r, there,
-          untouched y (omega arith), untouched (y - 2 ^ n) (omega arith))
+          j y ∙ rw (
+            between (at + 2 ^ n) (at + 2 * 2 ^ n) y (omega arith) r,
+            lt-ltb y (at + 2 * 2 ^ n) r,
+            there,
+            untouched y (omega arith),
+            untouched (y - 2 ^ n) (omega arith),
+          )
       turned y (no p) (no q) (no r) =
           j y ∙ rw (past (at + 2 ^ n) (at + 2 * 2 ^ n) y (omega arith), le-ltb y (at + 2 * 2 ^ n) (omega arith))
           (untouched y (omega arith))

@@ -182,12 +182,12 @@ module _ (met : ℕ → Bool) (live : List ℕ) (S : List Bool) where
       all-met t m =
           let f = c .finds t (l .within t m) in
           subst (λ (u : ℕ). met u ≡ true) (f .2)
-              (l .tested (f .0) (omega (arith, f .1)) (subst (λ (u : ℕ). has R u ≡ true) (sym (f .2)) m))
+          (l .tested (f .0) (omega (arith, f .1)) (subst (λ (u : ℕ). has R u ≡ true) (sym (f .2)) m))
 
       pub sweep-set : (t : ℕ) → has R t ≡ (has S t && met t)
       sweep-set t =
           same-truth _ _ (λ m. both-true (has S t) (met t) (l .within t m) (all-met t m))
-              (λ b. l .stays t (both-left (has S t) (met t) b) (both-right (has S t) (met t) b))
+          (λ b. l .stays t (both-left (has S t) (met t) b) (both-right (has S t) (met t) b))
 
       pub sweep-any : removed ≡ anyBelow (λ t. has S t && not (met t)) 4096
       sweep-any = same-truth _ _ there back
@@ -196,7 +196,7 @@ module _ (met : ℕ → Bool) (live : List ℕ) (S : List Bool) where
           there r =
               let f = l .found r in
               any-intro (λ t. has S t && not (met t)) 4096 (f .0) (member-below live left S c (f .0) (f .1))
-                  (both-true (has S (f .0)) (not (met (f .0))) (f .1) (ap not (f .2)))
+              (both-true (has S (f .0)) (not (met (f .0))) (f .1) (ap not (f .2)))
 
           back : anyBelow (λ t. has S t && not (met t)) 4096 ≡ true → removed ≡ true
           back a =

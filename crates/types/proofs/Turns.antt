@@ -7,12 +7,12 @@
 --   all-fails-turn, all-holds-turn  a test of all, one number further
 --   word-start, word-turn, word-end, word-bound   a word built from its top bit
 -- Assumes nothing.
-use Prim.Native.Nat.{ℕ, zero, suc, _+_, _-_, _*_, _^_, _≤_, _<_}
+use Prim.Native.Nat.{ℕ, zero, suc, _+_, _-_, _*_, _≤_, _<_}
 use native.Mathlib.Omega.{arith}
 use native.Mathlib.Decide.{ℕ-discrete}
 use native.Mathlib.Numerals.{add-one}
-use mathlib.Core.Path.{_≡_, refl, sym, ap, subst, _∙_}
-use mathlib.Core.Bool.{Bool, true, false, _&&_, and-false, and-true}
+use mathlib.Core.Path.{_≡_, refl, sym, ap, _∙_}
+use mathlib.Core.Bool.{Bool, true, false, and-false, and-true}
 use mathlib.Core.List.{List}
 use lib.ListN.{length, getD, set, replicate, length-set}
 use lib.Pow.{pow-mono}
@@ -62,7 +62,8 @@ ends-empty zero i u h = refl
 ends-empty (suc n) i zero h = refl
 ends-empty (suc n) i (suc u) h = ends-empty n 0 u (omega arith)
 
-pub rank-turn : (v : List ℕ) (i found : ℕ) (b : Bool) → found ≡ rank v i → isAtom (recordAt v i .kind) ≡ b → found + digit b ≡ rank v (i + 1)
+pub rank-turn : (v : List ℕ) (i found : ℕ) (b : Bool) → found ≡ rank v i → isAtom (recordAt v i .kind) ≡ b
+    → found + digit b ≡ rank v (i + 1)
 unfolding rank
 rank-turn v i found b e q = rw (add-one, e, q)
 
@@ -88,7 +89,8 @@ module _ (bits : ℕ) (f : ℕ → Bool) where
   word-bound m w h e =
       omega (arith, number-small (bits - m) (λ i. f (m + i)), pow-mono {i = bits - m} {j = 12} (omega arith))
 
-  pub word-turn : (m : ℕ) (w : ℕ) (x : Bool) → 0 < m → m ≤ bits → w ≡ wordFrom m → x ≡ f (m - 1) → digit x + 2 * w ≡ wordFrom (m - 1)
+  pub word-turn : (m : ℕ) (w : ℕ) (x : Bool) → 0 < m → m ≤ bits → w ≡ wordFrom m → x ≡ f (m - 1)
+      → digit x + 2 * w ≡ wordFrom (m - 1)
   word-turn m w x p h e q =
       let back : m - 1 + 1 ≡ m = omega arith in
       sym (number-step bits (m - 1) f (omega arith) ∙ rw (back, ← e, ← q))

@@ -23,7 +23,8 @@ use Rattle.types.specs.Below.{has, members}
 use Rattle.types.specs.Meaning.{Interpretation, Element, belongs, Model, AlwaysEqual}
 use Rattle.types.specs.Types.{atoms, types, truth}
 use Rattle.types.specs.Survivors.{rounds, survivors}
-use Rattle.types.specs.Compare.{Verdict, equal, different, parted, firstParted, verdictWith, verdict, atomLimit, formBytes}
+use Rattle.types.specs.Compare.{Verdict, equal, different, parted}
+use Rattle.types.specs.Compare.{firstParted, verdictWith, verdict, atomLimit, formBytes}
 use Rattle.types.specs.Compare.{termCheck, atomsCheck, lentCheck, queryCheck, comparison}
 use Rattle.types.specs.Form.{form, readBack}
 use Rattle.types.proofs.Tests.{both-rest}

@@ -8,9 +8,19 @@ ghost use Rattle.types.specs.Compare.{different, verdictWith};
 ghost use Rattle.types.specs.Answers.{compared};
 
 pub enum Compared {
-    Equal { survivors: usize, rounds: usize },
-    Different { element: usize, survivors: usize, rounds: usize },
-    Refused { number: u8, place: usize },
+    Equal {
+        survivors: usize,
+        rounds: usize,
+    },
+    Different {
+        element: usize,
+        survivors: usize,
+        rounds: usize,
+    },
+    Refused {
+        number: u8,
+        place: usize,
+    },
 }
 
 // The comparison's answer where the vocabulary was refused; with none refused it would be empty.
@@ -18,7 +28,11 @@ pub fn compare_after_count(vocabulary: Counted) -> Compared
     ensures { λ r. ⌜ compared r ≡ (counted vocabulary then accepted (different 0 0 0)) ⌝ }
 {
     match vocabulary {
-        Counted::Records(_) => Compared::Different { element: 0, survivors: 0, rounds: 0 },
+        Counted::Records(_) => Compared::Different {
+            element: 0,
+            survivors: 0,
+            rounds: 0,
+        },
         Counted::Refused { number, place } => Compared::Refused { number, place },
     }
 }
@@ -28,7 +42,11 @@ pub fn compare_after(check: Checked) -> Compared
     ensures { λ r. ⌜ compared r ≡ (checked check then accepted (different 0 0 0)) ⌝ }
 {
     match check {
-        Checked::Fine => Compared::Different { element: 0, survivors: 0, rounds: 0 },
+        Checked::Fine => Compared::Different {
+            element: 0,
+            survivors: 0,
+            rounds: 0,
+        },
         Checked::Refused { number, place } => Compared::Refused { number, place },
     }
 }
@@ -38,7 +56,11 @@ pub fn conclude(found: bool, element: usize, survivors: usize, rounds: usize) ->
     ensures { λ r. ⌜ compared r ≡ accepted (verdictWith found element survivors rounds) ⌝ }
 {
     if found {
-        Compared::Different { element, survivors, rounds }
+        Compared::Different {
+            element,
+            survivors,
+            rounds,
+        }
     } else {
         Compared::Equal { survivors, rounds }
     }

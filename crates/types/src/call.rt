@@ -1,10 +1,4 @@
 // The comparison: rows 1 to 8, 10, 11 and 12 of the table of refusals, type elimination, and the answer.
-use records::answers::Checked;
-use records::answers::Counted;
-use records::answers::pass_if;
-use records::fields::Record;
-use records::fields::read_at;
-use records::kinds::is_term;
 use crate::answers::Compared;
 use crate::answers::compare_after;
 use crate::answers::compare_after_count;
@@ -23,6 +17,12 @@ use crate::restrict::describe_restrictions;
 use crate::restrict::list_restrictions;
 use crate::truth::count_atoms;
 use crate::truth::list_statements;
+use records::answers::Checked;
+use records::answers::Counted;
+use records::answers::pass_if;
+use records::fields::Record;
+use records::fields::read_at;
+use records::kinds::is_term;
 ghost use mathlib.Core.Path.{_≡_};
 ghost use mathlib.Core.Bool.{_&&_};
 ghost use mathlib.Core.List.{_++_};
@@ -78,7 +78,14 @@ fn check_query(v: &[u8], a: usize, b: usize, k: usize, lent: usize) -> Checked
 }
 
 // The restrictions and what is known of each.
-fn profile_all(v: &[u8], listing: Listing, details: Details, a: usize, b: usize, size: usize) -> Profiles
+fn profile_all(
+    v: &[u8],
+    listing: Listing,
+    details: Details,
+    a: usize,
+    b: usize,
+    size: usize,
+) -> Profiles
     requires { ⌜ vocabularyCheck (now v) ≡ accepted (count (now v)) ⌝ }
     requires { ⌜ atoms (now v) ≤ 12 ⌝ }
     requires { ⌜ a < count (now v) ⌝ }
@@ -103,7 +110,21 @@ fn profile_all(v: &[u8], listing: Listing, details: Details, a: usize, b: usize,
     let places = listing.places;
     let fillers = details.fillers;
     let signs = details.signs;
-    profile_types(v, &rules, &firsts, &seconds, &statements, listed.found, &places, &fillers, &signs, listing.found, a, b, size)
+    profile_types(
+        v,
+        &rules,
+        &firsts,
+        &seconds,
+        &statements,
+        listed.found,
+        &places,
+        &fillers,
+        &signs,
+        listing.found,
+        a,
+        b,
+        size,
+    )
 }
 
 // The answer for two terms of an accepted vocabulary of few enough atoms; the survivors are written.

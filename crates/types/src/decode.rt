@@ -68,5 +68,9 @@ pub fn decode(v: &[u8]) -> Rules
         seconds[i] = second_operand(fields.kind, fields.b);
         i += 1;
     }
-    Rules { rules, firsts, seconds }
+    Rules {
+        rules,
+        firsts,
+        seconds,
+    }
 }

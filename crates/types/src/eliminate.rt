@@ -1,8 +1,8 @@
 // Type elimination: rounds over a table of the types that are left.
-use records::fields::read_at;
 use crate::profile::Profile;
 use crate::restrict::others_of;
 use crate::words::spread_words;
+use records::fields::read_at;
 ghost use mathlib.Core.Path.{_≡_};
 ghost use mathlib.Core.Bool.{true, false, not, _&&_, _||_};
 ghost use Prim.Native.Nat.{ℕ, _≤_, _<_};

@@ -25,7 +25,11 @@ pub fn count_alive(alive: &[bool; Profile::TYPES], size: usize) -> usize
 }
 
 // The smallest that is in both tables, or `size`.
-pub fn find_first(alive: &[bool; Profile::TYPES], differs: &[bool; Profile::TYPES], size: usize) -> usize
+pub fn find_first(
+    alive: &[bool; Profile::TYPES],
+    differs: &[bool; Profile::TYPES],
+    size: usize,
+) -> usize
     requires { ⌜ size ≤ 4096 ⌝ }
     ensures { λ r. ⌜ r ≡ least (λ t. has (now (alive .entry)) t && getD (now (differs .entry)) t false) size ⌝ }
 {

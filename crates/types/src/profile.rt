@@ -1,8 +1,8 @@
 // What the comparison needs to know of each type, taken from one table of truths.
-use records::fields::Record;
 use crate::restrict::word_of;
 use crate::truth::statements_hold;
 use crate::truth::truths;
+use records::fields::Record;
 ghost use mathlib.Core.Path.{_≡_};
 ghost use Prim.Native.Nat.{_<_};
 ghost use lib.ListN.{length};
@@ -23,7 +23,9 @@ pub struct Profile {
 impl Profile {
     // Atoms of a vocabulary that is compared, its types, and the bytes of the form that holds a bit for each.
     pub const ATOMS: usize = 12;
+
     pub const TYPES: usize = 4096;
+
     pub const BYTES: usize = 512;
 }
 
@@ -98,12 +100,31 @@ pub fn profile_types(
     let mut offers = [0; Profile::TYPES];
     let mut t = 0;
     while t < size {
-        let profile = profile_of(v, rules, firsts, seconds, statements, found, places, fillers, signs, bits, a, b, t);
+        let profile = profile_of(
+            v,
+            rules,
+            firsts,
+            seconds,
+            statements,
+            found,
+            places,
+            fillers,
+            signs,
+            bits,
+            a,
+            b,
+            t,
+        );
         alive[t] = profile.fits;
         differs[t] = profile.differs;
         demands[t] = profile.demand;
         offers[t] = profile.offer;
         t += 1;
     }
-    Profiles { alive, differs, demands, offers }
+    Profiles {
+        alive,
+        differs,
+        demands,
+        offers,
+    }
 }

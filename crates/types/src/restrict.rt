@@ -1,8 +1,8 @@
 // The restrictions (kinds 7 and 8), and the words that hold a bit for each.
-use records::fields::Record;
-use records::fields::read_at;
 use crate::profile::Profile;
 use crate::truth::digit;
+use records::fields::Record;
+use records::fields::read_at;
 ghost use mathlib.Core.Path.{_≡_};
 ghost use Prim.Native.Nat.{ℕ, _<_, _≤_};
 ghost use mathlib.Core.Bool.{false, not};
@@ -77,7 +77,11 @@ pub fn describe_restrictions(v: &[u8], places: &[u16; Profile::ATOMS], bits: usi
         signs[m] = fields.kind == 8;
         m += 1;
     }
-    Details { fillers, roles, signs }
+    Details {
+        fillers,
+        roles,
+        signs,
+    }
 }
 
 // A truth, negated where the sign says so.

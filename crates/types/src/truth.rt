@@ -101,7 +101,11 @@ pub fn list_statements(v: &[u8]) -> Statements
 }
 
 // Whether every listed statement holds.
-pub fn statements_hold(done: &[bool; Record::LIMIT], statements: &[u16; Record::LIMIT], found: usize) -> bool
+pub fn statements_hold(
+    done: &[bool; Record::LIMIT],
+    statements: &[u16; Record::LIMIT],
+    found: usize,
+) -> bool
     requires { ⌜ found ≤ 512 ⌝ }
     requires { ⌜ ((j : ℕ) → j < found → getD (now statements) j 0 < 512) ⌝ }
     ensures { λ r. ⌜ r ≡ holding (now (statements .entry)) (now (done .entry)) found ⌝ }

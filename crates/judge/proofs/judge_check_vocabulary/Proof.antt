@@ -17,16 +17,23 @@ enum-known-answer c = search needs
 
 pack-requires : tie.Need-pack-requires
 pack-requires c κs =
-    omega
-    (arith, subst (Small 512) (sym (c .before .before .before .check-vocabulary .ensures) ∙ ap counted (c .before .answer .given .1)) (vocabulary-small (now (c .before .before .before .before .before .args .vocabulary))))
+    omega (
+      arith,
+      subst (Small 512) (sym (c .before .before .before .check-vocabulary .ensures) ∙ ap counted
+          (c .before .answer .given .1)) (vocabulary-small (now (c .before .before .before .before .before .args .vocabulary))),
+    )
 
 enum-known-answer-2 : tie.Need-enum-known-answer-2
 enum-known-answer-2 c = search needs
 
 pack-requires-2 : tie.Need-pack-requires-2
 pack-requires-2 c κs =
-    omega
-    (arith, subst (Small 512) (sym (c .before .before .before .check-vocabulary .ensures) ∙ ap counted (c .before .answer2 .given .1)) (vocabulary-small (now (c .before .before .before .before .before .args .vocabulary))))
+    omega (
+      arith,
+      subst (Small 512) (sym (c .before .before .before .check-vocabulary .ensures) ∙ ap counted
+          (c .before .answer2 .given .1))
+          (vocabulary-small (now (c .before .before .before .before .before .args .vocabulary))),
+    )
 
 returns : tie.Need-returns
 returns c = rw (← c .before .before .before .before .check-vocabulary .ensures, c .before .before .answer .given .1) (omega arith)

@@ -19,8 +19,12 @@ enum-known-answer c = search needs
 pack-requires : tie.Need-pack-requires
 pack-requires c κs =
     let a = c .before .before .before .before .before .args in
-    omega
-    (arith, subst (Small (max 4096 (a .number))) (sym (c .before .before .before .find-record .ensures) ∙ ap located (c .before .answer .given .1)) (record-small (now (a .vocabulary)) (a .number)))
+    omega (
+      arith,
+      subst (Small (max 4096 (a .number)))
+          (sym (c .before .before .before .find-record .ensures) ∙ ap located (c .before .answer .given .1))
+          (record-small (now (a .vocabulary)) (a .number)),
+    )
 
 enum-known-answer-2 : tie.Need-enum-known-answer-2
 enum-known-answer-2 c = search needs
@@ -28,8 +32,12 @@ enum-known-answer-2 c = search needs
 pack-requires-2 : tie.Need-pack-requires-2
 pack-requires-2 c κs =
     let a = c .before .before .before .before .before .args in
-    omega
-    (arith, subst (Small (max 4096 (a .number))) (sym (c .before .before .before .find-record .ensures) ∙ ap located (c .before .answer2 .given .1)) (record-small (now (a .vocabulary)) (a .number)))
+    omega (
+      arith,
+      subst (Small (max 4096 (a .number)))
+          (sym (c .before .before .before .find-record .ensures) ∙ ap located (c .before .answer2 .given .1))
+          (record-small (now (a .vocabulary)) (a .number)),
+    )
 
 returns : tie.Need-returns
 returns c = rw (← c .before .before .before .before .find-record .ensures, c .before .before .answer .given .1) (omega arith)

@@ -1,22 +1,18 @@
+-- `types::answers::compare_after_count` meets its contract. The arm that was taken tells the vocabulary check.
+-- Assumes nothing.
 use borrow.Author.Needs.{needs}
 use Rattle.types.proofs.answers.compare_after_count.Statement.{statement}
 use Rattle.types.proofs.answers.compare_after_count.Tie as tie
-use Rattle.types.proofs.answers.compare_after_count.Reads as reads
-use Rattle.types.proofs.answers.compare_after_count.Lts as lts
 
--- src/answers.rt:21:32
 enum-told : tie.Need-enum-told
 enum-told c = search needs
 
--- src/answers.rt:22:28
 enum-known-vocabulary : tie.Need-enum-known-vocabulary
 enum-known-vocabulary c = search needs
 
--- src/answers.rt:17:1
 returns : tie.Need-returns
 returns c = search needs
 
--- src/answers.rt:17:1
 returns-2 : tie.Need-returns-2
 returns-2 c = rw (c .before .vocabulary .given .1)
 

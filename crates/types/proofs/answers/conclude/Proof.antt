@@ -1,13 +1,11 @@
+-- `types::answers::conclude` meets its contract. The branch that was taken tells whether an element was found.
+-- Assumes nothing.
 use Rattle.types.proofs.answers.conclude.Statement.{statement}
 use Rattle.types.proofs.answers.conclude.Tie as tie
-use Rattle.types.proofs.answers.conclude.Reads as reads
-use Rattle.types.proofs.answers.conclude.Lts as lts
 
--- src/answers.rt:37:1
 returns : tie.Need-returns
 returns c = rw (c .if1 .taken)
 
--- src/answers.rt:37:1
 returns-2 : tie.Need-returns-2
 returns-2 c = rw (c .if1 .left)
 

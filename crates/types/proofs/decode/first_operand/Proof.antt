@@ -1,27 +1,24 @@
-use Rattle.types.proofs.Connects.{first-operand, first-low, first-above}
-use Rattle.types.specs.Rules.{shapeOf}
+-- `types::decode::first_operand` meets its contract. The arm that was taken tells the kind, and so its line of the table
+-- of shapes.
+-- Assumes nothing.
 use native.Mathlib.Omega.{arith}
+use Rattle.types.specs.Rules.{shapeOf}
+use Rattle.types.proofs.Connects.{first-operand, first-low, first-above}
 use Rattle.types.proofs.decode.first_operand.Statement.{statement}
 use Rattle.types.proofs.decode.first_operand.Tie as tie
-use Rattle.types.proofs.decode.first_operand.Reads as reads
-use Rattle.types.proofs.decode.first_operand.Lts as lts
 
--- src/decode.rt:28:1
 returns : tie.Need-returns
 unfolding shapeOf
 returns c = rw (c .match .keys1)
 
--- src/decode.rt:28:1
 returns-2 : tie.Need-returns-2
-returns-2 c = first-operand (c .before .before .before .args .a) (c .before .before .before .args .kind) (omega arith) (omega arith)
+returns-2 c = let a = c .before .before .before .args in first-operand (a .a) (a .kind) (omega arith) (omega arith)
 
--- src/decode.rt:28:1
 returns-3 : tie.Need-returns-3
-returns-3 c = first-low (c .before .before .args .a) (c .before .before .args .kind) (omega arith)
+returns-3 c = let a = c .before .before .args in first-low (a .a) (a .kind) (omega arith)
 
--- src/decode.rt:28:1
 returns-4 : tie.Need-returns-4
-returns-4 c = first-above (c .before .before .before .args .a) (c .before .before .before .args .kind) (omega arith) (λ e. omega arith)
+returns-4 c = let a = c .before .before .before .args in first-above (a .a) (a .kind) (omega arith) (λ e. omega arith)
 
 pub first-operand-spec : {M : Type 1} → statement M
 first-operand-spec = tie.close (tie.spec returns returns-2 returns-3 returns-4)

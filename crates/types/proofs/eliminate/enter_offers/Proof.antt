@@ -64,7 +64,7 @@ loop-again c =
       omega arith,
       ⊎-elim
           (λ w. rw (w .2)
-              (enter-more _ _ _ _ _ l (w .0 .taken) (c .before .before .before .before .before .pre .1 .0 _ (w .0 .taken))))
+          (enter-more _ _ _ _ _ l (w .0 .taken) (c .before .before .before .before .before .pre .1 .0 _ (w .0 .taken))))
           (λ w. rw (w .1) (enter-same _ _ _ _ _ l (w .0 .left)))
           (c .if1 .came),
     )

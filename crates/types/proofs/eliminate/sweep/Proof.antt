@@ -63,12 +63,12 @@ loop-again : tie.Need-loop-again Inv-loop μ-loop
 loop-again c =
     let l = c .before .before .before .before .loop .inv in
     ⊎-elim
-        (λ w. rw (w .4, w .5) (sweep-out _ _ _ _ _ _ l (inside (c .before .before .before)) (w .0 .taken)
-            (sym (w .2 .ensures) ∙ not-true _ (w .3 .taken))))
-        (⊎-elim
-            (λ w. rw (w .4, w .5) (sweep-met _ _ _ _ _ _ l (sym (w .2 .ensures) ∙ not-false _ (w .3 .left))))
-            (λ w. rw (w .1, w .2) (sweep-past _ _ _ _ _ _ l (w .0 .left))))
-        (c .if1 .came)
+    (λ w. rw (w .4, w .5) (sweep-out _ _ _ _ _ _ l (inside (c .before .before .before)) (w .0 .taken)
+    (sym (w .2 .ensures) ∙ not-true _ (w .3 .taken))))
+    (⊎-elim
+    (λ w. rw (w .4, w .5) (sweep-met _ _ _ _ _ _ l (sym (w .2 .ensures) ∙ not-false _ (w .3 .left))))
+    (λ w. rw (w .1, w .2) (sweep-past _ _ _ _ _ _ l (w .0 .left))))
+    (c .if1 .came)
 
 returns : tie.Need-returns Inv-loop μ-loop
 returns c =
