@@ -23,21 +23,16 @@ list-restrictions-requires c κs = let p = c .before .before .pre in (p .0, (p .
 
 describe-restrictions-requires : tie.Need-describe-restrictions-requires
 describe-restrictions-requires c κs =
-    let p = c .before .before .before .before .before .pre in (
-      p .0,
-      (
-        (p .1 .0),
-        (
-          c .before .before .list-restrictions .ensures .0,
-          c .before .before .list-restrictions .ensures .1,
-        ),
-      ),
-    )
+    let listed = c .before .before .list-restrictions in
+    let p = c .before .before .before .before .before .pre in
+    (p .0, ((p .1 .0), (listed .ensures .0, listed .ensures .1)))
 
 profile-all-requires : tie.Need-profile-all-requires
 profile-all-requires c κs =
-    let p = c .before .before .before .before .before .before .before .pre in
-    let a = c .before .before .before .before .before .before .before .args in (
+    let listed = c .before .before .before .before .list-restrictions in
+    let described = c .before .describe-restrictions in
+    let a = c .before .before .before .before .before .before .before .args in
+    let p = c .before .before .before .before .before .before .before .pre in (
       p .0,
       (
         (p .1 .0),
@@ -47,13 +42,7 @@ profile-all-requires c κs =
             (p .1 .1 .1 .1 .0),
             (
               (size-word (now (a .v)) (a .k) (p .1 .0) (p .1 .1 .0)),
-              (
-                c .before .before .before .before .list-restrictions .ensures .0,
-                (
-                  c .before .before .before .before .list-restrictions .ensures .1,
-                  (c .before .describe-restrictions .ensures .0, c .before .describe-restrictions .ensures .1 .1),
-                ),
-              ),
+              (listed .ensures .0, (listed .ensures .1, (described .ensures .0, described .ensures .1 .1))),
             ),
           ),
         ),
@@ -62,23 +51,51 @@ profile-all-requires c κs =
 
 eliminate-requires : tie.Need-eliminate-requires
 eliminate-requires c κs =
-    let p = c .before .before .before .before .before .before .before .before .before .before .before .before .before .before .before .before .pre in
-    let a = c .before .before .before .before .before .before .before .before .before .before .before .before .before .before .before .before .args in (p .0, ((p .1 .0), (c .before .before .before .before .before .before .before .before .before .before .before .before .before .list-restrictions .ensures .0, (c .before .before .before .before .before .before .before .before .before .before .describe-restrictions .ensures .1 .0, (c .before .before .before .before .before .before .before .before .profile-all .ensures .1 .1 .0, (c .before .before .before .before .before .before .before .before .profile-all .ensures .1 .1 .1 .0, ((size-word (now (a .v)) (a .k) (p .1 .0) (p .1 .1 .0)), (c .before .before .before .before .before .before .before .before .profile-all .ensures .0, c .before .before .before .before .before .before .before .before .profile-all .ensures .1 .1 .1 .1))))))))
+    let listed = c .before .before .before .before .before .before .before .before .before .before .before .before .before .list-restrictions in
+    let described = c .before .before .before .before .before .before .before .before .before .before .describe-restrictions in
+    let profiled = c .before .before .before .before .before .before .before .before .profile-all in
+    let a = c .before .before .before .before .before .before .before .before .before .before .before .before .before .before .before .before .args in
+    let p = c .before .before .before .before .before .before .before .before .before .before .before .before .before .before .before .before .pre in (
+      p .0,
+      (
+        (p .1 .0),
+        (
+          listed .ensures .0,
+          (
+            described .ensures .1 .0,
+            (
+              profiled .ensures .1 .1 .0,
+              (
+                profiled .ensures .1 .1 .1 .0,
+                ((size-word (now (a .v)) (a .k) (p .1 .0) (p .1 .1 .0)), (profiled .ensures .0, profiled .ensures .1 .1 .1 .1)),
+              ),
+            ),
+          ),
+        ),
+      ),
+    )
 
 find-first-requires : tie.Need-find-first-requires
 find-first-requires c κs =
+    let a = c .before .before .before .before .before .before .before .before .before .before .before .before .before .before .before .before .before .before .before .args in
     let p = c .before .before .before .before .before .before .before .before .before .before .before .before .before .before .before .before .before .before .before .pre in
-    let a = c .before .before .before .before .before .before .before .before .before .before .before .before .before .before .before .before .before .before .before .args in omega (arith, (size-word (now (a .v)) (a .k) (p .1 .0) (p .1 .1 .0)), types-bound (now (a .v)) (p .1 .0))
+    omega (arith, (size-word (now (a .v)) (a .k) (p .1 .0) (p .1 .1 .0)), types-bound (now (a .v)) (p .1 .0))
 
 count-alive-requires : tie.Need-count-alive-requires
 count-alive-requires c κs =
+    let a = c .before .before .before .before .before .before .before .before .before .before .before .before .before .before .before .before .before .before .before .before .before .args in
     let p = c .before .before .before .before .before .before .before .before .before .before .before .before .before .before .before .before .before .before .before .before .before .pre in
-    let a = c .before .before .before .before .before .before .before .before .before .before .before .before .before .before .before .before .before .before .before .before .before .args in omega (arith, (size-word (now (a .v)) (a .k) (p .1 .0) (p .1 .1 .0)), types-bound (now (a .v)) (p .1 .0))
+    omega (arith, (size-word (now (a .v)) (a .k) (p .1 .0) (p .1 .1 .0)), types-bound (now (a .v)) (p .1 .0))
 
 write-form-requires : tie.Need-write-form-requires
 write-form-requires c κs =
-    let p = c .before .before .before .before .before .before .before .before .before .before .before .before .before .before .before .before .before .before .before .before .before .before .before .before .pre in
-    let a = c .before .before .before .before .before .before .before .before .before .before .before .before .before .before .before .before .before .before .before .before .before .before .before .before .args in (λ t h. (c .before .before .before .before .before .before .before .eliminate .ensures .0) t ∙ survivors-end (now (a .v)) t (omega (arith, (size-word (now (a .v)) (a .k) (p .1 .0) (p .1 .1 .0)))), (p .1 .1 .1 .1 .1))
+    let left = c .before .before .before .before .before .before .before .eliminate in
+    let a = c .before .before .before .before .before .before .before .before .before .before .before .before .before .before .before .before .before .before .before .before .before .before .before .before .args in
+    let p = c .before .before .before .before .before .before .before .before .before .before .before .before .before .before .before .before .before .before .before .before .before .before .before .before .pre in (
+      λ t h. (left .ensures .0) t ∙ survivors-end (now (a .v)) t
+          (omega (arith, (size-word (now (a .v)) (a .k) (p .1 .0) (p .1 .1 .0)))),
+      (p .1 .1 .1 .1 .1),
+    )
 
 conclude-requires : tie.Need-conclude-requires
 conclude-requires c κs = search needs
@@ -88,8 +105,21 @@ same-length c = search needs
 
 returns : tie.Need-returns
 returns c =
+    let profiled = c .before .before .before .before .before .before .before .before .before .before .before .before .before .before .before .before .before .before .before .before .profile-all in
+    let left = c .before .before .before .before .before .before .before .before .before .before .before .eliminate in
+    let a = c .before .before .before .before .before .before .before .before .before .before .before .before .before .before .before .before .before .before .before .before .before .before .before .before .before .before .before .before .args in
     let p = c .before .before .before .before .before .before .before .before .before .before .before .before .before .before .before .before .before .before .before .before .before .before .before .before .before .before .before .before .pre in
-    let a = c .before .before .before .before .before .before .before .before .before .before .before .before .before .before .before .before .before .before .before .before .before .before .before .before .before .before .before .before .args in (c .conclude .ensures ∙ verdict-same (now (a .v)) (a .a) (a .b) _ _ _ _ (c .before .before .before .before .before .before .before .before .find-first .ensures ∙ ap (least _) (size-word (now (a .v)) (a .k) (p .1 .0) (p .1 .1 .0)) ∙ alive-first (now (a .v)) (c .before .before .before .before .before .before .before .before .before .before .before .eliminate .last .1 .1 .1 .1 .1 .1 .0) (c .before .before .before .before .before .before .before .before .before .before .before .eliminate .ensures .0) (a .a) (a .b) (c .before .before .before .before .before .before .before .before .before .before .before .before .before .before .before .before .before .before .before .before .profile-all .result .differs) (c .before .before .before .before .before .before .before .before .before .before .before .before .before .before .before .before .before .before .before .before .profile-all .ensures .1 .0)) (size-word (now (a .v)) (a .k) (p .1 .0) (p .1 .1 .0)) (c .before .before .before .before .before .before .count-alive .ensures ∙ ap (countBelow (has (c .before .before .before .before .before .before .before .before .before .before .before .eliminate .last .1 .1 .1 .1 .1 .1 .0))) (size-word (now (a .v)) (a .k) (p .1 .0) (p .1 .1 .0)) ∙ alive-counted (now (a .v)) (c .before .before .before .before .before .before .before .before .before .before .before .eliminate .last .1 .1 .1 .1 .1 .1 .0) (c .before .before .before .before .before .before .before .before .before .before .before .eliminate .ensures .0)) (c .before .before .before .before .before .before .before .before .before .before .before .eliminate .ensures .1), c .before .before .before .write-form .ensures ∙ ap (λ (l : List ℕ). l ++ drop 512 (now (a .lent))) (alive-form (now (a .v)) (c .before .before .before .before .before .before .before .before .before .before .before .eliminate .last .1 .1 .1 .1 .1 .1 .0) (c .before .before .before .before .before .before .before .before .before .before .before .eliminate .ensures .0)))
+    let size = size-word (now (a .v)) (a .k) (p .1 .0) (p .1 .1 .0) in
+    let alive = left .last .1 .1 .1 .1 .1 .1 .0 in (
+      c .conclude .ensures ∙ verdict-same (now (a .v)) (a .a) (a .b) _ _ _ _
+          (c .before .before .before .before .before .before .before .before .find-first .ensures ∙ ap (least _) size ∙
+          alive-first (now (a .v)) alive (left .ensures .0) (a .a) (a .b) (profiled .result .differs)
+          (profiled .ensures .1 .0)) size
+          (c .before .before .before .before .before .before .count-alive .ensures ∙ ap (countBelow (has alive)) size ∙
+          alive-counted (now (a .v)) alive (left .ensures .0)) (left .ensures .1),
+      c .before .before .before .write-form .ensures ∙ ap (λ (l : List ℕ). l ++ drop 512 (now (a .lent)))
+          (alive-form (now (a .v)) alive (left .ensures .0)),
+    )
 
 pub decide-spec : {M : Type 1} → statement M
 decide-spec =

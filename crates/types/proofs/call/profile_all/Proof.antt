@@ -11,7 +11,19 @@ list-statements-requires c κs = c .before .before .before .before .before .pre 
 
 profile-types-requires : tie.Need-profile-types-requires
 profile-types-requires c κs =
-    let p = c .before .before .before .before .before .before .before .before .before .before .before .before .before .before .before .before .before .pre in (record { accepts = p .0; few = p .1 .0; decoded = c .before .before .before .before .before .before .before .before .before .before .before .before .before .before .before .decode .ensures; stated = c .before .before .before .before .before .before .before .before .before .before .before .list-statements .ensures; listed = p .1 .1 .1 .1 .1 .1 .0; fillers-at = p .1 .1 .1 .1 .1 .1 .1 .0; signs-at = p .1 .1 .1 .1 .1 .1 .1 .1 }, (p .1 .1 .1 .1 .1 .0, (p .1 .1 .0, (p .1 .1 .1 .0, p .1 .1 .1 .1 .0))))
+    let p = c .before .before .before .before .before .before .before .before .before .before .before .before .before .before .before .before .before .pre in (
+      record {
+        accepts = p .0;
+        few = p .1 .0;
+        decoded =
+            c .before .before .before .before .before .before .before .before .before .before .before .before .before .before .before .decode .ensures;
+        stated = c .before .before .before .before .before .before .before .before .before .before .before .list-statements .ensures;
+        listed = p .1 .1 .1 .1 .1 .1 .0;
+        fillers-at = p .1 .1 .1 .1 .1 .1 .1 .0;
+        signs-at = p .1 .1 .1 .1 .1 .1 .1 .1;
+      },
+      (p .1 .1 .1 .1 .1 .0, (p .1 .1 .0, (p .1 .1 .1 .0, p .1 .1 .1 .1 .0))),
+    )
 
 returns : tie.Need-returns
 returns c = c .profile-types .ensures
