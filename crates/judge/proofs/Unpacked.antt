@@ -3,6 +3,7 @@
 --   unpacked          a small outcome can be taken apart
 --   check-unpacked    the vocabulary check's
 --   record-unpacked   the record call's
+--   Verdicts, compare-unpacked   the comparison's
 -- Assumes nothing.
 use Prim.Native.Nat.{ℕ, _/_, _%_, _^_, _<_, max}
 use native.Mathlib.Omega.{arith}
@@ -13,7 +14,9 @@ use Rattle.records.specs.Check.{vocabularyCheck}
 use Rattle.records.specs.Call.{recordCall}
 use Rattle.records.proofs.Bounds.{Small, vocabulary-small, record-small}
 use Rattle.records.proofs.Passed.{clash}
-use Rattle.judge.specs.Packed.{numberOf, valueOf, packed}
+use Rattle.types.specs.Compare.{Verdict, equal, different, comparison}
+use Rattle.types.proofs.Bounds.{SmallVerdict, most, comparison-small}
+use Rattle.judge.specs.Packed.{numberOf, valueOf, packed, packedVerdict}
 
 pub record Unpacked (o : Outcome ℕ) : Type 0 where
   -- bits 0 to 7
@@ -39,3 +42,20 @@ check-unpacked v = unpacked 512 (vocabularyCheck v) (omega arith) (vocabulary-sm
 
 pub record-unpacked : (v : List ℕ) (number : ℕ) → number < 2 ^ 32 → Unpacked (recordCall v number)
 record-unpacked v number h = unpacked (max 4096 number) (recordCall v number) (omega arith) (record-small v number)
+
+-- What the bits of the comparison's number are.
+abbrev pub Verdicts : ℕ → Outcome Verdict → Type 0
+Verdicts x (accepted (equal s n)) =
+    (x % 256 ≡ 0) × (x / 2 ^ 8 % 2 ≡ 0) × (x / 2 ^ 25 % 2 ^ 17 ≡ s) × (x / 2 ^ 42 ≡ n)
+Verdicts x (accepted (different t s n)) =
+    (x % 256 ≡ 0) × (x / 2 ^ 8 % 2 ≡ 1) × (x / 2 ^ 9 % 2 ^ 16 ≡ t) × (x / 2 ^ 25 % 2 ^ 17 ≡ s) × (x / 2 ^ 42 ≡ n)
+Verdicts x (refused n p) = (x % 256 ≡ n) × (x / 256 ≡ p) × (0 < n)
+
+pub verdict-unpacked : (m : ℕ) (o : Outcome Verdict) → SmallVerdict m o → Verdicts (packedVerdict o) o
+verdict-unpacked m (accepted (equal s n)) h = (omega arith, omega arith, omega (arith, h .0), omega (arith, h .0))
+verdict-unpacked m (accepted (different t s n)) h =
+    (omega arith, omega arith, omega (arith, h .0), omega (arith, h .0, h .1), omega (arith, h .0, h .1))
+verdict-unpacked m (refused n p) h = (omega (arith, h .1), omega (arith, h .1), h .0)
+
+pub compare-unpacked : (v : List ℕ) (a b lent : ℕ) → Verdicts (packedVerdict (comparison v a b lent)) (comparison v a b lent)
+compare-unpacked v a b lent = verdict-unpacked (most v a b lent) (comparison v a b lent) (comparison-small v a b lent)
