@@ -47,6 +47,11 @@ esac
 
 "$build/comparison" "$bench/data" --agree
 
+# valgrind counts each byte that `rep stosb` and `rep movsb` handle as an instruction, and glibc uses them for large blocks:
+# both thresholds out of reach, memset and memcpy are counted by their vector instructions, for all versions alike.
+GLIBC_TUNABLES=glibc.cpu.x86_rep_stosb_threshold=10000000:glibc.cpu.x86_rep_movsb_threshold=10000000
+export GLIBC_TUNABLES
+
 # Counting goes on in `counted` only, and each return from it dumps the count and begins anew.
 valgrind --tool=callgrind --callgrind-out-file="$build/dump" \
     --toggle-collect=counted --dump-after=counted \

@@ -1,15 +1,28 @@
 #!/bin/sh
-# Builds the library and checks the sample vocabularies, or those named, through the C boundary.
+# Builds the library; checks the sample vocabularies and compares two of their terms, through the C boundary.
+# usage: run.sh                    the samples
+#        run.sh VOCABULARY..       checks these
+#        run.sh VOCABULARY A B     compares the terms A and B
 set -eu
 root=$(cd "$(dirname "$0")/.." && pwd)
 work=$(mktemp -d)
 trap 'rm -rf "$work"' EXIT
 
 (cd "$root" && rt staticlib judge > "$work/log" 2>&1) || { cat "$work/log"; exit 1; }
-gcc -O2 -Wall -Wextra -Werror -I"$root/include" -o "$work/check" "$root/examples/check.c" "$root/target/staticlib/libjudge.a"
+for program in check compare; do
+    gcc -O2 -Wall -Wextra -Werror -I"$root/include" -o "$work/$program" "$root/examples/$program.c" \
+        "$root/target/staticlib/libjudge.a"
+done
+case ${2-}${3-} in
+'') ;;
+*[!0-9]*) ;;
+*) "$work/compare" "$@"; exit ;;
+esac
 if [ $# -gt 0 ]; then
     "$work/check" "$@"
-else
-    cd "$root/examples"
-    "$work/check" v.vocabulary repeated-label.vocabulary || [ $? -eq 1 ]
+    exit
 fi
+cd "$root/examples"
+"$work/check" v.vocabulary repeated-label.vocabulary || [ $? -eq 1 ]
+"$work/compare" v.vocabulary 4 3 || [ $? -eq 1 ]
+"$work/compare" both-ways.vocabulary 4 3

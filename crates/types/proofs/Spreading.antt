@@ -4,6 +4,8 @@
 --   shifted                                            a power of two, as the code has it
 --   Paired, pair-start, pair-turn, pair-end            one bit, block by block
 --   pair-room, pair-less                               the next block lies in the table, and less is left after it
+--   Stepped, step-start, step-turn, step-end           one bit, word by word
+--   step-room, step-back, step-less                    the word and the one without it lie in the table; less is left
 --   Spreading, spread-start, spread-turn, spread-end   all bits
 -- Assumes nothing.
 use Prim.Native.Nat.{ℕ, suc, _+_, _-_, _*_, _/_, _%_, _^_, _≤_, _<_}
@@ -11,12 +13,12 @@ use native.Mathlib.Omega.{arith}
 use native.Mathlib.Decide.{ℕ-discrete, decLt}
 use native.Mathlib.Nat.{add-mul, mul-le-mul-right, lt-of-mul-lt-mul-right}
 use native.Mathlib.Numerals.{add-one}
-use mathlib.Core.Path.{_≡_, refl, sym, ap, _∙_}
+use mathlib.Core.Path.{_≡_, refl, sym, ap, ap₂, _∙_}
 use mathlib.Core.Bool.{Bool, true, false, cond, _&&_, and-false}
 use mathlib.Core.List.{List}
 use lib.Dec.{leb, ltb, eqb}
 use lib.ListN.{length, getD, set, length-set}
-use lib.Bits.{bitOr}
+use lib.Bits.{bitOr, or-block, or-zero-r, or-shifted}
 use lib.Pow.{pow-pos, pow-add, pow-mono, shl-exact, high}
 use lib.Seq.{getD-set-same, getD-set-other}
 use borrow.Author.Tests.{lt-ltb, le-ltb, le-leb, lt-leb}
@@ -131,6 +133,12 @@ second-half n q y h k =
     let m : y / 2 ^ n % 2 ≡ 1 = omega arith in
     ap (λ (z : ℕ). eqb z 1) m
 
+-- entries joined below a bound past all words
+joined-end : (old l : List ℕ) (n bits at : ℕ) → bits ≤ 12 → shifted bits ≤ at
+    → ((y : ℕ) → getD l y 0 ≡ joinedIf (ltb y at && bit y n) old (2 ^ n) y)
+    → (x : ℕ) → x < 2 ^ bits → getD l x 0 ≡ joinedIf (bit x n) old (2 ^ n) x
+joined-end old l n bits at f h r x k = r x ∙ rw (lt-ltb x at (omega (arith, power bits (omega arith))))
+
 module _ (old : List ℕ) (n : ℕ) where
   pub pair-start : length old ≡ 4096 → Paired old n old 0
   pair-start e = record { blocks = 0; place = omega arith; size = e; right = λ y. rw (le-ltb y 0 (omega arith)) }
@@ -139,7 +147,7 @@ module _ (old : List ℕ) (n : ℕ) where
     -- at the loop's end all entries are joined
     pub pair-end : (bits : ℕ) → bits ≤ 12 → shifted bits ≤ at
         → (x : ℕ) → x < 2 ^ bits → getD l x 0 ≡ joinedIf (bit x n) old (2 ^ n) x
-    pair-end bits f h x k = s .right x ∙ rw (lt-ltb x at (omega (arith, power bits (omega arith))))
+    pair-end bits f h = joined-end old l n bits at f h (s .right)
 
     -- the next block has been joined
     module _ (m : List ℕ)
@@ -200,6 +208,134 @@ module _ (old : List ℕ) (n : ℕ) where
           → ((y : ℕ) → getD m y 0 ≡ joinedIf (leb (at + shifted n) y && ltb y (at + 2 * shifted n)) l (shifted n) y)
           → Paired old n m (at + 2 * shifted n)
       pair-turn m e j = let w = power n (omega arith) in rw w (paired m (rw w at j) e)
+
+-- A word that has bit n: its place in the second half of a block.
+record Word (n x : ℕ) : Type 0 where
+  block : ℕ
+  rest : ℕ
+  place : x ≡ 2 * block * 2 ^ n + 2 ^ n + rest
+  inside : rest < 2 ^ n
+
+module _ (n x : ℕ) (w : Word n x) where
+  word-bit : bit x n ≡ true
+  word-bit = second-half n (w .block) x (omega (arith, w .place)) (omega (arith, w .place, w .inside))
+
+  without-bit : bit (x - 2 ^ n) n ≡ false
+  without-bit = first-half n (w .block) (x - 2 ^ n) (omega (arith, w .place)) (omega (arith, w .place, w .inside))
+
+  -- z is the next word that has bit n
+  record Next (z : ℕ) : Type 0 where
+    word : Word n z
+    later : x < z
+    between-none : (y : ℕ) → x < y → y < z → bit y n ≡ false
+
+  -- the next word, by an or
+  next-word : Next (bitOr (x + 1) (2 ^ n))
+  next-word = at (decLt (w .rest + 1) (2 ^ n))
+    where
+      q : ℕ
+      q = w .block
+
+      joined : (a r : ℕ) → x + 1 ≡ a * 2 ^ n + r → r < 2 ^ n → bitOr (x + 1) (2 ^ n) ≡ bitOr a 1 * 2 ^ n + r
+      joined a r e h =
+          let p : 2 ^ n ≡ 1 * 2 ^ n + 0 = omega arith in
+          ap₂ bitOr e p ∙ or-block n a 1 r 0 h (pow-pos n) ∙ ap (λ (z : ℕ). bitOr a 1 * 2 ^ n + z) (or-zero-r r)
+
+      at : Dec (w .rest + 1 < 2 ^ n) → Next (bitOr (x + 1) (2 ^ n))
+      at (yes h) =
+          let odd : bitOr (q * 2 + 1) 1 ≡ q * 2 + 1 =
+          or-block 1 q 0 1 1 (omega arith) (omega arith) ∙ ap (λ (z : ℕ). z * 2 + 1) (or-zero-r q) in
+          let t : q * 2 ≡ 2 * q = omega arith in
+          let e : x + 1 ≡ (q * 2 + 1) * 2 ^ n + (w .rest + 1) =
+          omega (arith, w .place, add-mul (q * 2) 1 (2 ^ n), ap (λ (z : ℕ). z * 2 ^ n) t) in
+          let z : bitOr (x + 1) (2 ^ n) ≡ x + 1 = joined (q * 2 + 1) (w .rest + 1) e h ∙ rw odd (sym e) in
+          rw z (record {
+            word = record { block = q; rest = w .rest + 1; place = omega (arith, w .place); inside = h };
+            later = omega arith;
+            between-none = λ y k l. absurd (omega arith);
+          })
+      at (no h) =
+          let even : bitOr ((q + 1) * 2) 1 ≡ (q + 1) * 2 + 1 = or-shifted (q + 1) 1 1 (omega arith) in
+          let t : (q + 1) * 2 ≡ 2 * q + 2 = omega arith in
+          let u : 2 * (q + 1) ≡ 2 * q + 2 = omega arith in
+          let e : x + 1 ≡ (q + 1) * 2 * 2 ^ n + 0 = rw t (omega (arith, w .place, w .inside, add-mul (2 * q) 2 (2 ^ n))) in
+          let z : bitOr (x + 1) (2 ^ n) ≡ 2 * (q + 1) * 2 ^ n + 2 ^ n =
+          joined ((q + 1) * 2) 0 e (pow-pos n) ∙ rw (even, t, u) (omega (arith, add-mul (2 * q + 2) 1 (2 ^ n))) in
+          rw z (record {
+            word = record { block = q + 1; rest = 0; place = omega arith; inside = pow-pos n };
+            later = omega (arith, pow-pos n);
+            between-none = λ y k l. first-half n (q + 1) y (omega arith) l;
+          })
+
+-- a word of so few bits lies in the table
+pub step-room : (x bits : ℕ) → bits ≤ 12 → x < shifted bits → x < 4096
+step-room x bits few k = omega (arith, power bits (omega arith), pow-mono {i = bits} {j = 12} few)
+
+-- A table whose entries below x, a word that has bit n, are joined where they have it.
+pub record Stepped (old : List ℕ) (n : ℕ) (l : List ℕ) (x : ℕ) : Type 0 where
+  word : Word n x
+  pub size : length l ≡ 4096
+  pub right : (y : ℕ) → getD l y 0 ≡ joinedIf (ltb y x && bit y n) old (2 ^ n) y
+
+module _ (old : List ℕ) (n : ℕ) where
+  pub step-start : n < 64 → length old ≡ 4096 → Stepped old n old (shifted n)
+  step-start h e =
+      rw (power n h) (record {
+        word = record { block = 0; rest = 0; place = omega arith; inside = pow-pos n };
+        size = e;
+        right = λ y. none y (decLt y (2 ^ n));
+      })
+    where
+      none : (y : ℕ) → Dec (y < 2 ^ n) → getD old y 0 ≡ joinedIf (ltb y (2 ^ n) && bit y n) old (2 ^ n) y
+      none y (yes k) = rw (first-half n 0 y (omega arith) (omega arith), and-false (ltb y (2 ^ n)))
+      none y (no k) = rw (le-ltb y (2 ^ n) (omega arith))
+
+  module _ (l : List ℕ) (x bits : ℕ) (few : bits ≤ 12) (h : n < bits) (s : Stepped old n l x) where
+    pub step-end : shifted bits ≤ x → (y : ℕ) → y < 2 ^ bits → getD l y 0 ≡ joinedIf (bit y n) old (2 ^ n) y
+    step-end k = joined-end old l n bits x few k (s .right)
+
+    pub step-back : shifted n ≤ x
+    step-back = omega (arith, power n (omega arith), s .word .place)
+
+    pub step-less : x < shifted bits → 2 ^ bits - bitOr (x + 1) (shifted n) < 2 ^ bits - x
+    step-less k = rw (power n (omega arith)) (omega (arith, power bits (omega arith), next-word n x (s .word) .later))
+
+    abbrev entry : ℕ
+    entry = bitOr (getD l x 0) (getD l (x - 2 ^ n) 0)
+
+    -- what the turn reads is old
+    reads-old : entry ≡ bitOr (getD old x 0) (getD old (x - 2 ^ n) 0)
+    reads-old =
+        let here : getD l x 0 ≡ getD old x 0 = s .right x ∙ rw (le-ltb x x (omega arith)) in
+        let low : getD l (x - 2 ^ n) 0 ≡ getD old (x - 2 ^ n) 0 =
+        s .right (x - 2 ^ n) ∙ rw (without-bit n x (s .word), and-false (ltb (x - 2 ^ n) x)) in
+        rw (here, low)
+
+    stepped : x < 4096 → (z : ℕ) → Next n x (s .word) z → Stepped old n (set l x entry) z
+    stepped k z w =
+        record {
+          word = w .word;
+          size = length-set l x entry ∙ s .size;
+          right = λ y. turned y (ℕ-discrete y x) (decLt y x) (decLt y z);
+        }
+      where
+        turned : (y : ℕ) → Dec (y ≡ x) → Dec (y < x) → Dec (y < z)
+            → getD (set l x entry) y 0 ≡ joinedIf (ltb y z && bit y n) old (2 ^ n) y
+        turned y (yes p) q r =
+            rw (p, lt-ltb x z (w .later), word-bit n x (s .word))
+            (getD-set-same l x entry 0 (omega (arith, s .size)) ∙ reads-old)
+        turned y (no p) (yes q) r =
+            getD-set-other l x y entry 0 p ∙ s .right y ∙ rw (lt-ltb y x q, lt-ltb y z (omega (arith, w .later)))
+        turned y (no p) (no q) (yes r) =
+            let clear = w .between-none y (omega arith) r in
+            getD-set-other l x y entry 0 p ∙ s .right y ∙ rw (le-ltb y x (omega arith), clear, and-false (ltb y z))
+        turned y (no p) (no q) (no r) =
+            getD-set-other l x y entry 0 p ∙ s .right y ∙ rw (le-ltb y x (omega arith), le-ltb y z (omega arith))
+
+    pub step-turn : x < shifted bits
+        → Stepped old n (set l x (bitOr (getD l x 0) (getD l (x - shifted n) 0))) (bitOr (x + 1) (shifted n))
+    step-turn k =
+        rw (power n (omega arith)) (stepped (step-room x bits few k) (bitOr (x + 1) (2 ^ n)) (next-word n x (s .word)))
 
 -- A table spread over the bits below n, in its first 2 ^ bits entries.
 pub record Spreading (old : List ℕ) (bits : ℕ) (l : List ℕ) (n : ℕ) : Type 0 where

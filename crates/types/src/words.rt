@@ -25,7 +25,7 @@ fn join_block(cover: &mut [u16; Profile::TYPES], at: usize, half: usize)
 }
 
 // Adds to each word with bit n what stands at the word without it, block by block.
-fn spread_bit(cover: &mut [u16; Profile::TYPES], bits: usize, n: usize)
+fn spread_blocks(cover: &mut [u16; Profile::TYPES], bits: usize, n: usize)
     requires { ⌜ bits ≤ 12 ⌝ }
     requires { ⌜ n < bits ⌝ }
     requires { ⌜ length (now cover) ≡ 4096 ⌝ }
@@ -38,6 +38,39 @@ fn spread_bit(cover: &mut [u16; Profile::TYPES], bits: usize, n: usize)
     while at < size {
         join_block(cover, at, half);
         at += 2 * half;
+    }
+}
+
+// Adds to each word with bit n what stands at the word without it, word by word: for small n, where blocks are too short
+// to pay.
+fn spread_near(cover: &mut [u16; Profile::TYPES], bits: usize, n: usize)
+    requires { ⌜ bits ≤ 12 ⌝ }
+    requires { ⌜ n < bits ⌝ }
+    requires { ⌜ length (now cover) ≡ 4096 ⌝ }
+    ensures { λ _. ⌜ length (now (cover .exit)) ≡ 4096 ⌝ }
+    ensures { λ _. ⌜ ((x : ℕ) → x < 2 ^ bits → getD (now (cover .exit)) x 0 ≡ cond (bit x n) (bitOr (getD (now (cover .entry)) x 0) (getD (now (cover .entry)) (x - 2 ^ n) 0)) (getD (now (cover .entry)) x 0)) ⌝ }
+{
+    let size = 1 << bits;
+    let half = 1 << n;
+    let mut x = half;
+    while x < size {
+        cover[x] = cover[x] | cover[x - half];
+        x = (x + 1) | half;
+    }
+}
+
+// Adds to each word with bit n what stands at the word without it.
+fn spread_bit(cover: &mut [u16; Profile::TYPES], bits: usize, n: usize)
+    requires { ⌜ bits ≤ 12 ⌝ }
+    requires { ⌜ n < bits ⌝ }
+    requires { ⌜ length (now cover) ≡ 4096 ⌝ }
+    ensures { λ _. ⌜ length (now (cover .exit)) ≡ 4096 ⌝ }
+    ensures { λ _. ⌜ ((x : ℕ) → x < 2 ^ bits → getD (now (cover .exit)) x 0 ≡ cond (bit x n) (bitOr (getD (now (cover .entry)) x 0) (getD (now (cover .entry)) (x - 2 ^ n) 0)) (getD (now (cover .entry)) x 0)) ⌝ }
+{
+    if n < 3 {
+        spread_near(cover, bits, n);
+    } else {
+        spread_blocks(cover, bits, n);
     }
 }
 

@@ -1,11 +1,11 @@
--- `types::words::spread_bit` meets its contract. The loop's invariant: the entries below `at`, which ends a block of two
+-- `types::words::spread_blocks` meets its contract. The loop's invariant: the entries below `at`, which ends a block of two
 -- halves, are joined where they have bit n, all others are the caller's.
 -- Assumes nothing.
 use Prim.Native.Nat.{_-_, _^_}
 use native.Mathlib.Omega.{arith}
 use Rattle.types.proofs.Spreading.{Paired, pair-start, pair-room, pair-less, pair-turn, pair-end}
-use Rattle.types.proofs.words.spread_bit.Statement.{statement}
-use Rattle.types.proofs.words.spread_bit.Tie as tie
+use Rattle.types.proofs.words.spread_blocks.Statement.{statement}
+use Rattle.types.proofs.words.spread_blocks.Tie as tie
 
 abbrev Inv-loop : tie.InvT-loop
 Inv-loop cover₀ bits n size half at₀ cover at = Paired cover₀ n cover at
@@ -56,8 +56,8 @@ returns c =
     let s = c .before .loop .inv in
     (s .size, pair-end _ _ _ _ s _ (c .before .before .pre .0) (c .loop-test .left))
 
-pub spread-bit-spec : {M : Type 1} → statement M
-spread-bit-spec =
+pub spread-blocks-spec : {M : Type 1} → statement M
+spread-blocks-spec =
     tie.close
     (tie.spec
     Inv-loop
