@@ -26,6 +26,15 @@ Inv-loop v records rules₀ firsts₀ seconds₀ i₀ rules firsts seconds i = D
 abbrev μ-loop : tie.MeasureT-loop
 μ-loop v records rules₀ firsts₀ seconds₀ i₀ rules firsts seconds i = count v - i
 
+-- the record is in the tables
+inside : (c : tie.In-loop Inv-loop μ-loop) → c .before .loop .i < 512
+inside c =
+    omega (
+      arith,
+      c .before .loop .inv .within,
+      accepted-vocabulary (now (c .before .before .before .args .v)) _ (c .before .before .before .pre) .sized .most,
+    )
+
 loop-holds : tie.Need-loop-holds Inv-loop μ-loop
 loop-holds c =
     record {
@@ -42,64 +51,28 @@ rule-requires : tie.Need-rule-requires Inv-loop μ-loop
 rule-requires c κs = search needs
 
 array-write-rules : tie.Need-array-write-rules Inv-loop μ-loop
-array-write-rules c =
-    omega (
-      arith,
-      c .before .before .before .loop .inv .within,
-      (accepted-vocabulary (now (c .before .before .before .before .before .args .v)) _
-          (c .before .before .before .before .before .pre)) .sized .most,
-    )
+array-write-rules c = inside (c .before .before)
 
 first-operand-requires : tie.Need-first-operand-requires Inv-loop μ-loop
 first-operand-requires c κs = search needs
 
 mul-firsts : tie.Need-mul-firsts Inv-loop μ-loop
-mul-firsts c =
-    omega (
-      arith,
-      c .before .before .before .before .loop .inv .within,
-      (accepted-vocabulary (now (c .before .before .before .before .before .before .args .v)) _
-          (c .before .before .before .before .before .before .pre)) .sized .most,
-    )
+mul-firsts c = omega (arith, inside (c .before .before .before))
 
 array-write-firsts : tie.Need-array-write-firsts Inv-loop μ-loop
-array-write-firsts c =
-    omega (
-      arith,
-      c .before .before .before .before .loop .inv .within,
-      (accepted-vocabulary (now (c .before .before .before .before .before .before .args .v)) _
-          (c .before .before .before .before .before .before .pre)) .sized .most,
-    )
+array-write-firsts c = inside (c .before .before .before)
 
 second-operand-requires : tie.Need-second-operand-requires Inv-loop μ-loop
 second-operand-requires c κs = search needs
 
 mul-seconds : tie.Need-mul-seconds Inv-loop μ-loop
-mul-seconds c =
-    omega (
-      arith,
-      c .before .before .before .before .before .loop .inv .within,
-      (accepted-vocabulary (now (c .before .before .before .before .before .before .before .args .v)) _
-          (c .before .before .before .before .before .before .before .pre)) .sized .most,
-    )
+mul-seconds c = omega (arith, inside (c .before .before .before .before))
 
 array-write-seconds : tie.Need-array-write-seconds Inv-loop μ-loop
-array-write-seconds c =
-    omega (
-      arith,
-      c .before .before .before .before .before .loop .inv .within,
-      (accepted-vocabulary (now (c .before .before .before .before .before .before .before .args .v)) _
-          (c .before .before .before .before .before .before .before .pre)) .sized .most,
-    )
+array-write-seconds c = inside (c .before .before .before .before)
 
 add-i : tie.Need-add-i Inv-loop μ-loop
-add-i c =
-    omega (
-      arith,
-      c .before .before .before .before .before .loop .inv .within,
-      (accepted-vocabulary (now (c .before .before .before .before .before .before .before .args .v)) _
-          (c .before .before .before .before .before .before .before .pre)) .sized .most,
-    )
+add-i c = omega (arith, inside (c .before .before .before .before))
 
 loop-less : tie.Need-loop-less Inv-loop μ-loop
 loop-less c = omega arith

@@ -45,6 +45,12 @@ abbrev μ-loop : tie.MeasureT-loop
     differs demands offers t =
     size - t
 
+-- the type is in the tables
+inside : (c : tie.In-loop Inv-loop μ-loop) → c .before .loop .t < 4096
+inside c =
+    let p = c .before .before .before .pre in
+    omega (arith, c .before .loop .inv .within, p .1 .1 .1 .1, types-bound (now (c .before .before .before .args .v)) (p .0 .few))
+
 loop-holds : tie.Need-loop-holds Inv-loop μ-loop
 loop-holds c =
     record {
@@ -61,74 +67,25 @@ profile-of-requires : tie.Need-profile-of-requires Inv-loop μ-loop
 profile-of-requires c κs = let p = c .before .before .before .pre in (p .0, (p .1 .0, (p .1 .1 .0, p .1 .1 .1 .0)))
 
 array-write-alive : tie.Need-array-write-alive Inv-loop μ-loop
-array-write-alive c =
-    let p = c .before .before .before .before .pre in omega (
-      arith,
-      c .before .before .loop .inv .within,
-      p .1 .1 .1 .1,
-      types-bound
-          (now (c .before .before .before .before .args .v)) (p .0 .few),
-    )
+array-write-alive c = inside (c .before)
 
 array-write-differs : tie.Need-array-write-differs Inv-loop μ-loop
-array-write-differs c =
-    let p = c .before .before .before .before .pre in omega (
-      arith,
-      c .before .before .loop .inv .within,
-      p .1 .1 .1 .1,
-      types-bound
-          (now (c .before .before .before .before .args .v)) (p .0 .few),
-    )
+array-write-differs c = inside (c .before)
 
 mul-demands : tie.Need-mul-demands Inv-loop μ-loop
-mul-demands c =
-    let p = c .before .before .before .before .pre in omega (
-      arith,
-      c .before .before .loop .inv .within,
-      p .1 .1 .1 .1,
-      types-bound
-          (now (c .before .before .before .before .args .v)) (p .0 .few),
-    )
+mul-demands c = omega (arith, inside (c .before))
 
 array-write-demands : tie.Need-array-write-demands Inv-loop μ-loop
-array-write-demands c =
-    let p = c .before .before .before .before .pre in omega (
-      arith,
-      c .before .before .loop .inv .within,
-      p .1 .1 .1 .1,
-      types-bound
-          (now (c .before .before .before .before .args .v)) (p .0 .few),
-    )
+array-write-demands c = inside (c .before)
 
 mul-offers : tie.Need-mul-offers Inv-loop μ-loop
-mul-offers c =
-    let p = c .before .before .before .before .pre in omega (
-      arith,
-      c .before .before .loop .inv .within,
-      p .1 .1 .1 .1,
-      types-bound
-          (now (c .before .before .before .before .args .v)) (p .0 .few),
-    )
+mul-offers c = omega (arith, inside (c .before))
 
 array-write-offers : tie.Need-array-write-offers Inv-loop μ-loop
-array-write-offers c =
-    let p = c .before .before .before .before .pre in omega (
-      arith,
-      c .before .before .loop .inv .within,
-      p .1 .1 .1 .1,
-      types-bound
-          (now (c .before .before .before .before .args .v)) (p .0 .few),
-    )
+array-write-offers c = inside (c .before)
 
 add-t : tie.Need-add-t Inv-loop μ-loop
-add-t c =
-    let p = c .before .before .before .before .pre in omega (
-      arith,
-      c .before .before .loop .inv .within,
-      p .1 .1 .1 .1,
-      types-bound
-          (now (c .before .before .before .before .args .v)) (p .0 .few),
-    )
+add-t c = omega (arith, inside (c .before))
 
 loop-less : tie.Need-loop-less Inv-loop μ-loop
 loop-less c = omega arith

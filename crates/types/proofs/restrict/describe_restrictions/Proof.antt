@@ -2,6 +2,7 @@
 -- Assumes nothing.
 use Prim.Native.Nat.{ℕ, _-_, _≤_, _<_}
 use native.Mathlib.Omega.{arith}
+use lib.ListN.{getD}
 use mathlib.Core.Bool.{Bool, false}
 use mathlib.Core.List.{List}
 use mathlib.Core.Path.{_≡_, refl, ap, _∙_}
@@ -28,6 +29,24 @@ Inv-loop v places bits fillers₀ roles₀ signs₀ m₀ fillers roles signs m =
 abbrev μ-loop : tie.MeasureT-loop
 μ-loop v places bits fillers₀ roles₀ signs₀ m₀ fillers roles signs m = width v - m
 
+-- the restriction is in the tables, and its record in the vocabulary
+inside : (c : tie.In-loop Inv-loop μ-loop) → c .before .loop .m < 12
+inside c =
+    let p = c .before .before .before .pre in
+    omega (arith, c .before .loop .inv .within, width-bound (now (c .before .before .before .args .v)), p .1 .0, p .1 .1 .0)
+
+placed : (c : tie.In-loop Inv-loop μ-loop)
+    → getD (now (c .before .before .before .args .places)) (c .before .loop .m) 0 < count (now (c .before .before .before .args .v))
+placed c =
+    let p = c .before .before .before .pre in
+    let v = now (c .before .before .before .args .v) in
+    let l = c .before .loop in
+    omega (
+      arith,
+      p .1 .1 .1 (l .m) (omega (arith, p .1 .1 .0)),
+      restriction-sound v (count v) (l .m) (omega (arith, p .1 .1 .0)) .before,
+    )
+
 loop-holds : tie.Need-loop-holds Inv-loop μ-loop
 loop-holds c =
     record {
@@ -38,115 +57,34 @@ loop-holds c =
     }
 
 mul-read-at : tie.Need-mul-read-at Inv-loop μ-loop
-mul-read-at c =
-    let p = c .before .before .before .pre in omega (
-      arith,
-      c .before .loop .inv .within,
-      width-bound
-          (now (c .before .before .before .args .v)),
-      p .1 .0,
-      p .1 .1 .0,
-    )
+mul-read-at c = omega (arith, inside c)
 
 element-copy-out-read-at : tie.Need-element-copy-out-read-at Inv-loop μ-loop
-element-copy-out-read-at c =
-    let p = c .before .before .before .pre in omega (
-      arith,
-      c .before .loop .inv .within,
-      width-bound
-          (now (c .before .before .before .args .v)),
-      p .1 .0,
-      p .1 .1 .0,
-    )
+element-copy-out-read-at c = inside c
 
 cast-read-at : tie.Need-cast-read-at Inv-loop μ-loop
-cast-read-at c =
-    let l = c .before .before .loop in
-    let p = c .before .before .before .before .pre in
-    let a = c .before .before .before .before .args in omega (
-      arith,
-      p .1 .1 .1 (l .m) (omega (arith, p .1 .1 .0)),
-      restriction-sound (now (a .v)) (count (now (a .v))) (l .m)
-          (omega (arith, p .1 .1 .0)) .before,
-      (accepted-vocabulary (now (a .v)) _ (p .0)) .sized .most,
-    )
+cast-read-at c = omega (arith, placed (c .before), accepted-vocabulary (now (c .before .before .before .before .args .v)) _ (c .before .before .before .before .pre .0) .sized .most)
 
 read-at-requires : tie.Need-read-at-requires Inv-loop μ-loop
-read-at-requires c κs =
-    let l = c .before .before .loop in
-    let p = c .before .before .before .before .pre in
-    let a = c .before .before .before .before .args in omega (
-      arith,
-      p .1 .1 .1 (l .m) (omega (arith, p .1 .1 .0)),
-      restriction-sound (now (a .v)) (count (now (a .v))) (l .m)
-          (omega (arith, p .1 .1 .0)) .before,
-    )
+read-at-requires c κs = omega (arith, placed (c .before))
 
 mul-fillers : tie.Need-mul-fillers Inv-loop μ-loop
-mul-fillers c =
-    let p = c .before .before .before .before .before .pre in omega (
-      arith,
-      c .before .before .before .loop .inv .within,
-      width-bound
-          (now (c .before .before .before .before .before .args .v)),
-      p .1 .0,
-      p .1 .1 .0,
-    )
+mul-fillers c = omega (arith, inside (c .before .before))
 
 array-write-fillers : tie.Need-array-write-fillers Inv-loop μ-loop
-array-write-fillers c =
-    let p = c .before .before .before .before .before .pre in omega (
-      arith,
-      c .before .before .before .loop .inv .within,
-      width-bound
-          (now (c .before .before .before .before .before .args .v)),
-      p .1 .0,
-      p .1 .1 .0,
-    )
+array-write-fillers c = inside (c .before .before)
 
 mul-roles : tie.Need-mul-roles Inv-loop μ-loop
-mul-roles c =
-    let p = c .before .before .before .before .before .pre in omega (
-      arith,
-      c .before .before .before .loop .inv .within,
-      width-bound
-          (now (c .before .before .before .before .before .args .v)),
-      p .1 .0,
-      p .1 .1 .0,
-    )
+mul-roles c = omega (arith, inside (c .before .before))
 
 array-write-roles : tie.Need-array-write-roles Inv-loop μ-loop
-array-write-roles c =
-    let p = c .before .before .before .before .before .pre in omega (
-      arith,
-      c .before .before .before .loop .inv .within,
-      width-bound
-          (now (c .before .before .before .before .before .args .v)),
-      p .1 .0,
-      p .1 .1 .0,
-    )
+array-write-roles c = inside (c .before .before)
 
 array-write-signs : tie.Need-array-write-signs Inv-loop μ-loop
-array-write-signs c =
-    let p = c .before .before .before .before .before .before .pre in omega (
-      arith,
-      c .before .before .before .before .loop .inv .within,
-      width-bound
-          (now (c .before .before .before .before .before .before .args .v)),
-      p .1 .0,
-      p .1 .1 .0,
-    )
+array-write-signs c = inside (c .before .before .before)
 
 add-m : tie.Need-add-m Inv-loop μ-loop
-add-m c =
-    let p = c .before .before .before .before .before .before .pre in omega (
-      arith,
-      c .before .before .before .before .loop .inv .within,
-      width-bound
-          (now (c .before .before .before .before .before .before .args .v)),
-      p .1 .0,
-      p .1 .1 .0,
-    )
+add-m c = omega (arith, inside (c .before .before .before))
 
 loop-less : tie.Need-loop-less Inv-loop μ-loop
 loop-less c =

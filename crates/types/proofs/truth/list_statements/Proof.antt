@@ -1,6 +1,6 @@
 -- `types::truth::list_statements` meets its contract. The loop's invariant: the marked records below `i` are listed.
 -- Assumes nothing.
-use Prim.Native.Nat.{_-_, _≤_}
+use Prim.Native.Nat.{_-_, _≤_, _<_}
 use native.Mathlib.Omega.{arith}
 use mathlib.Core.Logic.{⊎-elim}
 use mathlib.Core.Path.{_≡_, refl, subst}
@@ -21,59 +21,31 @@ abbrev μ-loop : tie.MeasureT-loop
 mark-chain-requires : tie.Need-mark-chain-requires Inv-loop μ-loop
 mark-chain-requires c κs = c .before .pre
 
+-- the record is in the tables
+inside : (c : tie.In-loop Inv-loop μ-loop) → c .before .loop .i < 512
+inside c =
+    omega (arith, accepted-vocabulary (now (c .before .before .before .before .args .v)) _ (c .before .before .before .before .pre) .sized .most)
+
 loop-holds : tie.Need-loop-holds Inv-loop μ-loop
 loop-holds c = (omega arith, list-start _ _ _ refl)
 
 array-read-if1 : tie.Need-array-read-if1 Inv-loop μ-loop
-array-read-if1 c =
-    omega (
-      arith,
-      (accepted-vocabulary (now (c .before .before .before .before .args .v)) _
-          (c .before .before .before .before .pre)) .sized .most,
-    )
+array-read-if1 c = inside c
 
 cast-places : tie.Need-cast-places Inv-loop μ-loop
-cast-places c =
-    omega (
-      arith,
-      (accepted-vocabulary (now (c .before .before .before .before .before .args .v)) _
-          (c .before .before .before .before .before .pre)) .sized .most,
-    )
+cast-places c = omega (arith, inside (c .before))
 
 mul-places : tie.Need-mul-places Inv-loop μ-loop
-mul-places c =
-    omega (
-      arith,
-      (accepted-vocabulary (now (c .before .before .before .before .before .args .v)) _
-          (c .before .before .before .before .before .pre)) .sized .most,
-      c .before .before .loop .inv .1 .few,
-    )
+mul-places c = omega (arith, inside (c .before), c .before .before .loop .inv .1 .few)
 
 array-write-places : tie.Need-array-write-places Inv-loop μ-loop
-array-write-places c =
-    omega (
-      arith,
-      (accepted-vocabulary (now (c .before .before .before .before .before .args .v)) _
-          (c .before .before .before .before .before .pre)) .sized .most,
-      c .before .before .loop .inv .1 .few,
-    )
+array-write-places c = omega (arith, inside (c .before), c .before .before .loop .inv .1 .few)
 
 add-found : tie.Need-add-found Inv-loop μ-loop
-add-found c =
-    omega (
-      arith,
-      (accepted-vocabulary (now (c .before .before .before .before .before .args .v)) _
-          (c .before .before .before .before .before .pre)) .sized .most,
-      c .before .before .loop .inv .1 .few,
-    )
+add-found c = omega (arith, inside (c .before), c .before .before .loop .inv .1 .few)
 
 add-i : tie.Need-add-i Inv-loop μ-loop
-add-i c =
-    omega (
-      arith,
-      (accepted-vocabulary (now (c .before .before .before .before .before .args .v)) _
-          (c .before .before .before .before .before .pre)) .sized .most,
-    )
+add-i c = omega (arith, inside (c .before))
 
 loop-less : tie.Need-loop-less Inv-loop μ-loop
 loop-less c = omega arith

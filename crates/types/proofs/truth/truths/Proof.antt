@@ -60,138 +60,69 @@ Inv-loop v rules firsts seconds t records done₀ rest₀ i₀ done rest i = Fil
 abbrev μ-loop : tie.MeasureT-loop
 μ-loop v rules firsts seconds t records done₀ rest₀ i₀ done rest i = count v - i
 
+-- the record is in the tables, and its operands no later
+inside : (c : tie.In-loop Inv-loop μ-loop) → c .before .loop .i < 512
+inside c =
+    omega (
+      arith,
+      c .before .loop .inv .within,
+      accepted-vocabulary (now (c .before .before .before .args .v)) _ (c .before .before .before .pre .0) .sized .most,
+    )
+
+operands : (c : tie.In-loop Inv-loop μ-loop)
+    → (getD (now (c .before .before .before .args .firsts)) (c .before .loop .i) 0 < 512)
+    × (getD (now (c .before .before .before .args .seconds)) (c .before .loop .i) 0 < 512)
+operands c =
+    let p = c .before .before .before .pre in
+    let v = now (c .before .before .before .args .v) in
+    let i = c .before .loop .i in
+    let early = operands-earlier (recordAt v i) i (construct-earlier v (accepted-vocabulary v _ (p .0)) i) in (
+      omega (arith, inside c, p .1 .first-at i (c .loop-test .taken), early .0),
+      omega (arith, inside c, p .1 .second-at i (c .loop-test .taken), early .1),
+    )
+
 loop-holds : tie.Need-loop-holds Inv-loop μ-loop
 unfolding rank
 loop-holds c = record { within = omega arith; left = omega arith; filled = fill-start _ _ _ _ refl }
 
 mul-first : tie.Need-mul-first Inv-loop μ-loop
-mul-first c =
-    omega (
-      arith,
-      c .before .loop .inv .within,
-      (accepted-vocabulary (now (c .before .before .before .args .v)) _
-          (c .before .before .before .pre .0)) .sized .most,
-    )
+mul-first c = omega (arith, inside c)
 
 element-copy-out-first : tie.Need-element-copy-out-first Inv-loop μ-loop
-element-copy-out-first c =
-    omega (
-      arith,
-      c .before .loop .inv .within,
-      (accepted-vocabulary (now (c .before .before .before .args .v)) _
-          (c .before .before .before .pre .0)) .sized .most,
-    )
+element-copy-out-first c = inside c
 
 cast-first : tie.Need-cast-first Inv-loop μ-loop
-cast-first c =
-    let l = c .before .before .loop in
-    let p = c .before .before .before .before .pre in
-    let a = c .before .before .before .before .args in omega (
-      arith,
-      p .1 .first-at (l .i) (c .before .loop-test .taken),
-      operands-earlier (recordAt (now (a .v)) (l .i)) (l .i)
-          (construct-earlier (now (a .v)) (accepted-vocabulary (now (a .v)) _ (p .0)) (l .i)) .0,
-      l .inv .within,
-      (accepted-vocabulary (now (a .v)) _ (p .0)) .sized .most,
-    )
+cast-first c = omega (arith, operands (c .before) .0)
 
 mul-second : tie.Need-mul-second Inv-loop μ-loop
-mul-second c =
-    omega (
-      arith,
-      c .before .before .loop .inv .within,
-      (accepted-vocabulary (now (c .before .before .before .before .args .v)) _
-          (c .before .before .before .before .pre .0)) .sized .most,
-    )
+mul-second c = omega (arith, inside (c .before))
 
 element-copy-out-second : tie.Need-element-copy-out-second Inv-loop μ-loop
-element-copy-out-second c =
-    omega (
-      arith,
-      c .before .before .loop .inv .within,
-      (accepted-vocabulary (now (c .before .before .before .before .args .v)) _
-          (c .before .before .before .before .pre .0)) .sized .most,
-    )
+element-copy-out-second c = inside (c .before)
 
 cast-second : tie.Need-cast-second Inv-loop μ-loop
-cast-second c =
-    let l = c .before .before .before .loop in
-    let p = c .before .before .before .before .before .pre in
-    let a = c .before .before .before .before .before .args in omega (
-      arith,
-      p .1 .second-at (l .i) (c .before .before .loop-test .taken),
-      operands-earlier (recordAt (now (a .v)) (l .i))
-          (l .i) (construct-earlier (now (a .v)) (accepted-vocabulary (now (a .v)) _ (p .0)) (l .i)) .1,
-      l .inv .within,
-      (accepted-vocabulary (now (a .v)) _ (p .0)) .sized .most,
-    )
+cast-second c = omega (arith, operands (c .before .before) .1)
 
 element-copy-out-apply : tie.Need-element-copy-out-apply Inv-loop μ-loop
-element-copy-out-apply c =
-    omega (
-      arith,
-      c .before .before .before .loop .inv .within,
-      (accepted-vocabulary (now (c .before .before .before .before .before .args .v)) _
-          (c .before .before .before .before .before .pre .0)) .sized .most,
-    )
+element-copy-out-apply c = inside (c .before .before)
 
 array-read-apply : tie.Need-array-read-apply Inv-loop μ-loop
-array-read-apply c =
-    let l = c .before .before .before .before .loop in
-    let p = c .before .before .before .before .before .before .pre in
-    let a = c .before .before .before .before .before .before .args in omega (
-      arith,
-      p .1 .first-at (l .i) (c .before .before .before .loop-test .taken),
-      operands-earlier
-          (recordAt (now (a .v)) (l .i)) (l .i) (construct-earlier (now (a .v)) (accepted-vocabulary (now (a .v)) _ (p .0))
-          (l .i)) .0,
-      l .inv .within,
-      (accepted-vocabulary (now (a .v)) _ (p .0)) .sized .most,
-    )
+array-read-apply c = operands (c .before .before .before) .0
 
 array-read-apply-2 : tie.Need-array-read-apply-2 Inv-loop μ-loop
-array-read-apply-2 c =
-    let l = c .before .before .before .before .loop in
-    let p = c .before .before .before .before .before .before .pre in
-    let a = c .before .before .before .before .before .before .args in omega (
-      arith,
-      p .1 .second-at (l .i) (c .before .before .before .loop-test .taken),
-      operands-earlier
-          (recordAt (now (a .v)) (l .i)) (l .i) (construct-earlier (now (a .v)) (accepted-vocabulary (now (a .v)) _ (p .0))
-          (l .i)) .1,
-      l .inv .within,
-      (accepted-vocabulary (now (a .v)) _ (p .0)) .sized .most,
-    )
+array-read-apply-2 c = operands (c .before .before .before) .1
 
 apply-requires : tie.Need-apply-requires Inv-loop μ-loop
 apply-requires c κs = search needs
 
 array-write-done : tie.Need-array-write-done Inv-loop μ-loop
-array-write-done c =
-    omega (
-      arith,
-      c .before .before .before .before .before .loop .inv .within,
-      (accepted-vocabulary (now (c .before .before .before .before .before .before .before .args .v)) _
-          (c .before .before .before .before .before .before .before .pre .0)) .sized .most,
-    )
+array-write-done c = inside (c .before .before .before .before)
 
 element-copy-out-if1 : tie.Need-element-copy-out-if1 Inv-loop μ-loop
-element-copy-out-if1 c =
-    omega (
-      arith,
-      c .before .before .before .before .before .loop .inv .within,
-      (accepted-vocabulary (now (c .before .before .before .before .before .before .before .args .v)) _
-          (c .before .before .before .before .before .before .before .pre .0)) .sized .most,
-    )
+element-copy-out-if1 c = inside (c .before .before .before .before)
 
 add-i : tie.Need-add-i Inv-loop μ-loop
-add-i c =
-    omega (
-      arith,
-      c .before .before .before .before .before .before .before .loop .inv .within,
-      (accepted-vocabulary (now (c .before .before .before .before .before .before .before .before .before .args .v)) _
-          (c .before .before .before .before .before .before .before .before .before .pre .0)) .sized .most,
-    )
+add-i c = omega (arith, inside (c .before .before .before .before .before .before))
 
 loop-less : tie.Need-loop-less Inv-loop μ-loop
 loop-less c = omega (arith, c .before .before .before .before .before .before .before .loop .inv .within)
