@@ -1,5 +1,5 @@
 -- What a record says by what its operands say: truth at a type, and membership in an interpretation.
---   connect-cong, connect-atom, connect-plain     what a record says, from its atom and its operands
+--   connect-cong, connect-atom                    what a record says, from its atom and its operands
 --   restricted-atom, some-earlier, all-earlier    restrictions are atoms, and their fillers come earlier
 --   truth-eq, belongs-eq                          the equations of truth and of membership
 --   truth-atom, belongs-atom                      at an atom
@@ -54,18 +54,6 @@ connect-atom (disjunction p q) x f a = absurd (clash (cc))
 connect-atom (existential r b) x f a = refl
 connect-atom (universal r b) x f a = refl
 connect-atom (inclusion p q) x f a = absurd (clash (cc))
-
-pub connect-plain : (c : Construct) (x y : Bool) (f : ℕ → Bool) → atomic c ≡ false → connect c x f ≡ connect c y f
-connect-plain none x y f a = refl
-connect-plain top x y f a = refl
-connect-plain bottom x y f a = refl
-connect-plain name x y f a = absurd (clash (cc))
-connect-plain (negation p) x y f a = refl
-connect-plain (conjunction p q) x y f a = refl
-connect-plain (disjunction p q) x y f a = refl
-connect-plain (existential r b) x y f a = absurd (clash (cc))
-connect-plain (universal r b) x y f a = absurd (clash (cc))
-connect-plain (inclusion p q) x y f a = refl
 
 -- Not plain.
 abbrev pub restricted : Restriction → Bool

@@ -4,7 +4,7 @@
 --   types-bound                     few atoms have few types
 --   Ends, ends-turn, ends-empty     a set that has nothing from there on
 --   rank-turn                       atoms counted
---   all-fails-turn, all-holds-turn  a test of all, one number further
+--   all-holds-turn                  a test of all, one number further
 --   word-start, word-turn, word-end, word-bound   a word built from its top bit
 -- Assumes nothing.
 use Prim.Native.Nat.{ℕ, zero, suc, _+_, _-_, _*_, _≤_, _<_}
@@ -12,7 +12,7 @@ use native.Mathlib.Omega.{arith}
 use native.Mathlib.Decide.{ℕ-discrete}
 use native.Mathlib.Numerals.{add-one}
 use mathlib.Core.Path.{_≡_, refl, sym, ap, _∙_}
-use mathlib.Core.Bool.{Bool, true, false, and-false, and-true}
+use mathlib.Core.Bool.{Bool, true, false, and-true}
 use mathlib.Core.List.{List}
 use lib.ListN.{length, getD, set, replicate, length-set}
 use lib.Pow.{pow-mono}
@@ -68,10 +68,6 @@ unfolding rank
 rank-turn v i found b e q = rw (add-one, e, q)
 
 module _ (test : ℕ → Bool) (i : ℕ) where
-  pub all-fails-turn : test i ≡ false → false ≡ allBelow test (i + 1)
-  unfolding allBelow
-  all-fails-turn e = rw (add-one, e) (sym (and-false (allBelow test i)))
-
   pub all-holds-turn : (fit : Bool) → fit ≡ allBelow test i → test i ≡ true → fit ≡ allBelow test (i + 1)
   unfolding allBelow
   all-holds-turn fit f e = rw (add-one, e) (f ∙ sym (and-true (allBelow test i)))
