@@ -5,8 +5,9 @@
 --   Paired, pair-start, pair-turn, pair-end            one bit, block by block
 --   pair-room, pair-less                               the next block lies in the table, and less is left after it
 --   Stepped, step-start, step-turn, step-end           one bit, word by word
---   step-room, step-back, step-less                    the word and the one without it lie in the table; less is left
+--   step-back, step-less                               the word without the bit lies in the table, and less is left
 --   Spreading, spread-start, spread-turn, spread-end   all bits
+--   spread-room                                        the words of so few bits lie in the table
 -- Assumes nothing.
 use Prim.Native.Nat.{ℕ, suc, _+_, _-_, _*_, _/_, _%_, _^_, _≤_, _<_}
 use native.Mathlib.Omega.{arith}
@@ -134,10 +135,10 @@ second-half n q y h k =
     ap (λ (z : ℕ). eqb z 1) m
 
 -- entries joined below a bound past all words
-joined-end : (old l : List ℕ) (n bits at : ℕ) → bits ≤ 12 → shifted bits ≤ at
+joined-end : (old l : List ℕ) (n words at : ℕ) → words ≤ at
     → ((y : ℕ) → getD l y 0 ≡ joinedIf (ltb y at && bit y n) old (2 ^ n) y)
-    → (x : ℕ) → x < 2 ^ bits → getD l x 0 ≡ joinedIf (bit x n) old (2 ^ n) x
-joined-end old l n bits at f h r x k = r x ∙ rw (lt-ltb x at (omega (arith, power bits (omega arith))))
+    → (x : ℕ) → x < words → getD l x 0 ≡ joinedIf (bit x n) old (2 ^ n) x
+joined-end old l n words at h r x k = r x ∙ rw (lt-ltb x at (omega arith))
 
 module _ (old : List ℕ) (n : ℕ) where
   pub pair-start : length old ≡ 4096 → Paired old n old 0
@@ -145,9 +146,8 @@ module _ (old : List ℕ) (n : ℕ) where
 
   module _ (l : List ℕ) (at : ℕ) (s : Paired old n l at) where
     -- at the loop's end all entries are joined
-    pub pair-end : (bits : ℕ) → bits ≤ 12 → shifted bits ≤ at
-        → (x : ℕ) → x < 2 ^ bits → getD l x 0 ≡ joinedIf (bit x n) old (2 ^ n) x
-    pair-end bits f h = joined-end old l n bits at f h (s .right)
+    pub pair-end : (words : ℕ) → words ≤ at → (x : ℕ) → x < words → getD l x 0 ≡ joinedIf (bit x n) old (2 ^ n) x
+    pair-end words h = joined-end old l n words at h (s .right)
 
     -- the next block has been joined
     module _ (m : List ℕ)
@@ -187,22 +187,18 @@ module _ (old : List ℕ) (n : ℕ) where
             right = λ y. turned y (decLt y at) (decLt y (at + 2 ^ n)) (decLt y (at + 2 * 2 ^ n));
           }
 
-    module _ (bits : ℕ) (few : bits ≤ 12) (h : n < bits) where
-      block-room : at < 2 ^ bits → at + 2 * 2 ^ n ≤ 2 ^ bits
-      block-room k =
-          let e : bits ≡ suc (bits - suc n) + n = omega arith in
-          let p : 2 ^ bits ≡ 2 ^ suc (bits - suc n) * 2 ^ n = ap (λ (z : ℕ). 2 ^ z) e ∙ pow-add 2 (suc (bits - suc n)) n in
-          let below : 2 * s .blocks < 2 ^ suc (bits - suc n) = lt-of-mul-lt-mul-right (2 ^ n) (omega (arith, s .place)) in
-          let next : 2 * s .blocks + 2 ≤ 2 ^ suc (bits - suc n) = omega arith in
-          omega (arith, s .place, mul-le-mul-right (2 ^ n) next, add-mul (2 * s .blocks) 2 (2 ^ n))
-
-      pub pair-room : at < shifted bits → at + 2 * shifted n ≤ 4096
+    module _ (words : ℕ) (few : words ≤ 4096) (h : n < 12) where
+      pub pair-room : at < words → at + 2 * shifted n ≤ 4096
       pair-room k =
-          let size = power bits (omega arith) in
-          omega (arith, power n (omega arith), block-room (omega arith), pow-mono {i = bits} {j = 12} few)
+          let e : 12 ≡ suc (11 - n) + n = omega arith in
+          let p : 2 ^ 12 ≡ 2 ^ suc (11 - n) * 2 ^ n = ap (λ (z : ℕ). 2 ^ z) e ∙ pow-add 2 (suc (11 - n)) n in
+          let below : 2 * s .blocks < 2 ^ suc (11 - n) = lt-of-mul-lt-mul-right (2 ^ n) (omega (arith, s .place)) in
+          let next : 2 * s .blocks + 2 ≤ 2 ^ suc (11 - n) = omega arith in
+          let two = add-mul (2 * s .blocks) 2 (2 ^ n) in
+          omega (arith, s .place, mul-le-mul-right (2 ^ n) next, two, power n (omega arith))
 
-      pub pair-less : at < shifted bits → 2 ^ bits - (at + 2 * shifted n) < 2 ^ bits - at
-      pair-less k = omega (arith, power bits (omega arith), power n (omega arith), pow-pos n)
+      pub pair-less : at < words → words - (at + 2 * shifted n) < words - at
+      pair-less k = omega (arith, power n (omega arith), pow-pos n)
 
       pub pair-turn : (m : List ℕ) → length m ≡ 4096
           → ((y : ℕ) → getD m y 0 ≡ joinedIf (leb (at + shifted n) y && ltb y (at + 2 * shifted n)) l (shifted n) y)
@@ -267,10 +263,6 @@ module _ (n x : ℕ) (w : Word n x) where
             between-none = λ y k l. first-half n (q + 1) y (omega arith) l;
           })
 
--- a word of so few bits lies in the table
-pub step-room : (x bits : ℕ) → bits ≤ 12 → x < shifted bits → x < 4096
-step-room x bits few k = omega (arith, power bits (omega arith), pow-mono {i = bits} {j = 12} few)
-
 -- A table whose entries below x, a word that has bit n, are joined where they have it.
 pub record Stepped (old : List ℕ) (n : ℕ) (l : List ℕ) (x : ℕ) : Type 0 where
   word : Word n x
@@ -290,15 +282,15 @@ module _ (old : List ℕ) (n : ℕ) where
       none y (yes k) = rw (first-half n 0 y (omega arith) (omega arith), and-false (ltb y (2 ^ n)))
       none y (no k) = rw (le-ltb y (2 ^ n) (omega arith))
 
-  module _ (l : List ℕ) (x bits : ℕ) (few : bits ≤ 12) (h : n < bits) (s : Stepped old n l x) where
-    pub step-end : shifted bits ≤ x → (y : ℕ) → y < 2 ^ bits → getD l y 0 ≡ joinedIf (bit y n) old (2 ^ n) y
-    step-end k = joined-end old l n bits x few k (s .right)
+  module _ (l : List ℕ) (x : ℕ) (h : n < 12) (s : Stepped old n l x) where
+    pub step-end : (words : ℕ) → words ≤ x → (y : ℕ) → y < words → getD l y 0 ≡ joinedIf (bit y n) old (2 ^ n) y
+    step-end words k = joined-end old l n words x k (s .right)
 
     pub step-back : shifted n ≤ x
     step-back = omega (arith, power n (omega arith), s .word .place)
 
-    pub step-less : x < shifted bits → 2 ^ bits - bitOr (x + 1) (shifted n) < 2 ^ bits - x
-    step-less k = rw (power n (omega arith)) (omega (arith, power bits (omega arith), next-word n x (s .word) .later))
+    pub step-less : (words : ℕ) → x < words → words - bitOr (x + 1) (shifted n) < words - x
+    step-less words k = rw (power n (omega arith)) (omega (arith, next-word n x (s .word) .later))
 
     abbrev entry : ℕ
     entry = bitOr (getD l x 0) (getD l (x - 2 ^ n) 0)
@@ -332,10 +324,9 @@ module _ (old : List ℕ) (n : ℕ) where
         turned y (no p) (no q) (no r) =
             getD-set-other l x y entry 0 p ∙ s .right y ∙ rw (le-ltb y x (omega arith), le-ltb y z (omega arith))
 
-    pub step-turn : x < shifted bits
+    pub step-turn : x < 4096
         → Stepped old n (set l x (bitOr (getD l x 0) (getD l (x - shifted n) 0))) (bitOr (x + 1) (shifted n))
-    step-turn k =
-        rw (power n (omega arith)) (stepped (step-room x bits few k) (bitOr (x + 1) (2 ^ n)) (next-word n x (s .word)))
+    step-turn k = rw (power n (omega arith)) (stepped k (bitOr (x + 1) (2 ^ n)) (next-word n x (s .word)))
 
 -- A table spread over the bits below n, in its first 2 ^ bits entries.
 pub record Spreading (old : List ℕ) (bits : ℕ) (l : List ℕ) (n : ℕ) : Type 0 where
@@ -343,19 +334,24 @@ pub record Spreading (old : List ℕ) (bits : ℕ) (l : List ℕ) (n : ℕ) : Ty
   pub size : length l ≡ 4096
   pub right : (x : ℕ) → x < 2 ^ bits → getD l x 0 ≡ spread (λ y. getD old y 0) n x
 
+pub spread-room : (bits : ℕ) → bits ≤ 12 → shifted bits ≤ 4096
+spread-room bits few = omega (arith, power bits (omega arith), pow-mono {i = bits} {j = 12} few)
+
 module _ (old : List ℕ) (bits : ℕ) where
   pub spread-start : length old ≡ 4096 → Spreading old bits old 0
   unfolding spread
   spread-start e = record { within = omega arith; size = e; right = λ x h. refl }
 
-  pub spread-turn : (l m : List ℕ) (n : ℕ) → n < bits → Spreading old bits l n → length m ≡ 4096
-      → ((x : ℕ) → x < 2 ^ bits → getD m x 0 ≡ joinedIf (bit x n) l (2 ^ n) x) → Spreading old bits m (n + 1)
+  pub spread-turn : (l m : List ℕ) (n : ℕ) → bits ≤ 12 → n < bits → Spreading old bits l n → length m ≡ 4096
+      → ((x : ℕ) → x < shifted bits → getD m x 0 ≡ joinedIf (bit x n) l (2 ^ n) x) → Spreading old bits m (n + 1)
   unfolding spread
-  spread-turn l m n h s e j =
+  spread-turn l m n few h s e j =
       record {
         within = omega arith;
         size = e;
-        right = λ x k. j x k ∙ rw (add-one n, s .right x k, s .right (x - 2 ^ n) (omega arith));
+        right = λ x k.
+            j x (omega (arith, power bits (omega arith)))
+            ∙ rw (add-one n, s .right x k, s .right (x - 2 ^ n) (omega arith));
       }
 
   pub spread-end : (l : List ℕ) (n : ℕ) → bits ≤ n → Spreading old bits l n

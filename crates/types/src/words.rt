@@ -24,15 +24,14 @@ fn join_block(cover: &mut [u16; Profile::TYPES], at: usize, half: usize)
     }
 }
 
-// Adds to each word with bit n what stands at the word without it, block by block.
-fn spread_blocks(cover: &mut [u16; Profile::TYPES], bits: usize, n: usize)
-    requires { ⌜ bits ≤ 12 ⌝ }
-    requires { ⌜ n < bits ⌝ }
+// Adds to each word below `size` with bit n what stands at the word without it, block by block.
+fn spread_blocks(cover: &mut [u16; Profile::TYPES], size: usize, n: usize)
+    requires { ⌜ size ≤ 4096 ⌝ }
+    requires { ⌜ n < 12 ⌝ }
     requires { ⌜ length (now cover) ≡ 4096 ⌝ }
     ensures { λ _. ⌜ length (now (cover .exit)) ≡ 4096 ⌝ }
-    ensures { λ _. ⌜ ((x : ℕ) → x < 2 ^ bits → getD (now (cover .exit)) x 0 ≡ cond (bit x n) (bitOr (getD (now (cover .entry)) x 0) (getD (now (cover .entry)) (x - 2 ^ n) 0)) (getD (now (cover .entry)) x 0)) ⌝ }
+    ensures { λ _. ⌜ ((x : ℕ) → x < size → getD (now (cover .exit)) x 0 ≡ cond (bit x n) (bitOr (getD (now (cover .entry)) x 0) (getD (now (cover .entry)) (x - 2 ^ n) 0)) (getD (now (cover .entry)) x 0)) ⌝ }
 {
-    let size = 1 << bits;
     let half = 1 << n;
     let mut at = 0;
     while at < size {
@@ -41,16 +40,15 @@ fn spread_blocks(cover: &mut [u16; Profile::TYPES], bits: usize, n: usize)
     }
 }
 
-// Adds to each word with bit n what stands at the word without it, word by word: for small n, where blocks are too short
-// to pay.
-fn spread_near(cover: &mut [u16; Profile::TYPES], bits: usize, n: usize)
-    requires { ⌜ bits ≤ 12 ⌝ }
-    requires { ⌜ n < bits ⌝ }
+// Adds to each word below `size` with bit n what stands at the word without it, word by word: for small n, where blocks
+// are too short to pay.
+fn spread_near(cover: &mut [u16; Profile::TYPES], size: usize, n: usize)
+    requires { ⌜ size ≤ 4096 ⌝ }
+    requires { ⌜ n < 12 ⌝ }
     requires { ⌜ length (now cover) ≡ 4096 ⌝ }
     ensures { λ _. ⌜ length (now (cover .exit)) ≡ 4096 ⌝ }
-    ensures { λ _. ⌜ ((x : ℕ) → x < 2 ^ bits → getD (now (cover .exit)) x 0 ≡ cond (bit x n) (bitOr (getD (now (cover .entry)) x 0) (getD (now (cover .entry)) (x - 2 ^ n) 0)) (getD (now (cover .entry)) x 0)) ⌝ }
+    ensures { λ _. ⌜ ((x : ℕ) → x < size → getD (now (cover .exit)) x 0 ≡ cond (bit x n) (bitOr (getD (now (cover .entry)) x 0) (getD (now (cover .entry)) (x - 2 ^ n) 0)) (getD (now (cover .entry)) x 0)) ⌝ }
 {
-    let size = 1 << bits;
     let half = 1 << n;
     let mut x = half;
     while x < size {
@@ -59,18 +57,18 @@ fn spread_near(cover: &mut [u16; Profile::TYPES], bits: usize, n: usize)
     }
 }
 
-// Adds to each word with bit n what stands at the word without it.
-fn spread_bit(cover: &mut [u16; Profile::TYPES], bits: usize, n: usize)
-    requires { ⌜ bits ≤ 12 ⌝ }
-    requires { ⌜ n < bits ⌝ }
+// Adds to each word below `size` with bit n what stands at the word without it.
+fn spread_bit(cover: &mut [u16; Profile::TYPES], size: usize, n: usize)
+    requires { ⌜ size ≤ 4096 ⌝ }
+    requires { ⌜ n < 12 ⌝ }
     requires { ⌜ length (now cover) ≡ 4096 ⌝ }
     ensures { λ _. ⌜ length (now (cover .exit)) ≡ 4096 ⌝ }
-    ensures { λ _. ⌜ ((x : ℕ) → x < 2 ^ bits → getD (now (cover .exit)) x 0 ≡ cond (bit x n) (bitOr (getD (now (cover .entry)) x 0) (getD (now (cover .entry)) (x - 2 ^ n) 0)) (getD (now (cover .entry)) x 0)) ⌝ }
+    ensures { λ _. ⌜ ((x : ℕ) → x < size → getD (now (cover .exit)) x 0 ≡ cond (bit x n) (bitOr (getD (now (cover .entry)) x 0) (getD (now (cover .entry)) (x - 2 ^ n) 0)) (getD (now (cover .entry)) x 0)) ⌝ }
 {
-    if n < 3 {
-        spread_near(cover, bits, n);
+    if n < 4 {
+        spread_near(cover, size, n);
     } else {
-        spread_blocks(cover, bits, n);
+        spread_blocks(cover, size, n);
     }
 }
 
@@ -81,9 +79,10 @@ pub fn spread_words(cover: &mut [u16; Profile::TYPES], bits: usize)
     ensures { λ _. ⌜ length (now (cover .exit)) ≡ 4096 ⌝ }
     ensures { λ _. ⌜ ((x : ℕ) → x < 2 ^ bits → getD (now (cover .exit)) x 0 ≡ spread (λ y. getD (now (cover .entry)) y 0) bits x) ⌝ }
 {
+    let size = 1 << bits;
     let mut n = 0;
     while n < bits {
-        spread_bit(cover, bits, n);
+        spread_bit(cover, size, n);
         n += 1;
     }
 }

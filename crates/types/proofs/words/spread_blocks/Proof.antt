@@ -1,20 +1,17 @@
 -- `types::words::spread_blocks` meets its contract. The loop's invariant: the entries below `at`, which ends a block of two
 -- halves, are joined where they have bit n, all others are the caller's.
 -- Assumes nothing.
-use Prim.Native.Nat.{_-_, _^_}
+use Prim.Native.Nat.{_-_}
 use native.Mathlib.Omega.{arith}
 use Rattle.types.proofs.Spreading.{Paired, pair-start, pair-room, pair-less, pair-turn, pair-end}
 use Rattle.types.proofs.words.spread_blocks.Statement.{statement}
 use Rattle.types.proofs.words.spread_blocks.Tie as tie
 
 abbrev Inv-loop : tie.InvT-loop
-Inv-loop cover₀ bits n size half at₀ cover at = Paired cover₀ n cover at
+Inv-loop cover₀ size n half at₀ cover at = Paired cover₀ n cover at
 
 abbrev μ-loop : tie.MeasureT-loop
-μ-loop cover₀ bits n size half at₀ cover at = 2 ^ bits - at
-
-shl-size : tie.Need-shl-size Inv-loop μ-loop
-shl-size c = omega arith
+μ-loop cover₀ size n half at₀ cover at = size - at
 
 shl-half : tie.Need-shl-half Inv-loop μ-loop
 shl-half c = omega arith
@@ -54,7 +51,7 @@ loop-again c =
 returns : tie.Need-returns Inv-loop μ-loop
 returns c =
     let s = c .before .loop .inv in
-    (s .size, pair-end _ _ _ _ s _ (c .before .before .pre .0) (c .loop-test .left))
+    (s .size, pair-end _ _ _ _ s _ (c .loop-test .left))
 
 pub spread-blocks-spec : {M : Type 1} → statement M
 spread-blocks-spec =
@@ -62,7 +59,6 @@ spread-blocks-spec =
     (tie.spec
     Inv-loop
     μ-loop
-    shl-size
     shl-half
     loop-holds
     join-block-requires

@@ -1,20 +1,17 @@
 -- `types::words::spread_near` meets its contract. The loop's invariant: the entries below x, a word that has bit n, are
 -- joined where they have it, all others are the caller's.
 -- Assumes nothing.
-use Prim.Native.Nat.{_-_, _^_}
+use Prim.Native.Nat.{_-_}
 use native.Mathlib.Omega.{arith}
-use Rattle.types.proofs.Spreading.{Stepped, step-start, step-room, step-back, step-less, step-turn, step-end}
+use Rattle.types.proofs.Spreading.{Stepped, step-start, step-back, step-less, step-turn, step-end}
 use Rattle.types.proofs.words.spread_near.Statement.{statement}
 use Rattle.types.proofs.words.spread_near.Tie as tie
 
 abbrev Inv-loop : tie.InvT-loop
-Inv-loop cover₀ bits n size half x₀ cover x = Stepped cover₀ n cover x
+Inv-loop cover₀ size n half x₀ cover x = Stepped cover₀ n cover x
 
 abbrev μ-loop : tie.MeasureT-loop
-μ-loop cover₀ bits n size half x₀ cover x = 2 ^ bits - x
-
-shl-size : tie.Need-shl-size Inv-loop μ-loop
-shl-size c = omega arith
+μ-loop cover₀ size n half x₀ cover x = size - x
 
 shl-half : tie.Need-shl-half Inv-loop μ-loop
 shl-half c = omega arith
@@ -23,45 +20,41 @@ loop-holds : tie.Need-loop-holds Inv-loop μ-loop
 loop-holds c = step-start _ _ (omega arith) (c .pre .1 .1)
 
 mul-cover : tie.Need-mul-cover Inv-loop μ-loop
-mul-cover c = omega (arith, step-room _ _ (c .before .before .pre .0) (c .loop-test .taken))
+mul-cover c = omega arith
 
 element-copy-out-cover : tie.Need-element-copy-out-cover Inv-loop μ-loop
-element-copy-out-cover c = step-room _ _ (c .before .before .pre .0) (c .loop-test .taken)
+element-copy-out-cover c = omega arith
 
 sub-cover : tie.Need-sub-cover Inv-loop μ-loop
-sub-cover c =
-    let p = c .before .before .before .pre in
-    step-back _ _ _ _ _ (p .0) (p .1 .0) (c .before .before .loop .inv)
+sub-cover c = step-back _ _ _ _ (c .before .before .before .pre .1 .0) (c .before .before .loop .inv)
 
 mul-cover-2 : tie.Need-mul-cover-2 Inv-loop μ-loop
-mul-cover-2 c = omega (arith, step-room _ _ (c .before .before .before .pre .0) (c .before .loop-test .taken))
+mul-cover-2 c = omega arith
 
 element-copy-out-cover-2 : tie.Need-element-copy-out-cover-2 Inv-loop μ-loop
-element-copy-out-cover-2 c = omega (arith, step-room _ _ (c .before .before .before .pre .0) (c .before .loop-test .taken))
+element-copy-out-cover-2 c = omega arith
 
 mul-cover-3 : tie.Need-mul-cover-3 Inv-loop μ-loop
-mul-cover-3 c = omega (arith, step-room _ _ (c .before .before .before .before .pre .0) (c .before .before .loop-test .taken))
+mul-cover-3 c = omega arith
 
 element-write-cover : tie.Need-element-write-cover Inv-loop μ-loop
-element-write-cover c = step-room _ _ (c .before .before .before .before .pre .0) (c .before .before .loop-test .taken)
+element-write-cover c = omega arith
 
 add-x : tie.Need-add-x Inv-loop μ-loop
-add-x c = omega (arith, step-room _ _ (c .before .before .before .before .pre .0) (c .before .before .loop-test .taken))
+add-x c = omega arith
 
 loop-less : tie.Need-loop-less Inv-loop μ-loop
 loop-less c =
-    let p = c .before .before .before .before .pre in
-    step-less _ _ _ _ _ (p .0) (p .1 .0) (c .before .before .before .loop .inv) (c .before .before .loop-test .taken)
+    let s = c .before .before .before .loop .inv in
+    step-less _ _ _ _ (c .before .before .before .before .pre .1 .0) s _ (c .before .before .loop-test .taken)
 
 loop-again : tie.Need-loop-again Inv-loop μ-loop
 loop-again c =
-    let p = c .before .before .before .before .pre in
-    step-turn _ _ _ _ _ (p .0) (p .1 .0) (c .before .before .before .loop .inv) (c .before .before .loop-test .taken)
+    step-turn _ _ _ _ (c .before .before .before .before .pre .1 .0) (c .before .before .before .loop .inv) (omega arith)
 
 returns : tie.Need-returns Inv-loop μ-loop
 returns c =
-    let p = c .before .before .pre in
-    (c .before .loop .inv .size, step-end _ _ _ _ _ (p .0) (p .1 .0) (c .before .loop .inv) (c .loop-test .left))
+    (c .before .loop .inv .size, step-end _ _ _ _ (c .before .before .pre .1 .0) (c .before .loop .inv) _ (c .loop-test .left))
 
 pub spread-near-spec : {M : Type 1} → statement M
 spread-near-spec =
@@ -69,7 +62,6 @@ spread-near-spec =
     (tie.spec
     Inv-loop
     μ-loop
-    shl-size
     shl-half
     loop-holds
     mul-cover
