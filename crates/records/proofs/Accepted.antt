@@ -9,7 +9,7 @@ use mathlib.Core.Path.{_≡_, refl, sym, _∙_}
 use mathlib.Core.Bool.{Bool, true, false, not, _&&_, _||_}
 use mathlib.Core.List.{List, [], _∷_}
 use lib.ListN.{length, getD, drop}
-use mathlib.Core.Logic.{_⊎_, inl, inr}
+use mathlib.Core.Logic.{inl, inr}
 use lib.Dec.{ltb, leb, eqb}
 use borrow.Author.Tests.{ltb-true, leb-true, eqb-true, eq-eqb, not-true}
 use Rattle.records.specs.Outcome.{accepted, pass, _then_, require, inTurn}
@@ -26,6 +26,7 @@ use Rattle.records.specs.declared.fields.Record.{Record}
 use Rattle.records.proofs.Passed.{clash, Sized, length-passed, both-left, both-right, require-passed, then-passed}
 use Rattle.records.proofs.Passed.{turn-at}
 use Rattle.records.proofs.Passed.{any-at}
+use Rattle.records.proofs.Following.{Ahead, Onward}
 use Rattle.records.proofs.Rows.{name-rows, negation-rows, junction-rows, restriction-rows, inclusion-rows}
 
 -- x is the number of a term before record i.
@@ -34,15 +35,16 @@ pub record Operand (v : List ℕ) (i x : ℕ) : Type 0 where
   pub earlier : x < i
   pub term : isTerm (recordAt v x .kind) ≡ true
 
+abbrev pub IsStatement : List ℕ → ℕ → Type 0
+IsStatement v x = recordAt v x .kind ≡ 9
+
 -- x is a statement after record i.
-pub record Later (v : List ℕ) (i x : ℕ) : Type 0 where
-  pub later : i < x
-  pub within : x < count v
-  pub statement : recordAt v x .kind ≡ 9
+abbrev pub Later : List ℕ → ℕ → ℕ → Type 0
+Later v i x = Ahead (IsStatement v) (count v) i x
 
 -- x ends the chain, or is a statement after record i.
 abbrev pub Linked : List ℕ → ℕ → ℕ → Type 0
-Linked v i x = (x ≡ 0) ⊎ Later v i x
+Linked v i x = Onward (IsStatement v) (count v) i x
 
 -- What record i says is about earlier terms and roles below the count.
 abbrev pub Formed : List ℕ → ℕ → Construct → Type 0
@@ -102,7 +104,7 @@ module _ (v : List ℕ) (i : ℕ) where
           inr record {
             later = ltb-true i x (both-left (ltb i x) (ltb x (count v) && isStatement (recordAt v x .kind)) h);
             within = ltb-true x (count v) (both-left (ltb x (count v)) (isStatement (recordAt v x .kind)) rest);
-            statement = eqb-true _ 9 (both-right (ltb x (count v)) (isStatement (recordAt v x .kind)) rest);
+            target = eqb-true _ 9 (both-right (ltb x (count v)) (isStatement (recordAt v x .kind)) rest);
           }
 
   -- rows 4 to 7 passed, kind by kind

@@ -7,4 +7,5 @@ pub mod Search
 pub mod Bounds
 pub mod Accepted
 pub mod Constructs
+pub mod Following
 pub mod Chains

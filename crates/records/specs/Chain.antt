@@ -5,15 +5,18 @@ use mathlib.Core.List.{List, [], _∷_}
 use lib.Dec.{eqb}
 use Rattle.records.specs.Format.{recordAt, count, firstStatement}
 
--- "Chains run by next, and zero ends the chain.": the statements from i on, at most n of them.
-unfoldable pub follow : List ℕ → ℕ → ℕ → List ℕ
-follow v zero i = []
-follow v (suc n) zero = []
-follow v (suc n) (suc i) = suc i ∷ follow v n (recordAt v (suc i) .next)
+-- "Chains run by next, and zero ends the chain.": the records from i on, at most n of them.
+unfoldable pub follow : (ℕ → ℕ) → ℕ → ℕ → List ℕ
+follow next zero i = []
+follow next (suc n) zero = []
+follow next (suc n) (suc i) = suc i ∷ follow next n (next (suc i))
+
+abbrev pub nextStatement : List ℕ → ℕ → ℕ
+nextStatement v i = recordAt v i .next
 
 -- The statements from i on; a chain that rises ends before it has as many as there are records (proofs/Chains.antt).
 abbrev pub chainFrom : List ℕ → ℕ → List ℕ
-chainFrom v i = follow v (count v) i
+chainFrom v i = follow (nextStatement v) (count v) i
 
 -- "A the first statement or 0"
 abbrev pub chain : List ℕ → List ℕ

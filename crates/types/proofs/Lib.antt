@@ -15,7 +15,6 @@ pub mod Written
 pub mod Verdicts
 pub mod Comparison
 pub mod Bounds
-pub mod Samples
 pub mod Width
 pub mod Restrictions
 pub mod Signed

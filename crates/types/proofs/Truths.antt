@@ -149,7 +149,7 @@ module _ (v : List ℕ) (good : Accepted v) where
 
   -- A chained statement says that its A lies within its B.
   chained-inclusion : (i : ℕ) → chained v i ≡ true → constructOf (recordAt v i) ≡ inclusion (recordAt v i .a) (recordAt v i .b)
-  chained-inclusion i e = construct-inclusion (recordAt v i) (chain-statement v good i e .statement)
+  chained-inclusion i e = construct-inclusion (recordAt v i) (chain-statement v good i e .target)
 
   pub truth-statement : (t i : ℕ) → chained v i ≡ true
       → truth v t i ≡ (not (truth v t (recordAt v i .a)) || truth v t (recordAt v i .b))

@@ -12,9 +12,10 @@ use lib.Seq.{getD-set-same, getD-set-other}
 use lib.Dec.{eqb}
 use borrow.Author.Tests.{eq-eqb, ne-eqb}
 use Rattle.records.specs.Format.{recordAt, count, firstStatement}
-use Rattle.records.specs.Chain.{chainFrom, occurs, chained}
-use Rattle.records.proofs.Accepted.{Accepted, Later, Linked}
-use Rattle.records.proofs.Chains.{chain-nil, chain-step, left, left-falls}
+use Rattle.records.specs.Chain.{nextStatement, chainFrom, occurs, chained}
+use Rattle.records.proofs.Accepted.{Accepted, IsStatement, Later, Linked}
+use Rattle.records.proofs.Chains.{chain-step}
+use Rattle.records.proofs.Following.{follow-nil, left, left-falls, onward-from}
 
 pub record Marking (v : List ℕ) (marks : List Bool) (at : ℕ) : Type 0 where
   pub size : length marks ≡ 512
@@ -48,14 +49,10 @@ module _ (v : List ℕ) (good : Accepted v) where
   next marks at x m s e =
       record {
         size = length-set marks at true ∙ m .size;
-        linked = subst (Linked v 0) (sym e) (above (good .rises at (s .later) (s .within) (s .statement)));
+        linked = subst (Linked v 0) (sym e) (onward-from (IsStatement v) (count v) 0 at (recordAt v at .next) (omega arith) (good .rises at (s .later) (s .within) (s .target)));
         marked = λ i. mark i (ℕ-discrete i at);
       }
     where
-      above : Linked v at (recordAt v at .next) → Linked v 0 (recordAt v at .next)
-      above (inl z) = inl z
-      above (inr t) = inr record { later = omega (arith, t .later); within = t .within; statement = t .statement }
-
       -- the chain from here is this statement and the chain from the next
       told : (i : ℕ) → (getD marks i false || (eqb i at || occurs i (chainFrom v (recordAt v at .next)))) ≡ chained v i
       told i = ap (λ (l : List ℕ). getD marks i false || occurs i l) (sym (chain-step v good 0 at s)) ∙ m .marked i
@@ -71,11 +68,11 @@ module _ (v : List ℕ) (good : Accepted v) where
 
   pub falls : (at x : ℕ) → Later v 0 at → x ≡ recordAt v at .next → left (count v) x < left (count v) at
   falls at x s e =
-      left-falls v at x (s .later) (s .within)
-      (subst (Linked v at) (sym e) (good .rises at (s .later) (s .within) (s .statement)))
+      left-falls (IsStatement v) (count v) at x (s .later) (s .within)
+      (subst (Linked v at) (sym e) (good .rises at (s .later) (s .within) (s .target)))
 
   pub done : (marks : List Bool) → Marking v marks 0 → (i : ℕ) → getD marks i false ≡ chained v i
   unfolding occurs
   done marks m i =
       sym (or-false (getD marks i false))
-      ∙ (ap (λ (l : List ℕ). getD marks i false || occurs i l) (sym (chain-nil v (count v))) ∙ m .marked i)
+      ∙ (ap (λ (l : List ℕ). getD marks i false || occurs i l) (sym (follow-nil (nextStatement v) (count v))) ∙ m .marked i)

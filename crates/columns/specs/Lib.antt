@@ -1,0 +1,5 @@
+-- Paper 01, "Columns": Literals (literals, written-out terms), Columns (the columns of each owner), Holding (when a column holds
+-- in an interpretation).
+pub mod Literals
+pub mod Columns
+pub mod Holding

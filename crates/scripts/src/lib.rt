@@ -1,0 +1,2 @@
+// Scripts: the script check.
+pub mod entry;
