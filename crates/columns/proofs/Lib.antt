@@ -1,1 +1,4 @@
--- Published laws.
+-- Laws about the definitions of specs/ that more than one proof cites.
+pub mod Packing
+pub mod Groups
+pub mod Owners

@@ -3,3 +3,5 @@
 pub mod Literals
 pub mod Columns
 pub mod Holding
+-- what the code computes with
+pub mod Packed

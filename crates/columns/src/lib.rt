@@ -1,1 +1,8 @@
-// Columns.
+// Columns: the columns of each owner, at given terms.
+pub mod column;
+mod literal;
+mod owner;
+
+pub use owner::find_column;
+pub use owner::query_column;
+pub use owner::takes_y;

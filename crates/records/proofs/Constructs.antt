@@ -1,5 +1,6 @@
 -- What the records of an accepted vocabulary say.
 --   record-past                  there is nothing past the end
+--   kind-past                    kinds past the table say nothing
 --   Earlier, construct-earlier   operands come before the record, whichever record it is
 --   atomic, construct-atom       atoms by what they say
 --   construct-inclusion          a statement says that A lies within B
@@ -7,7 +8,7 @@
 -- Assumes nothing.
 use Prim.Native.Nat.{ℕ, zero, suc, _*_, _≤_, _<_}
 use native.Mathlib.Omega.{arith}
-use native.Mathlib.Decide.{ℕ-discrete, decLt}
+use native.Mathlib.Decide.{decLt}
 use mathlib.Core.Path.{_≡_, refl, sym, ap, subst}
 use mathlib.Core.Bool.{Bool, true, false}
 use mathlib.Core.List.{List}
@@ -18,6 +19,7 @@ use Rattle.records.specs.Kinds.{Construct, none, top, bottom, name, nega
 use Rattle.records.specs.Kinds.{universal, inclusion, constructOf, Kind, noKind, kinds, kindOf, isAtom}
 use Rattle.records.specs.declared.fields.Record.{Record}
 use Rattle.records.proofs.Passed.{Sized}
+use Rattle.records.proofs.Ranges.{between}
 use Rattle.records.proofs.Accepted.{Accepted, Formed}
 
 pub record-past : (v : List ℕ) (i : ℕ) → Sized v → count v ≤ i → recordAt v i .kind ≡ 0
@@ -26,7 +28,7 @@ record-past v i s h =
     ap (λ (l : List ℕ). getD (take 8 l) 0 0) (drop-of-length-le v {i = 8 * i} (omega (arith, s .whole)))
 
 -- kinds past the table say nothing
-kind-past : (k : ℕ) → 10 ≤ k → kindOf k ≡ noKind
+pub kind-past : (k : ℕ) → 10 ≤ k → kindOf k ≡ noKind
 unfolding kindOf
 kind-past k h = List·getD-eq-default kinds noKind h
 
@@ -115,19 +117,6 @@ atomic (existential r b) = true
 atomic (universal r b) = true
 atomic (inclusion a b) = false
 
--- What holds at each number below n.
-abbrev Each : ℕ → (ℕ → Type 0) → Type 0
-Each zero P = Unit {0}
-Each (suc n) P = Each n P × P n
-
-each-at : (n : ℕ) (P : ℕ → Type 0) → Each n P → (k : ℕ) → k < n → P k
-each-at zero P e k h = absurd (omega arith)
-each-at (suc n) P e k h = at (ℕ-discrete k n) (each-at n P (e .0) k)
-  where
-    at : Dec (k ≡ n) → (k < n → P k) → P k
-    at (yes q) r = subst P (sym q) (e .1)
-    at (no q) r = r (omega arith)
-
 pub construct-atom : (r : Record) → isAtom (r .kind) ≡ atomic (constructOf r)
 unfolding kindOf
 construct-atom r = at (decLt (r .kind) 10)
@@ -137,7 +126,7 @@ construct-atom r = at (decLt (r .kind) 10)
 
     at : Dec (r .kind < 10) → Says (r .kind)
     at (yes h) =
-        each-at 10 Says ((((((((((tt, refl), refl), refl), refl), refl), refl), refl), refl), refl), refl) (r .kind) h
+        between Says 10 0 (refl, (refl, (refl, (refl, (refl, (refl, (refl, (refl, (refl, (refl, tt)))))))))) (r .kind) (omega arith) h
     at (no n) =
         rw (
           ne-eqb (r .kind) 3 (λ e. n (omega arith)),

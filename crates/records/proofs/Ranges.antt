@@ -1,4 +1,5 @@
 -- Kinds by ranges: the tests of a `match` over kind ranges, and what they say of the definitions by kind.
+--   Run, between                                    what holds at each number of a range
 --   sorts-at, sorts-pair, sorts-low, sorts-high     what the fields of the kinds of an arm hold
 --   atom-role, atom-not                             which kinds are atoms
 --   key-same                                        a key made of kind and A
@@ -6,13 +7,26 @@
 use Prim.Native.Nat.{ℕ, zero, suc, _+_, _*_, _<_, _≤_}
 use native.Mathlib.Omega.{arith}
 use native.Mathlib.Decide.{ℕ-discrete}
-use mathlib.Core.Path.{_≡_, refl, ap, sym, _∙_}
+use mathlib.Core.Path.{_≡_, refl, ap, sym, subst, _∙_}
 use mathlib.Core.Bool.{true, false, _&&_}
 use mathlib.Core.Logic.{_⊎_, inl, inr, ⊎-elim}
 use lib.ListN.{List·getD-eq-default}
 use lib.Dec.{eqb}
 use borrow.Author.Tests.{eq-eqb, ne-eqb}
 use Rattle.records.specs.Kinds.{Kind, noKind, kinds, kindOf, sortsOf, isAtom, constantFields}
+
+-- What holds at each of n numbers from k on.
+abbrev pub Run : (ℕ → Type 0) → ℕ → ℕ → Type 0
+Run P k zero = Unit {0}
+Run P k (suc n) = P k × Run P (suc k) n
+
+pub between : (P : ℕ → Type 0) (n a : ℕ) → Run P a n → (k : ℕ) → a ≤ k → k < a + n → P k
+between P zero a r k l h = absurd (omega arith)
+between P (suc n) a r k l h = at (ℕ-discrete a k) (between P n (suc a) (r .1) k)
+  where
+    at : Dec (a ≡ k) → (suc a ≤ k → k < suc a + n → P k) → P k
+    at (yes e) next = subst P e (r .0)
+    at (no e) next = next (omega arith) (omega arith)
 
 -- the two kinds of a range of two
 one-of-two : (k a : ℕ) → a ≤ k → k < a + 2 → (k ≡ a) ⊎ (k ≡ a + 1)

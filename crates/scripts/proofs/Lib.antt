@@ -1,2 +1,7 @@
--- Laws about the definitions of specs/, and what is proved of the calls.
+-- Laws about the definitions of specs/, and what is proved of the calls: Samples (those of the paper); runs and derivations, each
+-- from the other (Played, Closing, Runs, Readings).
 pub mod Samples
+pub mod Played
+pub mod Closing
+pub mod Runs
+pub mod Readings

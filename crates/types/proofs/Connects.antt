@@ -1,5 +1,4 @@
 -- The truth rules of the code are the paper's.
---   Run, between                   what holds at each number of a range
 --   rule-range, rule-low, rule-high, first-.., second-..   the tables of shapes by the ranges of a `match`
 --   select-..                      what each rule selects
 --   rule-connects                  what a record says, by its rule
@@ -8,32 +7,20 @@
 -- Assumes nothing.
 use Prim.Native.Nat.{ℕ, zero, suc, _+_, _≤_, _<_}
 use native.Mathlib.Omega.{arith}
-use native.Mathlib.Decide.{ℕ-discrete, decLt}
+use native.Mathlib.Decide.{decLt}
 use mathlib.Core.Path.{_≡_, refl, sym, ap, subst}
 use mathlib.Core.Bool.{Bool, true, false, not, _&&_, _||_}
 use lib.ListN.{List·getD-eq-default}
 use lib.Dec.{eqb}
 use borrow.Author.Tests.{ne-eqb}
-use Rattle.records.specs.Kinds.{noKind, kinds, kindOf, constructOf, isAtom}
+use Rattle.records.specs.Kinds.{kindOf, constructOf, isAtom}
 use Rattle.records.specs.declared.fields.Record.{Record}
-use Rattle.records.proofs.Constructs.{Earlier}
+use Rattle.records.proofs.Ranges.{between}
+use Rattle.records.proofs.Constructs.{Earlier, kind-past}
 use Rattle.types.specs.Below.{bit}
 use Rattle.types.specs.Meaning.{connect}
 use Rattle.types.specs.Words.{isRestriction}
 use Rattle.types.specs.Rules.{Shape, shape, shapes, shapeOf, ruleOf, firstOf, secondOf, select}
-
--- What holds at each of n numbers from k on.
-abbrev Run : (ℕ → Type 0) → ℕ → ℕ → Type 0
-Run P k zero = Unit {0}
-Run P k (suc n) = P k × Run P (suc k) n
-
-between : (P : ℕ → Type 0) (n a : ℕ) → Run P a n → (k : ℕ) → a ≤ k → k < a + n → P k
-between P zero a r k l h = absurd (omega arith)
-between P (suc n) a r k l h = at (ℕ-discrete a k) (between P n (suc a) (r .1) k)
-  where
-    at : Dec (a ≡ k) → (suc a ≤ k → k < suc a + n → P k) → P k
-    at (yes e) next = subst P e (r .0)
-    at (no e) next = next (omega arith) (omega arith)
 
 shape-past : (k : ℕ) → 10 ≤ k → shapeOf k ≡ shape 0 false false
 unfolding shapeOf
@@ -136,10 +123,6 @@ module _ (x y z : Bool) where
   select-implies : select 221 x y z ≡ (not x || y)
   unfolding select bit
   select-implies = agree (select 221) (λ x y z. not x || y) (refl, refl, refl, refl, refl, refl, refl, refl) x y z
-
-kind-past : (k : ℕ) → 10 ≤ k → kindOf k ≡ noKind
-unfolding kindOf
-kind-past k h = List·getD-eq-default kinds noKind h
 
 pub rule-connects : (r : Record) (z : Bool) (f : ℕ → Bool)
     → select (ruleOf (r .kind)) (f (firstOf (r .kind) (r .a))) (f (secondOf (r .kind) (r .b))) z ≡ connect (constructOf r) z f

@@ -1,0 +1,32 @@
+// Literals as numbers (specs/Packed.antt).
+ghost use mathlib.Core.Path.{_≡_};
+ghost use mathlib.Core.Bool.{not};
+ghost use Prim.Native.Nat.{_<_, _^_};
+ghost use Rattle.types.specs.Below.{digit};
+ghost use Rattle.columns.specs.Literals.{concept, role};
+ghost use Rattle.columns.specs.Packed.{packed};
+
+fn digit(b: bool) -> u64
+    ensures { λ r. ⌜ r ≡ digit b ⌝ }
+{
+    if b { 1 } else { 0 }
+}
+
+// Whether the element of a term is in term `number` of the vocabulary.
+pub fn pack_concept(positive: bool, number: u16, term: u32) -> u64
+    ensures { λ r. ⌜ r ≡ packed (concept positive number term) ⌝ }
+{
+    digit(positive) + 2 * (2 * (number as u64) + 1) + 4096 * (term as u64)
+}
+
+// Whether the elements of two terms are joined by a role.
+pub fn pack_role(positive: bool, number: u16, from: u32, to: u32) -> u64
+    requires { ⌜ from < 2 ^ 20 ⌝ }
+    requires { ⌜ to < 2 ^ 20 ⌝ }
+    ensures { λ r. ⌜ r ≡ packed (role positive number from to) ⌝ }
+{
+    digit(positive)
+        + 2 * (2 * (number as u64) + 2)
+        + 4096 * (from as u64)
+        + 4294967296 * (to as u64)
+}
