@@ -1,6 +1,7 @@
 -- What acceptance gives the crates above: operands are earlier terms, roles are below the count, labels differ, and
 -- links lead to later statements.
 --   Operand, Linked, Formed, Accepted   what is told of a field, of a record, of a vocabulary
+--   All, all-at                         what holds of every entry of a table holds of the entry at an index
 --   accepted-vocabulary                 a vocabulary that the check accepts is Accepted
 -- Assumes nothing.
 use Prim.Native.Nat.{ℕ, zero, suc, _-_, _≤_, _<_}
@@ -70,11 +71,11 @@ pub record Accepted (v : List ℕ) : Type 0 where
   pub rises : (i : ℕ) → 0 < i → i < count v → recordAt v i .kind ≡ 9 → Linked v i (recordAt v i .next)
 
 -- What holds of every entry of a table holds of the entry at an index.
-abbrev All : {A : Type 0} → (A → Type 0) → List A → Type 0
+abbrev pub All : {A : Type 0} → (A → Type 0) → List A → Type 0
 All P [] = Unit {0}
 All P (x ∷ xs) = P x × All P xs
 
-all-at : {A : Type 0} (P : A → Type 0) (l : List A) (d : A) → All P l → (k : ℕ) → k < length l → P (getD l k d)
+pub all-at : {A : Type 0} (P : A → Type 0) (l : List A) (d : A) → All P l → (k : ℕ) → k < length l → P (getD l k d)
 all-at P [] d t k h = absurd (omega arith)
 all-at P (x ∷ xs) d t zero h = t .0
 all-at P (x ∷ xs) d t (suc k) h = all-at P xs d (t .1) k (omega arith)

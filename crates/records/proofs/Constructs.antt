@@ -1,10 +1,11 @@
 -- What the records of an accepted vocabulary say.
---   record-past                  there is nothing past the end
---   kind-past                    kinds past the table say nothing
---   Earlier, construct-earlier   operands come before the record, whichever record it is
---   atomic, construct-atom       atoms by what they say
---   construct-inclusion          a statement says that A lies within B
---   RoleBelow, construct-role    a restriction's role is below the count
+--   record-past                    there is nothing past the end
+--   kind-past                      kinds past the table say nothing
+--   Earlier, construct-earlier     operands come before the record, whichever record it is
+--   atomic, construct-atom         atoms by what they say
+--   stating, construct-statement   statements by what they say
+--   construct-inclusion            a statement says that A lies within B
+--   RoleBelow, construct-role      a restriction's role is below the count
 -- Assumes nothing.
 use Prim.Native.Nat.{ℕ, zero, suc, _*_, _≤_, _<_}
 use native.Mathlib.Omega.{arith}
@@ -16,10 +17,10 @@ use lib.ListN.{getD, take, drop-of-length-le, List·getD-eq-default}
 use borrow.Author.Tests.{ne-eqb}
 use Rattle.records.specs.Format.{recordAt, count, roleCount}
 use Rattle.records.specs.Kinds.{Construct, none, top, bottom, name, negation, conjunction, disjunction, existential}
-use Rattle.records.specs.Kinds.{universal, inclusion, constructOf, Kind, noKind, kinds, kindOf, isAtom}
+use Rattle.records.specs.Kinds.{universal, inclusion, constructOf, Kind, noKind, kinds, kindOf, isAtom, isStatement}
 use Rattle.records.specs.declared.fields.Record.{Record}
 use Rattle.records.proofs.Passed.{Sized}
-use Rattle.records.proofs.Ranges.{between}
+use Rattle.records.proofs.Ranges.{Run, between}
 use Rattle.records.proofs.Accepted.{Accepted, Formed}
 
 pub record-past : (v : List ℕ) (i : ℕ) → Sized v → count v ≤ i → recordAt v i .kind ≡ 0
@@ -117,23 +118,42 @@ atomic (existential r b) = true
 atomic (universal r b) = true
 atomic (inclusion a b) = false
 
+-- What holds of each kind and what a record of it says holds of this record.
+kind-says : (r : Record) (P : ℕ → Construct → Type 0) → Run (λ k. P k (kindOf k .says r)) 0 10 → ((k : ℕ) → 10 ≤ k → P k none)
+    → P (r .kind) (constructOf r)
+kind-says r P each past = at (decLt (r .kind) 10)
+  where
+    at : Dec (r .kind < 10) → P (r .kind) (constructOf r)
+    at (yes h) = between (λ k. P k (kindOf k .says r)) 10 0 each (r .kind) (omega arith) h
+    at (no n) =
+        subst (λ (k : Kind). P (r .kind) (k .says r)) (sym (kind-past (r .kind) (omega arith))) (past (r .kind) (omega arith))
+
 pub construct-atom : (r : Record) → isAtom (r .kind) ≡ atomic (constructOf r)
 unfolding kindOf
-construct-atom r = at (decLt (r .kind) 10)
-  where
-    Says : ℕ → Type 0
-    Says k = isAtom k ≡ atomic (kindOf k .says r)
+construct-atom r =
+    kind-says r (λ k c. isAtom k ≡ atomic c)
+    (refl, (refl, (refl, (refl, (refl, (refl, (refl, (refl, (refl, (refl, tt))))))))))
+    (λ k h. rw (ne-eqb k 3 (λ e. omega arith), ne-eqb k 7 (λ e. omega arith), ne-eqb k 8 (λ e. omega arith)))
 
-    at : Dec (r .kind < 10) → Says (r .kind)
-    at (yes h) =
-        between Says 10 0 (refl, (refl, (refl, (refl, (refl, (refl, (refl, (refl, (refl, (refl, tt)))))))))) (r .kind) (omega arith) h
-    at (no n) =
-        rw (
-          ne-eqb (r .kind) 3 (λ e. n (omega arith)),
-          ne-eqb (r .kind) 7 (λ e. n (omega arith)),
-          ne-eqb (r .kind) 8 (λ e. n (omega arith)),
-          kind-past (r .kind) (omega arith),
-        )
+-- Statements by what they say.
+abbrev pub stating : Construct → Bool
+stating none = false
+stating top = false
+stating bottom = false
+stating name = false
+stating (negation a) = false
+stating (conjunction a b) = false
+stating (disjunction a b) = false
+stating (existential r b) = false
+stating (universal r b) = false
+stating (inclusion a b) = true
+
+pub construct-statement : (r : Record) → isStatement (r .kind) ≡ stating (constructOf r)
+unfolding kindOf
+construct-statement r =
+    kind-says r (λ k c. isStatement k ≡ stating c)
+    (refl, (refl, (refl, (refl, (refl, (refl, (refl, (refl, (refl, (refl, tt))))))))))
+    (λ k h. ne-eqb k 9 (λ e. omega arith))
 
 pub construct-inclusion : (r : Record) → r .kind ≡ 9 → constructOf r ≡ inclusion (r .a) (r .b)
 unfolding kindOf
