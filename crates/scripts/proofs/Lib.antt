@@ -1,7 +1,8 @@
 -- Laws about the definitions of specs/, and what is proved of the calls: Samples (those of the paper); runs and derivations, each
--- from the other (Played, Closing, Runs, Readings).
+-- from the other (Played, Closing, Runs, Readings); what is derived is so (Sound).
 pub mod Samples
 pub mod Played
 pub mod Closing
 pub mod Runs
 pub mod Readings
+pub mod Sound
