@@ -1,8 +1,10 @@
--- Laws about the definitions of specs/, and what is proved of the calls: Samples (those of the paper); runs and derivations, each
--- from the other (Played, Closing, Runs, Readings); what is derived is so (Sound).
+-- Laws about the definitions of specs/, and what is proved of the calls: Samples (those of the paper); runs and derivations,
+-- each from the other (Played, Closing, Runs, Readings); what is derived is so (Sound); the machine's frames (Frames).
 pub mod Samples
 pub mod Played
 pub mod Closing
 pub mod Runs
 pub mod Readings
 pub mod Sound
+pub mod Frames
+pub mod Lines

@@ -4,3 +4,6 @@ pub mod Format
 pub mod Form
 pub mod Calculus
 pub mod Run
+-- what the code computes with
+pub mod Codes
+pub mod Machine

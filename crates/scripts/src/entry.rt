@@ -1,4 +1,11 @@
 // A script record's bytes as numbers.
+use records::fields::word;
+ghost use mathlib.Core.Path.{_≡_};
+ghost use mathlib.Core.Bool.{_&&_, _||_};
+ghost use Prim.Native.Nat.{_+_, _*_, _≤_};
+ghost use lib.ListN.{length};
+ghost use Rattle.scripts.specs.Format.{entryOf, entryAt, isTerm, isStep};
+
 pub struct Entry {
     pub w0: u16,
     pub w1: u16,
@@ -8,4 +15,57 @@ pub struct Entry {
     pub w5: u16,
     pub w6: u16,
     pub w7: u16,
+}
+
+impl Entry {
+    // Bytes of a record.
+    pub const SIZE: usize = 16;
+    // Records of a script, header included.
+    pub const LIMIT: usize = 2048;
+
+    // The record that sixteen bytes hold.
+    pub fn read(part: &[u8]) -> Self
+        requires { ⌜ length (now part) ≡ 16 ⌝ }
+        ensures { λ r. ⌜ r ≡ entryOf (now (part .entry)) ⌝ }
+    {
+        Entry {
+            w0: word(part[0], part[1]),
+            w1: word(part[2], part[3]),
+            w2: word(part[4], part[5]),
+            w3: word(part[6], part[7]),
+            w4: word(part[8], part[9]),
+            w5: word(part[10], part[11]),
+            w6: word(part[12], part[13]),
+            w7: word(part[14], part[15]),
+        }
+    }
+}
+
+// Record i of a script that has it.
+pub fn read_entry(s: &[u8], i: usize) -> Entry
+    requires { ⌜ 16 * i + 16 ≤ length (now s) ⌝ }
+    ensures { λ r. ⌜ r ≡ entryAt (now (s .entry)) i ⌝ }
+{
+    let at = Entry::SIZE * i;
+    let end = at + Entry::SIZE;
+    Entry::read(&s[at..end])
+}
+
+// Which kinds of records are terms and steps.
+pub fn is_term_entry(kind: u16) -> bool
+    ensures { λ r. ⌜ r ≡ isTerm kind ⌝ }
+{
+    match kind {
+        1..=2 => true,
+        _ => false,
+    }
+}
+
+pub fn is_step_entry(kind: u16) -> bool
+    ensures { λ r. ⌜ r ≡ isStep kind ⌝ }
+{
+    match kind {
+        3..=5 => true,
+        _ => false,
+    }
 }

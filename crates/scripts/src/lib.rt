@@ -1,2 +1,4 @@
 // Scripts: the script check.
 pub mod entry;
+mod form;
+mod machine;

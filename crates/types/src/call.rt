@@ -51,7 +51,7 @@ fn names_term(v: &[u8], number: usize) -> bool
     false
 }
 
-fn check_term(v: &[u8], number: usize) -> Checked
+pub fn check_term(v: &[u8], number: usize) -> Checked
     ensures { λ r. ⌜ checked r ≡ termCheck (now (v .entry)) number ⌝ }
 {
     pass_if(names_term(v, number), 10, number)

@@ -9,4 +9,5 @@ mod restrict;
 mod truth;
 mod words;
 
+pub use call::check_term;
 pub use call::compare;
