@@ -7,3 +7,4 @@ pub mod Run
 -- what the code computes with
 pub mod Codes
 pub mod Machine
+pub mod Numbered
