@@ -1,5 +1,6 @@
 -- Laws about the definitions of specs/, and what is proved of the calls: Samples (those of the paper); runs and derivations,
--- each from the other (Played, Closing, Runs, Readings); what is derived is so (Sound); the machine's frames (Frames).
+-- each from the other (Played, Closing, Runs, Readings); what is derived is so (Sound); the machine's frames (Frames); what a
+-- record says (Lines), what a passed form tells (Formed), term records and their codes (Terms).
 pub mod Samples
 pub mod Played
 pub mod Closing
@@ -8,3 +9,5 @@ pub mod Readings
 pub mod Sound
 pub mod Frames
 pub mod Lines
+pub mod Formed
+pub mod Terms

@@ -1,0 +1,189 @@
+-- What a passed form tells: rows 13, 14, 10 and 15 to 19.
+--   Sized, TermNumber, IsStepAt   the length's bounds; a number of a term of the vocabulary; a step record
+--   Formed, formed                what is told of a script; a script whose form passes is so
+--   step-listed                   row 18: a step uses what is listed
+--   chain-listed                  so does each step of the chain
+-- Assumes nothing.
+use Prim.Native.Nat.{ℕ, zero, suc, _-_, _%_, _≤_, _<_}
+use native.Mathlib.Omega.{arith}
+use mathlib.Core.Path.{_≡_, refl}
+use mathlib.Core.Bool.{Bool, true, false, _&&_, _||_}
+use mathlib.Core.List.{List, [], _∷_, map}
+use mathlib.Core.Logic.{inl, inr}
+use lib.ListN.{length}
+use lib.Dec.{ltb, leb, eqb}
+use borrow.Author.Tests.{ltb-true, leb-true, eqb-true}
+use Rattle.records.specs.Outcome.{pass, _then_, require, inTurn}
+use Rattle.records.specs.Format.{recordAt, count}
+use Rattle.records.specs.Kinds.{isTerm}
+use Rattle.records.specs.Chain.{follow}
+use Rattle.records.proofs.Passed.{both-left, both-right, require-passed, then-passed, turn-at}
+use Rattle.records.proofs.Following.{Onward}
+use Rattle.types.specs.Compare.{termCheck}
+use Rattle.types.proofs.Tests.{implies-rest}
+use Rattle.columns.specs.Columns.{columnAt, takesY}
+use Rattle.scripts.specs.Format.{entryAt, entries, queryOf, firstStep, Line, blank, named, applied, starting, extending}
+use Rattle.scripts.specs.Format.{reducing, lineOf, lineAt, isStep, nextStep, chain}
+use Rattle.scripts.specs.Form.{lengthFits, lengthCheck, allZero, headerFits, headerCheck, queryCheck, kindFits, unusedFits}
+use Rattle.scripts.specs.Form.{termFits, stepFits, xFits, yFits, rowsCheck, entryCheck, entriesCheck, linkFits, nextFits}
+use Rattle.scripts.specs.Form.{linkCheck, linksCheck, formCheck}
+use Rattle.scripts.specs.Run.{stepOf, stepAt}
+use Rattle.scripts.proofs.Readings.{StepListed, AllListed}
+use Rattle.scripts.specs.declared.entry.Entry.{Entry}
+
+-- Row 13 passed: 16 to 32,768 bytes, a multiple of 16.
+pub record Sized (s : List ℕ) : Type 0 where
+  pub least : 16 ≤ length s
+  pub most : length s ≤ 32768
+  pub whole : length s % 16 ≡ 0
+
+-- x is the number of a term of the vocabulary.
+abbrev pub TermNumber : List ℕ → ℕ → Type 0
+TermNumber v x = (x < count v) × (isTerm (recordAt v x .kind) ≡ true)
+
+abbrev pub IsStepAt : List ℕ → ℕ → Type 0
+IsStepAt s x = isStep (entryAt s x .w0) ≡ true
+
+pub record Formed (v s : List ℕ) : Type 0 where
+  pub sized : Sized s
+  pub present : 1 < entries s
+  pub header : entryAt s 0 .w0 ≡ 32
+  pub query : TermNumber v (queryOf s .a) × TermNumber v (queryOf s .b)
+  pub kinds : (i : ℕ) → 0 < i → i < entries s → (1 ≤ entryAt s i .w0) × (entryAt s i .w0 ≤ 5)
+  pub unused : (i : ℕ) → 0 < i → i < entries s → unusedFits (entryAt s i) ≡ true
+  pub terms : (i : ℕ) → 0 < i → i < entries s → termFits v s i (lineAt s i) ≡ true
+  pub steps : (i : ℕ) → 0 < i → i < entries s → stepFits v s i (lineAt s i) ≡ true
+  pub first : Onward (IsStepAt s) (entries s) 0 (firstStep s)
+  pub links : (i : ℕ) → 0 < i → i < entries s → IsStepAt s i → Onward (IsStepAt s) (entries s) i (nextStep s i)
+
+length-sized : (s : List ℕ) → lengthCheck s ≡ pass → Sized s
+length-sized s e =
+    let fit = require-passed (lengthFits s) 13 0 e in
+    let rest = both-right (leb 16 (length s)) (leb (length s) 32768 && eqb (length s % 16) 0) fit in
+    record {
+      least = leb-true _ _ (both-left (leb 16 (length s)) (leb (length s) 32768 && eqb (length s % 16) 0) fit);
+      most = leb-true _ _ (both-left (leb (length s) 32768) (eqb (length s % 16) 0) rest);
+      whole = eqb-true _ _ (both-right (leb (length s) 32768) (eqb (length s % 16) 0) rest);
+    }
+
+header-kind : (s : List ℕ) → headerCheck s ≡ pass → entryAt s 0 .w0 ≡ 32
+header-kind s e =
+    let h = entryAt s 0 in
+    let unused = allZero (h .w4 ∷ h .w5 ∷ h .w6 ∷ h .w7 ∷ []) in
+    eqb-true (h .w0) 32 (both-left (eqb (h .w0) 32) unused (require-passed (headerFits h) 14 0 e))
+
+term-number : (v : List ℕ) (x : ℕ) → termCheck v x ≡ pass → TermNumber v x
+term-number v x e =
+    let fit = require-passed (ltb x (count v) && isTerm (recordAt v x .kind)) 10 x e in (
+      ltb-true x (count v) (both-left (ltb x (count v)) (isTerm (recordAt v x .kind)) fit),
+      both-right (ltb x (count v)) (isTerm (recordAt v x .kind)) fit,
+    )
+
+-- Rows 15 to 18 passed, at one record.
+record Rows (v s : List ℕ) (i : ℕ) (e : Entry) : Type 0 where
+  kind : (1 ≤ e .w0) × (e .w0 ≤ 5)
+  unused : unusedFits e ≡ true
+  term : termFits v s i (lineOf e) ≡ true
+  step : stepFits v s i (lineOf e) ≡ true
+
+rows-passed : (v s : List ℕ) (i : ℕ) (e : Entry) → rowsCheck v s i e ≡ pass → Rows v s i e
+rows-passed v s i e p =
+    let fourth = require (stepFits v s i (lineOf e)) 18 i in
+    let third = require (termFits v s i (lineOf e)) 17 i in
+    let second = require (unusedFits e) 16 i in
+    let a = then-passed (require (kindFits e) 15 i) (second then third then fourth) tt p in
+    let b = then-passed second (third then fourth) tt (a .1) in
+    let c = then-passed third fourth tt (b .1) in
+    let fit = require-passed (kindFits e) 15 i (a .0) in
+    record {
+      kind = (
+        leb-true 1 (e .w0) (both-left (leb 1 (e .w0)) (leb (e .w0) 5) fit),
+        leb-true (e .w0) 5 (both-right (leb 1 (e .w0)) (leb (e .w0) 5) fit),
+      );
+      unused = require-passed (unusedFits e) 16 i (b .0);
+      term = require-passed (termFits v s i (lineOf e)) 17 i (c .0);
+      step = require-passed (stepFits v s i (lineOf e)) 18 i (c .1);
+    }
+
+entry-rows : (v s : List ℕ) (i : ℕ) → entryCheck v s i ≡ pass → Rows v s i (entryAt s i)
+unfolding entryCheck
+entry-rows v s i e = rows-passed v s i (entryAt s i) e
+
+link-onward : (s : List ℕ) (i x : ℕ) → linkFits s i x ≡ true → Onward (IsStepAt s) (entries s) i x
+link-onward s i x e = at (eqb x 0) refl e
+  where
+    below : Bool
+    below = ltb x (entries s)
+
+    step : Bool
+    step = isStep (entryAt s x .w0)
+
+    at : (z : Bool) → eqb x 0 ≡ z → (z || (ltb i x && (below && step))) ≡ true → Onward (IsStepAt s) (entries s) i x
+    at true q h = inl (eqb-true x 0 q)
+    at false q h =
+        let rest = both-right (ltb i x) (below && step) h in
+        inr record {
+          later = ltb-true i x (both-left (ltb i x) (below && step) h);
+          within = ltb-true x (entries s) (both-left below step rest);
+          target = both-right below step rest;
+        }
+
+next-onward : (s : List ℕ) (i : ℕ) → linkCheck s i ≡ pass → IsStepAt s i → Onward (IsStepAt s) (entries s) i (nextStep s i)
+unfolding linkCheck
+next-onward s i e h =
+    link-onward s i (nextStep s i)
+    (implies-rest (isStep (entryAt s i .w0)) (linkFits s i (nextStep s i)) (require-passed (nextFits s i) 19 i e) h)
+
+pub formed : (v s : List ℕ) → formCheck v s ≡ pass → Formed v s
+unfolding formCheck
+formed v s e =
+    let query = queryCheck v (queryOf s) in
+    let entered = inTurn (entryCheck v s) 1 (entries s - 1) in
+    let linked = inTurn (linkCheck s) 1 (entries s - 1) in
+    let a = then-passed (lengthCheck s) (headerCheck s then query then entriesCheck v s then linksCheck s) tt e in
+    let b = then-passed (headerCheck s) (query then entriesCheck v s then linksCheck s) tt (a .1) in
+    let c = then-passed query (entriesCheck v s then linksCheck s) tt (b .1) in
+    let d = then-passed (entriesCheck v s) (linksCheck s) tt (c .1) in
+    let asked = then-passed (termCheck v (queryOf s .a)) (termCheck v (queryOf s .b)) tt (c .0) in
+    let each = then-passed (require (ltb 1 (entries s)) 17 1) entered tt (d .0) in
+    let link = then-passed (require (linkFits s 0 (firstStep s)) 19 0) linked tt (d .1) in
+    let rows : (i : ℕ) → 0 < i → i < entries s → Rows v s i (entryAt s i)
+    = λ i p h. entry-rows v s i (turn-at (entryCheck v s) (entries s - 1) 1 (each .1) i p (omega arith)) in
+    record {
+      sized = length-sized s (a .0);
+      present = ltb-true 1 (entries s) (require-passed (ltb 1 (entries s)) 17 1 (each .0));
+      header = header-kind s (b .0);
+      query = (term-number v (queryOf s .a) (asked .0), term-number v (queryOf s .b) (asked .1));
+      kinds = λ i p h. rows i p h .kind;
+      unused = λ i p h. rows i p h .unused;
+      terms = λ i p h. rows i p h .term;
+      steps = λ i p h. rows i p h .step;
+      first = link-onward s 0 (firstStep s) (require-passed (linkFits s 0 (firstStep s)) 19 0 (link .0));
+      links = λ i p h. next-onward s i (turn-at (linkCheck s) (entries s - 1) 1 (link .1) i p (omega arith));
+    }
+
+module _ (v s : List ℕ) where
+  step-listed : (i : ℕ) (l : Line) → stepFits v s i l ≡ true → StepListed v (queryOf s) (stepOf s l)
+  step-listed i blank e = omega arith
+  step-listed i named e = omega arith
+  step-listed i (applied f t) e = omega arith
+  step-listed i (starting n) e = leb-true n 1 e
+  step-listed i (extending owner n x y p) e =
+      let c = columnAt v (queryOf s) owner n in
+      ltb-true p (length c) (both-left (ltb p (length c)) (xFits s i owner x && yFits s i (takesY c) y) e)
+  step-listed i (reducing f) e = tt
+
+  module _ (f : Formed v s) where
+    follow-listed : (n i x : ℕ) → Onward (IsStepAt s) (entries s) i x
+        → AllListed v (queryOf s) (map (stepAt s) (follow (nextStep s) n x))
+    unfolding follow
+    follow-listed zero i x l = tt
+    follow-listed (suc n) i x (inl e) = rw e tt
+    follow-listed (suc n) i zero (inr a) = tt
+    follow-listed (suc n) i (suc x) (inr a) = (
+      step-listed (suc x) (lineAt s (suc x)) (f .steps (suc x) (omega arith) (a .within)),
+      follow-listed n (suc x) (nextStep s (suc x)) (f .links (suc x) (omega arith) (a .within) (a .target)),
+    )
+
+    pub chain-listed : AllListed v (queryOf s) (map (stepAt s) (chain s))
+    chain-listed = follow-listed (entries s) 0 (firstStep s) (f .first)
