@@ -1,8 +1,12 @@
 -- What a passed form tells: rows 13, 14, 10 and 15 to 19.
---   Sized, TermNumber, IsStepAt   the length's bounds; a number of a term of the vocabulary; a step record
---   Formed, formed                what is told of a script; a script whose form passes is so
---   step-listed                   row 18: a step uses what is listed
---   chain-listed                  so does each step of the chain
+--   Sized, TermNumber, IsStepAt              the length's bounds; a number of a term of the vocabulary; a step record
+--   Formed                                   what is told of a script
+--   length-sized, header-kind, term-number   rows 13, 14 and 10
+--   Rows, rows-passed, entry-rows            rows 15 to 18 at a record
+--   link-onward, next-onward                 row 19: a link, and a step's next, lead onward
+--   formed                                   a script whose form passes is Formed
+--   step-listed                              row 18: a step uses what is listed
+--   follow-listed, chain-listed              so does each step on the way from one, and each of the chain
 -- Assumes nothing.
 use Prim.Native.Nat.{ℕ, zero, suc, _-_, _%_, _≤_, _<_}
 use native.Mathlib.Omega.{arith}

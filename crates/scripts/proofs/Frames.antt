@@ -79,7 +79,7 @@ open-some zero b frames h = absurd (h refl)
 open-some (suc a) zero frames h = refl
 open-some (suc a) (suc b) frames h = refl
 
-frame-first : (g s : ℕ) → getD (frameOf g s) 0 0 ≡ g
+pub frame-first : (g s : ℕ) → getD (frameOf g s) 0 0 ≡ g
 frame-first g zero = refl
 frame-first g (suc s) = refl
 

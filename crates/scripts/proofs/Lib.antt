@@ -1,6 +1,6 @@
 -- Laws about the definitions of specs/, and what is proved of the calls: Samples (those of the paper); runs and derivations,
 -- each from the other (Played, Closing, Runs, Readings); what is derived is so (Sound); the machine's frames (Frames); what a
--- record says (Lines), what a passed form tells (Formed), term records and their codes (Terms).
+-- record says (Lines), what a passed form tells (Formed), term records and their codes (Terms), literals as numbers (Numbers).
 pub mod Samples
 pub mod Played
 pub mod Closing
@@ -11,3 +11,12 @@ pub mod Frames
 pub mod Lines
 pub mod Formed
 pub mod Terms
+pub mod Numbers
+pub mod Extending
+pub mod Stepping
+pub mod Walking
+pub mod Starting
+pub mod Meant
+pub mod Used
+pub mod Agreement
+pub mod Outcomes

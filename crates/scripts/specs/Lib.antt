@@ -4,7 +4,9 @@ pub mod Format
 pub mod Form
 pub mod Calculus
 pub mod Run
+pub mod Answers
 -- what the code computes with
 pub mod Codes
 pub mod Machine
 pub mod Numbered
+pub mod Ready
