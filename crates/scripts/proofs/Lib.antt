@@ -20,3 +20,7 @@ pub mod Meant
 pub mod Used
 pub mod Agreement
 pub mod Outcomes
+pub mod Scripts
+pub mod Denials
+pub mod Rowed
+pub mod Demands

@@ -5,6 +5,7 @@ pub mod Form
 pub mod Calculus
 pub mod Run
 pub mod Answers
+pub mod Demands
 -- what the code computes with
 pub mod Codes
 pub mod Machine

@@ -2,7 +2,7 @@
 --   served-role, roles-served   a served type passes the words' test of each role, and one that passes them is served
 --   served-by-words             the theorem
 --   role-unused                 a role of no restriction passes
---   role-cong, served-cong      the tests depend on what is in the set
+--   served-cong                 the test depends on what is in the set
 -- Assumes nothing.
 use Prim.Native.Nat.{ℕ, _-_, _^_, _<_}
 use mathlib.Core.Path.{_≡_, refl, sym, ap, subst, _∙_}
@@ -154,11 +154,6 @@ module _ (v : List ℕ) where
       at j h =
           let other : bit (others v r) j ≡ true = ap (λ (y : ℕ). bit y j) e ∙ bit-ones (width v) j h in
           rw other (or-true (bit (cover v S (reached v t r)) j) ∙ sym (or-true (bit (demand v t) j)))
-
-  pub role-cong : (S R : List Bool) (t r : ℕ) → ((s : ℕ) → s < types v → has S s ≡ has R s)
-      → roleServed v S t r ≡ roleServed v R t r
-  role-cong S R t r h =
-      ap (λ (y : ℕ). eqb (bitOr y (others v r)) (reached v t r)) (cover-cong v S R (reached v t r) h)
 
   pub served-cong : (S R : List Bool) (t : ℕ) → ((s : ℕ) → s < types v → has S s ≡ has R s) → served v S t ≡ served v R t
   unfolding served

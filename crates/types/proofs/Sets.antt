@@ -1,8 +1,9 @@
 -- Tables, and sets of numbers as tables.
 --   length-table, table-at, table-past   a table's entries
---   has-table                            a set given by a test
---   members-bound, members-same          how many are in it
+--   table-cong                           tables of the same values
+--   members-bound, members-within        how many are in a set, and in one within it
 --   members-less                         a set within another that misses one
+--   members-zero                         a set of none
 -- Assumes nothing.
 use Prim.Native.Nat.{ℕ, zero, suc, _≤_, _<_}
 use native.Mathlib.Omega.{arith}

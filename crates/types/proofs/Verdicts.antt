@@ -1,5 +1,6 @@
 -- What a verdict rests on.
 --   Term, Answered, answered                        where the comparison answers, no row refused
+--   answers-always                                  where no row refuses, it answers
 --   Decided, decided                                Equal if no survivor parts the terms, else Different with the first
 --   First, named-first                              the element that Different names
 --   parted-survivor, parted-apart, unparted-same    what a type that parts the terms is
@@ -12,7 +13,7 @@ use mathlib.Core.Path.{_≡_, refl, sym, ap, subst, _∙_}
 use mathlib.Core.Bool.{Bool, true, false, not, Bool·beq, _&&_}
 use mathlib.Core.List.{List, [], _++_}
 use lib.Dec.{ltb, leb}
-use borrow.Author.Tests.{ltb-true, ltb-false, leb-true}
+use borrow.Author.Tests.{ltb-true, ltb-false, leb-true, le-leb}
 use Rattle.records.specs.Outcome.{Outcome, accepted, refused, pass, _then_}
 use Rattle.records.specs.Format.{recordAt, count}
 use Rattle.records.specs.Kinds.{isTerm}
@@ -77,6 +78,12 @@ answered v a b lent x e =
       room = leb-true formBytes lent (require-passed (leb formBytes lent) 12 0 (row11 .1));
       answer = cc;
     }
+
+-- Where no row refuses, the comparison answers.
+pub answers-always : (v : List ℕ) (a b lent m : ℕ) → vocabularyCheck v ≡ accepted m → termCheck v a ≡ pass → termCheck v b ≡ pass
+    → atoms v ≤ atomLimit → formBytes ≤ lent → comparison v a b lent ≡ accepted (verdict v a b)
+unfolding comparison
+answers-always v a b lent m e s t few room = rw (e, s, t, le-leb (atoms v) atomLimit few, le-leb formBytes lent room)
 
 beq-same : (a b : Bool) → not (Bool·beq a b) ≡ false → a ≡ b
 beq-same true true e = refl
