@@ -5,33 +5,17 @@
 #define _DEFAULT_SOURCE
 #include <inttypes.h>
 #include <stdio.h>
-#include <stdlib.h>
 #include <string.h>
-#include <sys/mman.h>
-#include <unistd.h>
 
+#include "guarded.h"
 #include "judge.h"
 
-enum { HEAD = 6, SPACE = 65536 };
+enum { HEAD = 6 };
 
 static int fail(const char *what, size_t number)
 {
     fprintf(stderr, "boundary: case %zu: %s\n", number, what);
     return 1;
-}
-
-/* SPACE bytes that end where an unreadable page begins. */
-static uint8_t *guarded_space(void)
-{
-    size_t page = (size_t)sysconf(_SC_PAGESIZE);
-    void *start = mmap(NULL, SPACE + page, PROT_READ | PROT_WRITE, MAP_PRIVATE | MAP_ANONYMOUS, -1, 0);
-    uint8_t *bytes = (uint8_t *)start;
-
-    if (start == MAP_FAILED || mprotect(bytes + SPACE, page, PROT_NONE) != 0) {
-        perror("boundary");
-        exit(2);
-    }
-    return bytes;
 }
 
 /* Whether an answer is this refusal with this place, or, for refusal 0, this value; all other bits 0. */

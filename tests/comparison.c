@@ -5,14 +5,12 @@
 #define _DEFAULT_SOURCE
 #include <inttypes.h>
 #include <stdio.h>
-#include <stdlib.h>
 #include <string.h>
-#include <sys/mman.h>
-#include <unistd.h>
 
+#include "guarded.h"
 #include "judge.h"
 
-enum { HEAD = 13, SPACE = 65536, WRITTEN = 512, GUARD = 64, GUARD_BYTE = 0xa5, ARENA = 2 * GUARD + 8 + SPACE };
+enum { HEAD = 13, WRITTEN = 512, GUARD = 64, GUARD_BYTE = 0xa5, ARENA = 2 * GUARD + 8 + SPACE };
 
 /* The buffer with its guards, as it is and as it has to be. */
 static uint8_t arena[ARENA], wanted[ARENA];
@@ -28,20 +26,6 @@ static int fail(const char *what, size_t number)
 {
     fprintf(stderr, "comparison: case %zu: %s\n", number, what);
     return 1;
-}
-
-/* SPACE bytes that end where an unreadable page begins. */
-static uint8_t *guarded_space(void)
-{
-    size_t page = (size_t)sysconf(_SC_PAGESIZE);
-    void *start = mmap(NULL, SPACE + page, PROT_READ | PROT_WRITE, MAP_PRIVATE | MAP_ANONYMOUS, -1, 0);
-    uint8_t *bytes = (uint8_t *)start;
-
-    if (start == MAP_FAILED || mprotect(bytes + SPACE, page, PROT_NONE) != 0) {
-        perror("comparison");
-        exit(2);
-    }
-    return bytes;
 }
 
 static uint32_t number_at(const uint8_t *bytes, size_t count)

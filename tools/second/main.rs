@@ -1,6 +1,7 @@
 //! A second implementation of paper 01, written from the paper alone, that makes test vectors and
 //! the output expected for them. See README.md.
 
+mod cases;
 mod comparison;
 mod decode;
 mod draft;
@@ -8,6 +9,8 @@ mod faults;
 mod generate;
 mod print;
 mod random;
+mod script;
+mod table;
 mod vectors;
 mod vocabulary;
 
@@ -23,16 +26,21 @@ const MALFORMED: u8 = 2;
 
 /// How the program is called.
 const USAGE: &str = "usage: second vectors > VECTORS, or second expect < VECTORS > EXPECTED, \
-     or second comparisons > CASES, or second expect-comparisons < CASES > EXPECTED";
+     or second comparisons > CASES, or second expect-comparisons < CASES > EXPECTED, \
+     or second scripts > CASES, or second expect-scripts < CASES > EXPECTED";
 
 /// Runs the subcommand that the command line names.
 fn main() -> ExitCode {
     let words: Vec<String> = std::env::args().skip(1).collect();
     let status = match words.iter().map(String::as_str).collect::<Vec<_>>()[..] {
         ["vectors"] => make_vectors(),
-        ["expect"] => expect_output(),
+        ["expect"] => expect(|bytes| Ok(print::lines(&vectors::decode(bytes)?))),
         ["comparisons"] => make_comparisons(),
-        ["expect-comparisons"] => expect_comparisons(),
+        ["expect-comparisons"] => {
+            expect(|bytes| Ok(comparison::lines(&comparison::decode(bytes)?)))
+        }
+        ["scripts"] => make_scripts(),
+        ["expect-scripts"] => expect(|bytes| Ok(script::lines(&script::decode(bytes)?))),
         _ => complain(USAGE),
     };
     ExitCode::from(status)
@@ -64,48 +72,47 @@ fn make_vectors() -> u8 {
     }
 }
 
-/// Reads a vector file from standard input, and writes the expected output.
-fn expect_output() -> u8 {
+/// Reads a file of cases from standard input, and writes the output expected for it.
+fn expect(lines: impl Fn(&[u8]) -> Result<String, String>) -> u8 {
     let mut bytes = Vec::new();
     if let Err(error) = std::io::stdin().read_to_end(&mut bytes) {
         return complain(&error.to_string());
     }
-    match vectors::decode(&bytes) {
+    match lines(&bytes) {
         Err(message) => complain(&message),
-        Ok(cases) if write_out(print::lines(&cases).as_bytes()) => DONE,
+        Ok(text) if write_out(text.as_bytes()) => DONE,
         Ok(_) => complain("cannot write"),
     }
 }
 
-/// Writes the file of comparison cases to standard output, and the table of their sorts to standard
-/// error.
+/// Writes the file of comparison cases.
 fn make_comparisons() -> u8 {
     let planned = comparison::all();
-    let table = comparison::Table::of(&planned);
+    let table = comparison::table(&planned);
+    let cases: Vec<comparison::Case> = planned.into_iter().map(|p| p.case).collect();
+    make(&table, comparison::encode(&cases))
+}
+
+/// Writes the file of script cases.
+fn make_scripts() -> u8 {
+    let planned = script::all();
+    let table = script::table(&planned);
+    let cases: Vec<script::Case> = planned.into_iter().map(|p| p.case).collect();
+    make(&table, script::encode(&cases))
+}
+
+/// Writes a file of cases to standard output, and the table of their sorts to standard error.
+fn make(table: &table::Table, file: Result<Vec<u8>, String>) -> u8 {
     eprint!("{}", table.text());
     let faults = table.faults();
     for fault in &faults {
         eprintln!("second: {fault}");
     }
-    let cases: Vec<comparison::Case> = planned.into_iter().map(|p| p.case).collect();
-    match comparison::encode(&cases) {
+    match file {
         Err(message) => complain(&message),
         Ok(bytes) if !write_out(&bytes) => complain("cannot write"),
         Ok(_) if faults.is_empty() => DONE,
         Ok(_) => UNFIT,
-    }
-}
-
-/// Reads a file of comparison cases from standard input, and writes the expected output.
-fn expect_comparisons() -> u8 {
-    let mut bytes = Vec::new();
-    if let Err(error) = std::io::stdin().read_to_end(&mut bytes) {
-        return complain(&error.to_string());
-    }
-    match comparison::decode(&bytes) {
-        Err(message) => complain(&message),
-        Ok(cases) if write_out(comparison::lines(&cases).as_bytes()) => DONE,
-        Ok(_) => complain("cannot write"),
     }
 }
 

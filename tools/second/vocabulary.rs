@@ -111,3 +111,14 @@ pub fn may_follow(records: &[Record], next: u16, place: usize) -> bool {
     let is_statement = records.get(later).is_some_and(Record::is_statement);
     next == 0 || (later > place && is_statement)
 }
+
+/// The numbers of the statements on the chain of an accepted vocabulary.
+pub fn chain(records: &[Record]) -> Vec<u16> {
+    let mut statements = Vec::new();
+    let mut next = records[0].fields[A];
+    while next != 0 {
+        statements.push(next);
+        next = records[usize::from(next)].fields[NEXT];
+    }
+    statements
+}

@@ -2,6 +2,8 @@
 //! (16 bits), the two term numbers (32 bits each), the number of bytes lent (16 bits), all low byte
 //! first, the seed of what they hold (8 bits), and the vocabulary.
 
+use crate::cases;
+
 /// A vocabulary, the two terms to compare, and the bytes that are lent.
 #[derive(Clone)]
 pub struct Case {
@@ -25,8 +27,9 @@ impl Case {
         bytes.take(usize::from(self.lent)).collect()
     }
 
-    /// The case that a head and what follows it hold, and what is left.
-    fn split<'a>(head: &[u8; HEAD_BYTES], body: &'a [u8]) -> Option<(Case, &'a [u8])> {
+    /// The case that bytes begin with, and what is left.
+    fn split(bytes: &[u8]) -> Option<(Case, &[u8])> {
+        let (head, body) = bytes.split_first_chunk::<HEAD_BYTES>()?;
         let [l0, l1, a0, a1, a2, a3, b0, b1, b2, b3, n0, n1, seed] = *head;
         let (vocabulary, rest) =
             body.split_at_checked(usize::from(u16::from_le_bytes([l0, l1])))?;
@@ -42,12 +45,10 @@ impl Case {
 }
 
 /// The bytes of the file, or what is wrong with the cases.
-pub fn encode(cases: &[Case]) -> Result<Vec<u8>, String> {
+pub fn encode(all: &[Case]) -> Result<Vec<u8>, String> {
     let mut bytes = Vec::new();
-    for case in cases {
-        let length = u16::try_from(case.vocabulary.len())
-            .map_err(|_| "a vocabulary is too long for a case".to_string())?;
-        bytes.extend(length.to_le_bytes());
+    for case in all {
+        bytes.extend(cases::length(&case.vocabulary)?);
         bytes.extend(case.a.to_le_bytes());
         bytes.extend(case.b.to_le_bytes());
         bytes.extend(case.lent.to_le_bytes());
@@ -59,15 +60,5 @@ pub fn encode(cases: &[Case]) -> Result<Vec<u8>, String> {
 
 /// The cases of a file, or where it is malformed.
 pub fn decode(bytes: &[u8]) -> Result<Vec<Case>, String> {
-    let mut cases = Vec::new();
-    let mut rest = bytes;
-    while !rest.is_empty() {
-        let whole = rest.split_first_chunk::<HEAD_BYTES>();
-        let (case, after) = whole
-            .and_then(|(head, body)| Case::split(head, body))
-            .ok_or_else(|| format!("the file ends inside case {}", cases.len()))?;
-        cases.push(case);
-        rest = after;
-    }
-    Ok(cases)
+    cases::decode(bytes, Case::split)
 }

@@ -20,9 +20,7 @@ fn kinds(atoms: usize, random: &mut Random) -> Vec<u8> {
     let terms = random.below(8);
     kinds.extend((0..terms).filter_map(|_| random.pick(&[1, 2, 4, 4, 5, 5, 6, 6])));
     kinds.extend(std::iter::repeat_n(9, random.below(6)));
-    for i in (1..kinds.len()).rev() {
-        kinds.swap(i, random.below(i + 1));
-    }
+    random.shuffle(&mut kinds);
     kinds
 }
 

@@ -4,7 +4,7 @@ use crate::comparison::plan::Plan;
 use crate::comparison::terms::Terms;
 
 /// The vocabulary V: names 1, 2, 3; 4 = 1 and 2; 5: 4 within 3.
-fn v() -> Terms {
+pub fn v() -> Terms {
     let mut terms = Terms::new(0);
     let names = terms.names(3);
     let both = terms.and(names[0], names[1]);
@@ -30,7 +30,7 @@ fn sample_3() -> Terms {
 }
 
 /// Bottom 1; 2 some role 0 to 1.
-fn sample_4() -> Terms {
+pub fn sample_4() -> Terms {
     let mut terms = Terms::new(1);
     let bottom = terms.bottom();
     terms.some(0, bottom);

@@ -1,4 +1,4 @@
-//! The table of how many cases there are of each sort, and how many tell each error.
+//! How many cases of the comparison there are of each sort, and how many tell each error.
 
 use crate::comparison::call::Compared;
 use crate::comparison::checks::fault;
@@ -7,6 +7,7 @@ use crate::comparison::plan::Planned;
 use crate::comparison::print::{run, Outcome};
 use crate::comparison::types::Types;
 use crate::decode::records;
+use crate::table::Table;
 
 /// Vocabularies with more types do not have the errors tried on them, for their time.
 const MOST_TYPES: usize = 256;
@@ -37,12 +38,6 @@ const SORTS: [Sort; 10] = [
     }),
 ];
 
-/// How many cases there are of each sort, and what is wrong with some.
-pub struct Table {
-    rows: Vec<(String, usize)>,
-    faults: Vec<String>,
-}
-
 /// For each error whether it changes the answer to a case.
 fn told(planned: &Planned, outcome: &Outcome) -> [bool; ERRORS.len()] {
     let Ok(right) = &outcome.answer else {
@@ -54,47 +49,29 @@ fn told(planned: &Planned, outcome: &Outcome) -> [bool; ERRORS.len()] {
     ERRORS.map(|(_, wrong)| few && wrong(&types, a, b) != *right)
 }
 
-impl Table {
-    /// The table of cases.
-    pub fn of(cases: &[Planned]) -> Table {
-        let outcomes: Vec<Outcome> = cases.iter().map(|planned| run(&planned.case)).collect();
-        let with = |test: &dyn Fn(&Outcome) -> bool| outcomes.iter().filter(|o| test(o)).count();
-        let mut rows = vec![("cases".to_string(), cases.len())];
-        for number in REFUSALS {
-            let refused = |o: &Outcome| o.answer.as_ref().is_err_and(|r| r.number == number);
-            rows.push((format!("refused {number}"), with(&refused)));
-        }
-        for (name, is_one) in SORTS {
-            rows.push((
-                name.to_string(),
-                with(&|o| o.answer.as_ref().is_ok_and(is_one)),
-            ));
-        }
-        let pairs = || cases.iter().zip(&outcomes);
-        let told: Vec<_> = pairs()
-            .map(|(planned, outcome)| told(planned, outcome))
-            .collect();
-        for (i, (name, _)) in ERRORS.iter().enumerate() {
-            let count = told.iter().filter(|errors| errors[i]).count();
-            rows.push((format!("would change by: {name}"), count));
-        }
-        let found = pairs().enumerate().filter_map(|(i, (planned, outcome))| {
-            fault(planned, outcome).map(|text| format!("case {i} {text}"))
-        });
-        let faults = found.collect();
-        Table { rows, faults }
+/// The table of cases.
+pub fn table(cases: &[Planned]) -> Table {
+    let outcomes: Vec<Outcome> = cases.iter().map(|planned| run(&planned.case)).collect();
+    let with = |test: &dyn Fn(&Outcome) -> bool| outcomes.iter().filter(|o| test(o)).count();
+    let mut table = Table::default();
+    table.add("cases", cases.len(), 1);
+    for number in REFUSALS {
+        let refused = |o: &Outcome| o.answer.as_ref().is_err_and(|r| r.number == number);
+        table.add(&format!("refused {number}"), with(&refused), 1);
     }
-
-    /// The table as text.
-    pub fn text(&self) -> String {
-        let line = |(name, count): &(String, usize)| format!("{count:6}  {name}\n");
-        self.rows.iter().map(line).collect()
+    for (name, is_one) in SORTS {
+        table.add(name, with(&|o| o.answer.as_ref().is_ok_and(is_one)), 1);
     }
-
-    /// What is wrong: cases with other answers than meant, and sorts that no case has.
-    pub fn faults(&self) -> Vec<String> {
-        let lacking = self.rows.iter().filter(|(_, count)| *count == 0);
-        let lacking = lacking.map(|(name, _)| format!("no case: {name}"));
-        self.faults.iter().cloned().chain(lacking).collect()
+    let pairs = || cases.iter().zip(&outcomes);
+    let told: Vec<_> = pairs()
+        .map(|(planned, outcome)| told(planned, outcome))
+        .collect();
+    for (i, (name, _)) in ERRORS.iter().enumerate() {
+        let count = told.iter().filter(|errors| errors[i]).count();
+        table.add(&format!("would change by: {name}"), count, 1);
     }
+    table.object(pairs().enumerate().filter_map(|(i, (planned, outcome))| {
+        fault(planned, outcome).map(|text| format!("case {i} {text}"))
+    }));
+    table
 }

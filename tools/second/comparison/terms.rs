@@ -4,6 +4,7 @@ use crate::decode::Record;
 use crate::draft::Draft;
 
 /// A vocabulary in the making, and the statements that its chain is to have.
+#[derive(Clone)]
 pub struct Terms {
     draft: Draft,
     chain: Vec<u16>,
@@ -16,6 +17,11 @@ impl Terms {
             draft: Draft::new(roles),
             chain: Vec::new(),
         }
+    }
+
+    /// How many records there are, header included.
+    pub fn len(&self) -> usize {
+        self.draft.records.len()
     }
 
     /// Pushes a record of a kind, and answers its number.

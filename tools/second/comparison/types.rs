@@ -1,7 +1,8 @@
 //! The types of a vocabulary, the pairs allowed for a role, the types that a set serves, and the
 //! rounds: the section "Types and comparison" of the paper, sentence by sentence.
 
-use crate::decode::{Record, A, B, NEXT};
+use crate::decode::{Record, A, B};
+use crate::vocabulary::chain;
 
 /// The kind of a name.
 const NAME: u8 = 3;
@@ -39,14 +40,8 @@ pub fn atoms(records: &[Record]) -> Vec<usize> {
 
 /// The statements on the chain.
 pub fn chained(records: &[Record]) -> Vec<Record> {
-    let mut chain = Vec::new();
-    let mut next = records[0].fields[A];
-    while next != 0 {
-        let statement = records[usize::from(next)];
-        chain.push(statement);
-        next = statement.fields[NEXT];
-    }
-    chain
+    let numbers = chain(records).into_iter().map(usize::from);
+    numbers.map(|number| records[number]).collect()
 }
 
 /// The truth of each record at each type, in record order.
