@@ -2,12 +2,6 @@
 
 #include <string.h>
 
-static bool is_term(const uint8_t *vocabulary, size_t count, uint32_t number)
-{
-    return number >= 1 && number < count
-        && read_record(vocabulary, number).kind != STATEMENT;
-}
-
 static uint32_t count_atoms(const uint8_t *vocabulary, size_t count)
 {
     uint32_t atoms = 0;
@@ -28,10 +22,9 @@ uint64_t refuse_comparison(const uint8_t *vocabulary, size_t vocabulary_len,
         return checked;
 
     size_t count = vocabulary_len / RECORD_BYTES;
-    if (!is_term(vocabulary, count, a))
-        return pack_answer(NO_TERM, a);
-    if (!is_term(vocabulary, count, b))
-        return pack_answer(NO_TERM, b);
+    uint64_t query = plain_check_query(vocabulary, count, a, b);
+    if (query != ACCEPTED)
+        return query;
 
     uint32_t atoms = count_atoms(vocabulary, count);
     if (atoms > MAX_ATOMS)

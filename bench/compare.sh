@@ -9,61 +9,16 @@
 # (minutes). ARCHIVE: default target/staticlib/libjudge.a in the repository.
 # Exit status: 0 done, 1 the answers differ or a build failed, 2 bad usage or something is missing.
 set -eu
+# shellcheck source-path=SCRIPTDIR
+. "$(dirname -- "$0")/common.sh"
 
-fail() {
-    printf 'compare.sh: %s\n' "$1" >&2
-    exit 2
-}
-
-bench=$(CDPATH='' cd -- "$(dirname -- "$0")" && pwd)
-root=$(dirname -- "$bench")
-archive=$root/target/staticlib/libjudge.a
-mode='time'
-
-for word in "$@"; do
-    case $word in
-    --agree) mode=agree ;;
-    --instructions) mode=instructions ;;
-    -*) fail "unknown option $word; usage: compare.sh [--agree | --instructions] [ARCHIVE]" ;;
-    *) archive=$word ;;
-    esac
-done
-[ -f "$archive" ] || fail "no archive $archive; 'rt staticlib judge' in $root makes it"
-[ "$mode" != instructions ] || command -v valgrind >/dev/null || fail '--instructions needs valgrind'
-
-build=$(mktemp -d)
-trap 'rm -rf -- "$build"' EXIT
-trap 'exit 1' HUP INT TERM
-
-# Bound at the start, so that no first call pays for it.
-gcc -O2 -Wall -Wextra -Werror -Wl,-z,now -I "$root/include" -o "$build/comparison" \
-    "$bench/comparison.c" "$bench/questions.c" "$bench/fast.c" "$bench/literal.c" \
-    "$bench/answer.c" "$bench/plain.c" "$bench/support.c" "$archive"
+compile comparison questions fast literal answer plain support
 
 case $mode in
-time) "$build/comparison" "$bench/data"; exit ;;
-agree) "$build/comparison" "$bench/data" --agree; exit ;;
+time) "$program" "$bench/data"; exit ;;
+agree) "$program" "$bench/data" --agree; exit ;;
 esac
 
-"$build/comparison" "$bench/data" --agree
-
-# valgrind counts each byte that `rep stosb` and `rep movsb` handle as an instruction, and glibc uses them for large blocks:
-# both thresholds out of reach, memset and memcpy are counted by their vector instructions, for all versions alike.
-GLIBC_TUNABLES=glibc.cpu.x86_rep_stosb_threshold=10000000:glibc.cpu.x86_rep_movsb_threshold=10000000
-export GLIBC_TUNABLES
-
-# Counting goes on in `counted` only, and each return from it dumps the count and begins anew.
-valgrind --tool=callgrind --callgrind-out-file="$build/dump" \
-    --toggle-collect=counted --dump-after=counted \
-    "$build/comparison" "$bench/data" --count >"$build/calls" 2>"$build/log" || {
-    cat "$build/log" >&2
-    exit 1
-}
-
-# Each line of the calls with its count: input|millions to reach|version|instructions
-number=0
-while IFS= read -r line; do
-    number=$((number + 1))
-    printf '%s|%s\n' "$line" "$(sed -n 's/^totals: //p' "$build/dump.$number")"
-done <"$build/calls" >"$build/counts"
-awk -F '|' -f "$bench/instructions.awk" "$build/counts"
+"$program" "$bench/data" --agree
+count_calls "$program" "$bench/data" --count
+awk -F '|' -f "$bench/counts.awk" -f "$bench/instructions.awk" "$build/counts"

@@ -18,10 +18,10 @@
 enum {
     LENT = 600, /* so that a write past the 512 bytes shows */
     RANDOM = 20000,
-    ROUNDS = 11,
     LITERAL_ROUNDS = 3 /* the literal algorithm is slow, and nothing hangs on its time */
 };
-static const double MEASUREMENT_NS = 50e6;
+
+static const char PROGRAM[] = "comparison";
 
 static const struct version {
     const char *name;
@@ -82,16 +82,6 @@ static bool agree_on(const struct question *question, int last, size_t lent, uin
     return true;
 }
 
-/* Guards the questions themselves: all may agree on one that was made wrongly. */
-static bool is_expected(const struct input *input, uint64_t answer)
-{
-    if (answer == input->expected)
-        return true;
-    fprintf(stderr, "comparison: on %s: %#" PRIx64 ", expected %#" PRIx64 "\n",
-            input->name, answer, input->expected);
-    return false;
-}
-
 /* What came up among the random questions. */
 struct seen {
     unsigned refused[256], different, equal, empty, rounds, most_rounds;
@@ -132,23 +122,18 @@ static bool agree_on_random(struct seen *seen)
     return true;
 }
 
-/* Agreement says little about an answer that no question led to, so each must have come up. */
 static bool print_seen(const struct seen *seen)
 {
     static const int refusals[] = {1, 2, 3, 4, 5, 6, 7, 8, NO_TERM, MANY_ATOMS, SHORT_BUFFER};
-    bool all = seen->different && seen->equal && seen->empty && seen->rounds;
 
     printf("Random ones: Different %u, Equal %u, no survivor %u, several rounds %u (at most %u);",
            seen->different, seen->equal, seen->empty, seen->rounds, seen->most_rounds);
-    printf(" refused with");
-    for (size_t i = 0; i < sizeof refusals / sizeof *refusals; i++) {
-        printf("%s %d: %u", i ? "," : "", refusals[i], seen->refused[refusals[i]]);
-        all = all && seen->refused[refusals[i]];
-    }
-    printf(".\n\n");
-    if (!all)
-        fprintf(stderr, "comparison: some of these did not come up\n");
-    return all;
+    if (!print_refusals(PROGRAM, seen->refused, refusals, sizeof refusals / sizeof *refusals))
+        return false;
+    if (seen->different && seen->equal && seen->empty && seen->rounds)
+        return true;
+    fprintf(stderr, "comparison: some of these answers did not come up\n");
+    return false;
 }
 
 static bool agree(const struct question *questions, bool quick)
@@ -160,7 +145,7 @@ static bool agree(const struct question *questions, bool quick)
         uint64_t answer;
 
         if (!agree_on(&questions[i], last, LENT, &answer)
-            || !is_expected(&questions[i].input, answer))
+            || !is_expected(PROGRAM, &questions[i].input, answer))
             return false;
     }
     if (!agree_on_random(&seen))
@@ -174,10 +159,10 @@ static bool agree(const struct question *questions, bool quick)
 
 static volatile uint64_t sink;
 
-static double time_calls(const struct question *question, int version, uint64_t calls)
+static void run(const void *subject, int version, uint64_t calls)
 {
+    const struct question *question = subject;
     uint8_t buffer[SURVIVOR_BYTES];
-    double start = now_ns();
 
     for (uint64_t i = 0; i < calls; i++) {
         /* The bytes may have changed, for all the compiler knows, so that it hoists no call. */
@@ -185,49 +170,17 @@ static double time_calls(const struct question *question, int version, uint64_t 
         sink = versions[version].compare(question->input.bytes, question->input.len, question->a,
                                          question->b, buffer, sizeof buffer);
     }
-    return now_ns() - start;
-}
-
-/* The number of calls that take about one measurement. */
-static uint64_t calibrate(const struct question *question, int version)
-{
-    uint64_t calls = 1;
-    double ns;
-
-    while ((ns = time_calls(question, version, calls)) < MEASUREMENT_NS / 8)
-        calls *= 2;
-    return 1 + (uint64_t)((double)calls * MEASUREMENT_NS / ns);
-}
-
-/* Medians for each version, the versions by turns; ns a call. */
-static void measure(const struct question *question, double *ns)
-{
-    double values[VERSIONS][ROUNDS];
-    uint64_t calls[VERSIONS] = {
-        [LIBRARY] = calibrate(question, LIBRARY),
-        [FAST] = calibrate(question, FAST),
-        [LITERAL] = question->slow ? 1 : calibrate(question, LITERAL),
-    };
-    int rounds[VERSIONS] = {
-        [LIBRARY] = ROUNDS, [FAST] = ROUNDS, [LITERAL] = question->slow ? 1 : LITERAL_ROUNDS,
-    };
-
-    for (int i = 0; i < ROUNDS; i++) {
-        for (int v = 0; v < VERSIONS; v++) {
-            if (i < rounds[v])
-                values[v][i] = time_calls(question, v, calls[v]) / (double)calls[v];
-        }
-    }
-    for (int v = 0; v < VERSIONS; v++)
-        ns[v] = median(values[v], (size_t)rounds[v]);
 }
 
 static void print_times(const struct question *question)
 {
     uint64_t answer = question->input.expected;
+    int rounds[VERSIONS] = {
+        [LIBRARY] = ROUNDS, [FAST] = ROUNDS, [LITERAL] = question->slow ? 1 : LITERAL_ROUNDS,
+    };
     double ns[VERSIONS];
 
-    measure(question, ns);
+    measure(run, question, rounds, VERSIONS, ns);
     printf("| %s | %zu | %" PRIu64 " | %.4f | %.4f | %.2f | %.3f%s |\n",
            question->input.name, count_of(&question->input), answer >> 42, ns[LIBRARY] / 1e6,
            ns[FAST] / 1e6, ns[LIBRARY] / ns[FAST], ns[LITERAL] / 1e6,
@@ -267,7 +220,7 @@ static int count(const struct question *questions)
         for (int v = 0; v < VERSIONS; v++) {
             if (v == LITERAL && q->slow)
                 continue;
-            if (!is_expected(&q->input, counted(q, v, buffer)))
+            if (!is_expected(PROGRAM, &q->input, counted(q, v, buffer)))
                 return 1;
             printf("%s|%d|%s\n", q->input.name, q->walk ? 300 : 60, versions[v].name);
         }

@@ -122,3 +122,17 @@ uint64_t plain_record(const uint8_t *vocabulary, size_t vocabulary_len, uint32_t
         return pack_answer(PAST_END, number);
     return pack_answer(ACCEPTED, RECORD_BYTES * number);
 }
+
+static bool is_term(const uint8_t *vocabulary, size_t count, uint32_t number)
+{
+    return number >= 1 && number < count && kind_of(vocabulary, number) != STATEMENT;
+}
+
+uint64_t plain_check_query(const uint8_t *vocabulary, size_t count, uint32_t a, uint32_t b)
+{
+    if (!is_term(vocabulary, count, a))
+        return pack_answer(NO_TERM, a);
+    if (!is_term(vocabulary, count, b))
+        return pack_answer(NO_TERM, b);
+    return pack_answer(ACCEPTED, 0);
+}

@@ -17,7 +17,10 @@ enum kind {
 enum refusal {
     ACCEPTED = 0,
     BAD_LENGTH, BAD_HEADER, BAD_KIND, BAD_UNUSED, BAD_TERM, BAD_ROLE, BAD_LABEL, BAD_NEXT,
-    PAST_END, NO_TERM, MANY_ATOMS, SHORT_BUFFER
+    PAST_END, NO_TERM, MANY_ATOMS, SHORT_BUFFER,
+    BAD_SCRIPT_LENGTH, BAD_SCRIPT_HEADER,
+    BAD_SCRIPT_KIND, BAD_SCRIPT_UNUSED, BAD_SCRIPT_TERM, BAD_STEP, BAD_STEP_NEXT,
+    NO_START, NO_COMPLEMENT, BAD_REDUCTION, MANY_FRAMES, FRAME_LEFT, ALL_CLOSED
 };
 
 /* Bits 0-7 the refusal, bits 8-39 the place or, where accepted, the value. */
@@ -51,5 +54,8 @@ static inline struct record read_record(const uint8_t *vocabulary, size_t number
 
 uint64_t plain_check_vocabulary(const uint8_t *vocabulary, size_t vocabulary_len);
 uint64_t plain_record(const uint8_t *vocabulary, size_t vocabulary_len, uint32_t number);
+
+/* Row 10, over a vocabulary that the check has accepted. Accepted: 0. */
+uint64_t plain_check_query(const uint8_t *vocabulary, size_t count, uint32_t a, uint32_t b);
 
 #endif

@@ -2,61 +2,7 @@
 
 #include <stdio.h>
 
-/* --- records --- */
-
-static enum kind kind_of(const struct input *input, size_t number)
-{
-    return (enum kind)input->bytes[RECORD_BYTES * number];
-}
-
-static unsigned last_number(const struct input *input)
-{
-    return (unsigned)count_of(input) - 1;
-}
-
-/* Appends a record and answers its number. */
-static unsigned put(struct input *input, enum kind kind, unsigned a, unsigned b)
-{
-    add(input, kind, a, b, 0);
-    return last_number(input);
-}
-
-static void set_next(struct input *input, size_t number, unsigned next)
-{
-    /* The header's A leads to the first statement, as next does to the others. */
-    write_u16(input->bytes + RECORD_BYTES * number + (number == 0 ? 2 : 6), next);
-}
-
-/* Puts all the statements on the chain. */
-static void chain_statements(struct input *input)
-{
-    unsigned last = 0;
-
-    for (unsigned i = 1; i < count_of(input); i++) {
-        if (kind_of(input, i) == STATEMENT) {
-            set_next(input, last, i);
-            last = i;
-        }
-    }
-}
-
-static unsigned some_term(const struct input *input)
-{
-    size_t number;
-
-    do
-        number = 1 + below(count_of(input) - 1);
-    while (kind_of(input, number) == STATEMENT);
-    return (unsigned)number;
-}
-
-/* Appends a record about random terms. */
-static void put_about_terms(struct input *input, enum kind kind)
-{
-    unsigned a = some_term(input), b = some_term(input);
-
-    put(input, kind, a, kind == NOT ? 0 : b);
-}
+/* --- full vocabularies of 12 atoms --- */
 
 /* Fills the vocabulary up with terms that are no atoms: only the truths take longer. */
 static void pad(struct question *question)
@@ -66,8 +12,6 @@ static void pad(struct question *question)
     while (question->input.len < MAX_BYTES)
         put_about_terms(&question->input, kinds[below(3)]);
 }
-
-/* --- full vocabularies of 12 atoms --- */
 
 enum { LITERALS = 2 * MAX_ATOMS };
 
@@ -406,24 +350,6 @@ static void put_random_term(struct input *input)
         put_about_terms(input, kinds[below(8)]);
 }
 
-/* Most statements are put on the chain; one off it may lead to any later one. */
-static void link_at_random(struct input *input)
-{
-    unsigned next = 0, later = 0;
-
-    for (unsigned i = last_number(input); i > 0; i--) {
-        if (kind_of(input, i) != STATEMENT)
-            continue;
-        bool chained = below(4) != 0;
-
-        set_next(input, i, chained || below(2) ? next : later);
-        later = i;
-        if (chained)
-            next = i;
-    }
-    set_next(input, 0, next);
-}
-
 void make_random_question(struct question *question)
 {
     struct input *input = &question->input;
@@ -458,24 +384,6 @@ static uint32_t some_number(const struct input *input)
     case 1: return (uint32_t)random_u64();
     case 2: return 0x10000 + (uint32_t)below(count_of(input));
     default: return (uint32_t)below(count_of(input) + 2);
-    }
-}
-
-/* Small values, since these are near to what the fields hold. */
-static void damage_field(struct input *input)
-{
-    uint8_t *record = some_record(input);
-    size_t value = below(count_of(input) + 2);
-
-    switch (below(4)) {
-    case 0:
-        record[below(RECORD_BYTES)] = (uint8_t)value;
-        break;
-    case 1:
-        record[0] = (uint8_t)below(HEADER + 2);
-        break;
-    default:
-        write_u16(record + 2 + 2 * below(3), (unsigned)value);
     }
 }
 

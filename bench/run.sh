@@ -8,43 +8,15 @@
 # 511 names, counted by callgrind. ARCHIVE: default target/staticlib/libjudge.a in the repository.
 # Exit status: 0 done, 1 the answers differ or a build failed, 2 bad usage or something is missing.
 set -eu
+# shellcheck source-path=SCRIPTDIR
+. "$(dirname -- "$0")/common.sh"
 
-fail() {
-    printf 'run.sh: %s\n' "$1" >&2
-    exit 2
-}
-
-bench=$(CDPATH='' cd -- "$(dirname -- "$0")" && pwd)
-root=$(dirname -- "$bench")
-archive=$root/target/staticlib/libjudge.a
-mode='time'
-
-for word in "$@"; do
-    case $word in
-    --agree) mode=agree ;;
-    --instructions) mode=instructions ;;
-    -*) fail "unknown option $word; usage: run.sh [--agree | --instructions] [ARCHIVE]" ;;
-    *) archive=$word ;;
-    esac
-done
-[ -f "$archive" ] || fail "no archive $archive; 'rt staticlib judge' in $root makes it"
-[ "$mode" != instructions ] || command -v valgrind >/dev/null || fail '--instructions needs valgrind'
-
-build=$(mktemp -d)
-trap 'rm -rf -- "$build"' EXIT
-trap 'exit 1' HUP INT TERM
-
-gcc -O2 -Wall -Wextra -Werror -I "$root/include" -o "$build/vocabulary" \
-    "$bench/vocabulary.c" "$bench/plain.c" "$bench/support.c" "$archive"
+compile vocabulary plain support
 
 # Instructions of the whole process for $2 calls of $1.
 count() {
-    valgrind --tool=callgrind --callgrind-out-file="$build/callgrind.out" \
-        "$build/vocabulary" --calls "$1" "$2" >"$build/log" 2>&1 || {
-        cat "$build/log" >&2
-        exit 1
-    }
-    sed -n 's/^totals: //p' "$build/callgrind.out"
+    callgrind --callgrind-out-file="$build/callgrind.out" "$program" --calls "$1" "$2"
+    total "$build/callgrind.out"
 }
 
 # Two runs that differ in ten calls: the start of the process drops out of the difference.
@@ -55,8 +27,8 @@ per_call() {
 }
 
 case $mode in
-time) "$build/vocabulary"; exit ;;
-agree) "$build/vocabulary" --agree; exit ;;
+time) "$program"; exit ;;
+agree) "$program" --agree; exit ;;
 esac
 
 library=$(per_call library)

@@ -9,18 +9,21 @@
 #include "support.h"
 
 #include <inttypes.h>
-#include <stdbool.h>
 #include <stdio.h>
 #include <stdlib.h>
 #include <string.h>
 
-enum {
-    DAMAGES = 5000, /* for each input */
-    ROUNDS = 11
-};
-static const double MEASUREMENT_NS = 50e6;
+enum { DAMAGES = 5000 }; /* for each input */
+static const char PROGRAM[] = "vocabulary";
 
-typedef uint64_t check_function(const uint8_t *vocabulary, size_t vocabulary_len);
+static const struct version {
+    const char *name;
+    uint64_t (*check)(const uint8_t *vocabulary, size_t vocabulary_len);
+} versions[] = {
+    {"library", judge_check_vocabulary},
+    {"plain", plain_check_vocabulary},
+};
+enum { LIBRARY, PLAIN, VERSIONS };
 
 /* --- inputs --- */
 
@@ -123,11 +126,8 @@ static void damage_bytes(struct input *input)
     case 3: /* a field emptied */
         write_u16(some_record(input) + 2 + 2 * below(3), 0);
         break;
-    default: { /* a record twice */
-        uint8_t *from = some_record(input), *to = some_record(input);
-
-        memmove(to, from, RECORD_BYTES);
-    }
+    default:
+        repeat_record(input);
     }
 }
 
@@ -156,16 +156,6 @@ static bool same_answer(const char *call, const char *name, uint64_t library, ui
         return true;
     fprintf(stderr, "vocabulary: %s on %s: library %#" PRIx64 ", plain C %#" PRIx64 "\n",
             call, name, library, plain);
-    return false;
-}
-
-/* Guards the inputs themselves: both may agree on an input that was made wrongly. */
-static bool is_expected(const struct input *input, uint64_t answer)
-{
-    if (answer == input->expected)
-        return true;
-    fprintf(stderr, "vocabulary: check on %s: %#" PRIx64 ", expected %#" PRIx64 "\n",
-            input->name, answer, input->expected);
     return false;
 }
 
@@ -198,19 +188,13 @@ static bool agree_on_damages(const struct input *input, unsigned *seen)
     return true;
 }
 
-/* Agreement says little about a refusal that no damage led to, so each must have come up. */
 static bool print_seen(const unsigned *seen)
 {
-    printf("Damages accepted: %u; refused with", seen[ACCEPTED]);
-    for (int refusal = BAD_LENGTH; refusal <= BAD_NEXT; refusal++)
-        printf(" %d: %u%s", refusal, seen[refusal], refusal < BAD_NEXT ? "," : ".\n\n");
-    for (int refusal = ACCEPTED; refusal <= BAD_NEXT; refusal++) {
-        if (seen[refusal] == 0) {
-            fprintf(stderr, "vocabulary: no damage led to %d\n", refusal);
-            return false;
-        }
-    }
-    return true;
+    static const int refusals[] = {1, 2, 3, 4, 5, 6, 7, 8};
+
+    printf("Damages accepted: %u;", seen[ACCEPTED]);
+    return print_refusals(PROGRAM, seen, refusals, sizeof refusals / sizeof *refusals)
+        && seen[ACCEPTED] > 0;
 }
 
 static bool agree(const struct input *inputs)
@@ -221,7 +205,7 @@ static bool agree(const struct input *inputs)
         uint64_t answer;
 
         if (!agree_on(&inputs[i], (uint32_t)count_of(&inputs[i]) - 1, &answer)
-            || !is_expected(&inputs[i], answer)
+            || !is_expected(PROGRAM, &inputs[i], answer)
             || !agree_on_damages(&inputs[i], seen))
             return false;
     }
@@ -233,47 +217,25 @@ static bool agree(const struct input *inputs)
 
 static volatile uint64_t sink;
 
-static void call(check_function *check, const struct input *input, uint64_t calls)
+static void run(const void *subject, int version, uint64_t calls)
 {
+    const struct input *input = subject;
+
     for (uint64_t i = 0; i < calls; i++) {
         /* The bytes may have changed, for all the compiler knows, so that it hoists no call. */
         __asm__ volatile("" : : "r"(input) : "memory");
-        sink = check(input->bytes, input->len);
+        sink = versions[version].check(input->bytes, input->len);
     }
 }
 
-static double time_calls(check_function *check, const struct input *input, uint64_t calls)
+static void print_times(const struct input *input)
 {
-    double start = now_ns();
+    static const int rounds[VERSIONS] = {ROUNDS, ROUNDS};
+    double ns[VERSIONS];
 
-    call(check, input, calls);
-    return now_ns() - start;
-}
-
-/* The number of calls that take about one measurement. */
-static uint64_t calibrate(check_function *check, const struct input *input)
-{
-    uint64_t calls = 1;
-    double ns;
-
-    while ((ns = time_calls(check, input, calls)) < MEASUREMENT_NS / 8)
-        calls *= 2;
-    return 1 + (uint64_t)((double)calls * MEASUREMENT_NS / ns);
-}
-
-static void measure(const struct input *input)
-{
-    uint64_t library_calls = calibrate(judge_check_vocabulary, input);
-    uint64_t plain_calls = calibrate(plain_check_vocabulary, input);
-    double library[ROUNDS], plain[ROUNDS];
-
-    for (int i = 0; i < ROUNDS; i++) {
-        library[i] = time_calls(judge_check_vocabulary, input, library_calls) / (double)library_calls;
-        plain[i] = time_calls(plain_check_vocabulary, input, plain_calls) / (double)plain_calls;
-    }
-    double library_ns = median(library, ROUNDS), plain_ns = median(plain, ROUNDS);
-    printf("| %s | %zu | %.1f | %.1f | %.2f |\n",
-           input->name, input->len, library_ns, plain_ns, library_ns / plain_ns);
+    measure(run, input, rounds, VERSIONS, ns);
+    printf("| %s | %zu | %.1f | %.1f | %.2f |\n", input->name, input->len, ns[LIBRARY], ns[PLAIN],
+           ns[LIBRARY] / ns[PLAIN]);
     fflush(stdout);
 }
 
@@ -284,16 +246,16 @@ static int benchmark(const struct input *inputs)
     printf("| input | bytes | library, ns a call | plain C, ns a call | ratio |\n");
     printf("|---|---:|---:|---:|---:|\n");
     for (int i = 0; i < INPUTS; i++)
-        measure(&inputs[i]);
+        print_times(&inputs[i]);
     return 0;
 }
 
 /* --- instructions --- */
 
-static int call_only(const struct input *input, check_function *check, const char *calls)
+static int call_only(const struct input *input, int version, const char *calls)
 {
-    call(check, input, strtoull(calls, NULL, 10));
-    return is_expected(input, sink) ? 0 : 1;
+    run(input, version, strtoull(calls, NULL, 10));
+    return is_expected(PROGRAM, input, sink) ? 0 : 1;
 }
 
 int main(int argc, char **argv)
@@ -307,10 +269,10 @@ int main(int argc, char **argv)
     if (argc == 2 && strcmp(argv[1], "--agree") == 0)
         return agree(inputs) ? 0 : 1;
     if (argc == 4 && strcmp(argv[1], "--calls") == 0) {
-        if (strcmp(argv[2], "library") == 0)
-            return call_only(&inputs[0], judge_check_vocabulary, argv[3]);
-        if (strcmp(argv[2], "plain") == 0)
-            return call_only(&inputs[0], plain_check_vocabulary, argv[3]);
+        for (int v = 0; v < VERSIONS; v++) {
+            if (strcmp(argv[2], versions[v].name) == 0)
+                return call_only(&inputs[0], v, argv[3]);
+        }
     }
     fprintf(stderr, "usage: vocabulary [--agree | --calls library|plain N]\n");
     return 2;
