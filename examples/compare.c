@@ -1,8 +1,6 @@
 /* Compares two terms of a vocabulary, through the C boundary.
  * usage: compare VOCABULARY A B */
-#include <stdio.h>
-#include <stdlib.h>
-
+#include "file.h"
 #include "judge.h"
 
 /* One byte more than a vocabulary may have, so that a longer file is refused as such. */
@@ -36,20 +34,13 @@ static int report(const char *name, const char *a, const char *b, uint64_t answe
 int main(int count, char **arguments)
 {
     uint8_t vocabulary[SPACE], form[FORM];
-    FILE *file;
     size_t length;
 
     if (count != 4) {
         fprintf(stderr, "usage: compare VOCABULARY A B\n");
         return 64;
     }
-    file = fopen(arguments[1], "rb");
-    if (file == NULL) {
-        perror(arguments[1]);
-        return 66;
-    }
-    length = fread(vocabulary, 1, SPACE, file);
-    fclose(file);
+    length = read_file(arguments[1], vocabulary, SPACE);
     return report(arguments[1], arguments[2], arguments[3],
                   judge_compare(vocabulary, length, (uint32_t)strtoul(arguments[2], NULL, 10),
                                 (uint32_t)strtoul(arguments[3], NULL, 10), form, FORM),
