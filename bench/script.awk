@@ -6,12 +6,12 @@ function row(input,    library, plain, ratio) {
     ratio = library / plain
     printf "| %s | %s | %d | %d | %s |\n", input,
         marked("%d", library, library > 1e6 * reach[input]), 1e6 * reach[input], plain,
-        marked("%.2f", ratio, ratio > 1.3)
+        marked("%.2f", ratio, ratio > 2)
 }
 
 END {
     print "| script | library, instructions a call | to reach | plain C, instructions a call " \
-        "| ratio (to reach: 1.30) |"
+        "| ratio (to reach: 2.00) |"
     print "|---|---:|---:|---:|---:|"
     for (i = 1; i <= count; i++)
         row(inputs[i])

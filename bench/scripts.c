@@ -135,7 +135,7 @@ static int benchmark(const struct proof *shapes)
     if (!agree(shapes))
         return 1;
     printf("| script | steps | frames | library, ns a call | plain C, ns a call "
-           "| ratio (to reach: 1.50) | library, MB/s | library, million steps/s |\n");
+           "| ratio (to reach: 2.00) | library, MB/s | library, million steps/s |\n");
     printf("|---|---:|---:|---:|---:|---:|---:|---:|\n");
     for (int i = 0; i < SHAPES; i++)
         print_times(&shapes[i]);
