@@ -33,8 +33,8 @@ uint64_t judge_record(const uint8_t *vocabulary, size_t vocabulary_len, uint32_t
 uint64_t judge_compare(const uint8_t *vocabulary, size_t vocabulary_len, uint32_t a, uint32_t b, uint8_t *buffer,
                        size_t buffer_len);
 
-/* The script check: whether the script's chain of steps is a derivation of what its header asks. Accepted: the number
- * of steps. */
+/* The script check: whether the script's chain of steps is a derivation that its header's A lies within its B, over the
+ * vocabulary handed in with it. Accepted: the number of steps. Nothing is written. */
 uint64_t judge_check_script(const uint8_t *vocabulary, size_t vocabulary_len, const uint8_t *script, size_t script_len);
 
 #ifdef __cplusplus

@@ -3,12 +3,14 @@
 --   unpacked          a small outcome can be taken apart
 --   check-unpacked    the vocabulary check's
 --   record-unpacked   the record call's
+--   script-unpacked   the script check's
 --   Verdicts, compare-unpacked   the comparison's
 -- Assumes nothing.
 use Prim.Native.Nat.{ℕ, _/_, _%_, _^_, _<_, max}
 use native.Mathlib.Omega.{arith}
 use mathlib.Core.Path.{_≡_}
 use mathlib.Core.List.{List}
+use lib.ListN.{getD}
 use Rattle.records.specs.Outcome.{Outcome, accepted, refused}
 use Rattle.records.specs.Check.{vocabularyCheck}
 use Rattle.records.specs.Call.{recordCall}
@@ -16,6 +18,8 @@ use Rattle.records.proofs.Bounds.{Small, vocabulary-small, record-small}
 use Rattle.records.proofs.Passed.{clash}
 use Rattle.types.specs.Compare.{Verdict, equal, different, comparison}
 use Rattle.types.proofs.Bounds.{SmallVerdict, most, comparison-small}
+use Rattle.scripts.specs.Run.{scriptCheck}
+use Rattle.scripts.proofs.Bounds.{mostPlace, script-small, query-below}
 use Rattle.judge.specs.Packed.{numberOf, valueOf, packed, packedVerdict}
 
 pub record Unpacked (o : Outcome ℕ) : Type 0 where
@@ -42,6 +46,12 @@ check-unpacked v = unpacked 512 (vocabularyCheck v) (omega arith) (vocabulary-sm
 
 pub record-unpacked : (v : List ℕ) (number : ℕ) → number < 2 ^ 32 → Unpacked (recordCall v number)
 record-unpacked v number h = unpacked (max 4096 number) (recordCall v number) (omega arith) (record-small v number)
+
+-- of a script that consists of bytes
+pub script-unpacked : (v s : List ℕ) → ((i : ℕ) → getD s i 0 < 256) → Unpacked (scriptCheck v s)
+script-unpacked v s bytes =
+    let query = query-below s bytes in
+    unpacked (mostPlace s) (scriptCheck v s) (omega (arith, query .0, query .1)) (script-small v s)
 
 -- What the bits of the comparison's number are.
 abbrev pub Verdicts : ℕ → Outcome Verdict → Type 0

@@ -2,6 +2,7 @@
 // include/judge.h declares the calls, and specs/Packed.antt says which number stands for which outcome.
 use records::answers::Counted;
 use records::answers::Located;
+use scripts::answers::Judged;
 use types::answers::Compared;
 ghost use mathlib.Core.Path.{_≡_};
 ghost use Prim.Native.Nat.{_+_, _*_, _<_, _^_};
@@ -10,6 +11,7 @@ ghost use Rattle.records.specs.Check.{vocabularyCheck};
 ghost use Rattle.records.specs.Call.{recordCall};
 ghost use Rattle.types.specs.Compare.{comparison};
 ghost use Rattle.types.specs.Form.{written};
+ghost use Rattle.scripts.specs.Run.{scriptCheck};
 ghost use Rattle.judge.specs.Packed.{packed, flag, packedParts, packedVerdict};
 
 // Bits 0 to 7: the refusal's number, or 0. Bits 8 to 39: its place, or the value answered.
@@ -75,5 +77,16 @@ pub extern "C" fn judge_compare(vocabulary: &[u8], a: u32, b: u32, buffer: &mut 
             rounds,
         } => pack_verdict(true, element, survivors, rounds),
         Compared::Refused { number, place } => pack(number, place),
+    }
+}
+
+#[no_mangle]
+pub extern "C" fn judge_check_script(vocabulary: &[u8], script: &[u8]) -> u64
+    ensures { λ r. ⌜ r ≡ packed (scriptCheck (now (vocabulary .entry)) (now (script .entry))) ⌝ }
+{
+    let answer = scripts::check_script(vocabulary, script);
+    match answer {
+        Judged::Accepted(steps) => pack(0, steps),
+        Judged::Refused { number, place } => pack(number, place),
     }
 }

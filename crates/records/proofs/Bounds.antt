@@ -3,6 +3,7 @@
 --   vocabulary-small   its count or place is at most 512, its number not 0
 --   record-within      the record call's offset leaves room for a record
 --   Nearby, require-near, then-near   a check whose refusal is near
+--   then-small, turns-near   what comes after such a check; such checks in turn
 --   record-small       its offset or place is at most 4,096 or the number asked for
 -- Assumes nothing.
 use Prim.Native.Nat.{ℕ, zero, suc, _+_, _-_, _*_, _≤_, _<_, max}
@@ -45,11 +46,12 @@ module _ (m : ℕ) where
   then-near (accepted u) b x y = y
   then-near (refused n p) b x y = x
 
-  then-small : (a : Check) (b : Outcome ℕ) → Nearby m a → (a ≡ pass → Small m b) → Small m (a then b)
+  pub then-small : (a : Check) (b : Outcome ℕ) → Nearby m a → (a ≡ pass → Small m b) → Small m (a then b)
   then-small (accepted u) b x y = y refl
   then-small (refused n p) b x y = x
 
-  turns-near : (check : ℕ → Check) (n i : ℕ) → i + n ≤ m → ((k : ℕ) → k ≤ m → Nearby m (check k)) → Nearby m (inTurn check i n)
+  pub turns-near : (check : ℕ → Check) (n i : ℕ) → i + n ≤ m → ((k : ℕ) → k ≤ m → Nearby m (check k))
+      → Nearby m (inTurn check i n)
   unfolding inTurn
   turns-near check zero i h near = tt
   turns-near check (suc n) i h near =

@@ -60,7 +60,7 @@ pub record Formed (v s : List ℕ) : Type 0 where
   pub first : Onward (IsStepAt s) (entries s) 0 (firstStep s)
   pub links : (i : ℕ) → 0 < i → i < entries s → IsStepAt s i → Onward (IsStepAt s) (entries s) i (nextStep s i)
 
-length-sized : (s : List ℕ) → lengthCheck s ≡ pass → Sized s
+pub length-sized : (s : List ℕ) → lengthCheck s ≡ pass → Sized s
 length-sized s e =
     let fit = require-passed (lengthFits s) 13 0 e in
     let rest = both-right (leb 16 (length s)) (leb (length s) 32768 && eqb (length s % 16) 0) fit in

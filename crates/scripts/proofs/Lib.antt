@@ -1,6 +1,7 @@
 -- Laws about the definitions of specs/, and what is proved of the calls: Samples (those of the paper); runs and derivations,
 -- each from the other (Played, Closing, Runs, Readings); what is derived is so (Sound); the machine's frames (Frames); what a
--- record says (Lines), what a passed form tells (Formed), term records and their codes (Terms), literals as numbers (Numbers).
+-- record says (Lines), what a passed form tells (Formed), term records and their codes (Terms), literals as numbers (Numbers),
+-- bounds on the script check's answer (Bounds).
 pub mod Samples
 pub mod Played
 pub mod Closing
@@ -24,3 +25,4 @@ pub mod Scripts
 pub mod Denials
 pub mod Rowed
 pub mod Demands
+pub mod Bounds

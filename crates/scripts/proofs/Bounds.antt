@@ -1,0 +1,159 @@
+-- Bounds on what the script check answers: what a caller needs to pack an answer into a word.
+--   mostPlace                            no answer is above it
+--   Within                               numbers of which none is above m
+--   after-near, after-count              a check after one that passed; what comes after the vocabulary check
+--   term-near, entry-near, link-near     row 10; rows 15 to 18 and row 19 at a record
+--   entries-near, links-near, form-near  the same over all records; the form's refusal is near
+--   step-near, run-near, chain-near      so is a refusal along a chain whose numbers are small
+--   follow-within                        the numbers of a formed script's chain are
+--   script-small                         the number of steps or the place is at most mostPlace, the refusal's number not 0
+--   header-byte, query-below             the query's numbers have 16 bits
+-- Assumes nothing.
+use Prim.Native.Nat.{ℕ, zero, suc, _+_, _-_, _*_, _≤_, _<_, max}
+use native.Mathlib.Omega.{arith}
+use mathlib.Core.Path.{_≡_, refl, sym, subst, _∙_}
+use mathlib.Core.Bool.{not, _&&_}
+use mathlib.Core.List.{List, [], _∷_}
+use mathlib.Core.Logic.{inl, inr}
+use lib.ListN.{getD, drop}
+use lib.Seq.{getD-take, getD-drop}
+use lib.Dec.{ltb}
+use Rattle.records.specs.Outcome.{Outcome, Check, accepted, refused, pass, _then_, require}
+use Rattle.records.specs.Format.{recordAt, count}
+use Rattle.records.specs.Kinds.{isTerm}
+use Rattle.records.specs.Check.{vocabularyCheck}
+use Rattle.records.specs.Chain.{follow}
+use Rattle.records.proofs.Following.{Onward}
+use Rattle.records.proofs.Bounds.{Small, Nearby, require-near, then-near, then-small, turns-near, vocabulary-small}
+use Rattle.types.specs.Compare.{termCheck}
+use Rattle.scripts.specs.Format.{partAt, entryAt, entries, queryOf, firstStep, lineOf, nextStep, chain}
+use Rattle.scripts.specs.Form.{lengthFits, lengthCheck, headerFits, headerCheck, queryCheck, kindFits, unusedFits}
+use Rattle.scripts.specs.Form.{termFits, stepFits, entryCheck, entriesCheck, linkFits, nextFits, linkCheck, linksCheck}
+use Rattle.scripts.specs.Form.{formCheck}
+use Rattle.scripts.specs.Calculus.{Step}
+use Rattle.scripts.specs.Run.{Frames, stepAt, isNil, isStart, connects, reduces, hasRoom, stepCheck, stepped, run}
+use Rattle.scripts.specs.Run.{chainCheck, scriptCheck}
+use Rattle.scripts.proofs.Formed.{IsStepAt, Formed, length-sized, formed}
+use Rattle.scripts.proofs.Walking.{chain-few}
+
+-- A script has at most 2,048 records, a vocabulary 512; row 10's place is a number of the query.
+abbrev pub mostPlace : List ℕ → ℕ
+mostPlace s = max 2048 (max (queryOf s .a) (queryOf s .b))
+
+abbrev Within : ℕ → List ℕ → Type 0
+Within m [] = Unit {0}
+Within m (x ∷ xs) = (x ≤ m) × Within m xs
+
+module _ (m : ℕ) where
+  after-near : (a b : Check) → Nearby m a → (a ≡ pass → Nearby m b) → Nearby m (a then b)
+  after-near (accepted u) b x y = y refl
+  after-near (refused n p) b x y = x
+
+  after-count : (k : ℕ) (a b : Outcome ℕ) → k ≤ m → Small k a → Small m b → Small m (a then b)
+  after-count k (accepted x) b h s t = t
+  after-count k (refused n p) b h s t = (s .0, s .1, omega (arith, s .2))
+
+-- The form.
+module _ (m : ℕ) (v s : List ℕ) where
+  term-near : (x : ℕ) → x ≤ m → Nearby m (termCheck v x)
+  term-near x h = require-near m (ltb x (count v) && isTerm (recordAt v x .kind)) 10 x (omega arith)
+
+  entry-near : (i : ℕ) → i ≤ m → Nearby m (entryCheck v s i)
+  unfolding entryCheck
+  entry-near i h =
+      let e = entryAt s i in
+      then-near m (require (kindFits e) 15 i) _ (require-near m (kindFits e) 15 i (omega arith))
+      (then-near m (require (unusedFits e) 16 i) _ (require-near m (unusedFits e) 16 i (omega arith))
+      (then-near m (require (termFits v s i (lineOf e)) 17 i) _ (require-near m (termFits v s i (lineOf e)) 17 i (omega arith))
+      (require-near m (stepFits v s i (lineOf e)) 18 i (omega arith))))
+
+  link-near : (i : ℕ) → i ≤ m → Nearby m (linkCheck s i)
+  unfolding linkCheck
+  link-near i h = require-near m (nextFits s i) 19 i (omega arith)
+
+  entries-near : 0 < m → entries s ≤ m → Nearby m (entriesCheck v s)
+  entries-near p h =
+      then-near m (require (ltb 1 (entries s)) 17 1) _ (require-near m (ltb 1 (entries s)) 17 1 (omega arith))
+      (turns-near m (entryCheck v s) (entries s - 1) 1 (omega arith) entry-near)
+
+  links-near : 0 < m → entries s ≤ m → Nearby m (linksCheck s)
+  links-near p h =
+      let first = linkFits s 0 (firstStep s) in
+      then-near m (require first 19 0) _ (require-near m first 19 0 (omega arith))
+      (turns-near m (linkCheck s) (entries s - 1) 1 (omega arith) link-near)
+
+  form-near : 2048 ≤ m → queryOf s .a ≤ m → queryOf s .b ≤ m → Nearby m (formCheck v s)
+  unfolding formCheck
+  form-near h a b =
+      let query : Nearby m (queryCheck v (queryOf s))
+      = then-near m (termCheck v (queryOf s .a)) _ (term-near (queryOf s .a) a) (term-near (queryOf s .b) b) in
+      after-near m (lengthCheck s) _ (require-near m (lengthFits s) 13 0 (omega arith))
+      (λ e. let few : entries s ≤ m = omega (arith, length-sized s e .most) in
+      then-near m (headerCheck s) _ (require-near m (headerFits (entryAt s 0)) 14 0 (omega arith))
+      (then-near m (queryCheck v (queryOf s)) _ query
+      (then-near m (entriesCheck v s) _ (entries-near (omega arith) few) (links-near (omega arith) few))))
+
+-- The chain.
+module _ (m : ℕ) (v s : List ℕ) where
+  step-near : (i : ℕ) (frames : Frames) (step : Step) → i ≤ m → Nearby m (stepCheck v (queryOf s) i frames step)
+  unfolding stepCheck
+  step-near i frames step h =
+      let q = queryOf s in
+      then-near m (require (not (isNil frames)) 25 i) _ (require-near m (not (isNil frames)) 25 i (omega arith))
+      (then-near m (require (not (isStart step)) 20 i) _ (require-near m (not (isStart step)) 20 i (omega arith))
+      (then-near m (require (connects v q frames step) 21 i) _ (require-near m (connects v q frames step) 21 i (omega arith))
+      (then-near m (require (reduces frames step) 22 i) _ (require-near m (reduces frames step) 22 i (omega arith))
+      (require-near m (hasRoom v q frames step) 23 i (omega arith)))))
+
+  run-near : (frames : Frames) (last : ℕ) (l : List ℕ) → last ≤ m → Within m l → Nearby m (run v s frames last l)
+  unfolding run
+  run-near frames last [] h w = require-near m (isNil frames) 24 last (omega arith)
+  run-near frames last (i ∷ rest) h w =
+      let next = stepped v (queryOf s) frames (stepAt s i) in
+      then-near m (stepCheck v (queryOf s) i frames (stepAt s i)) (run v s next i rest)
+      (step-near i frames (stepAt s i) (w .0))
+      (run-near next i rest (w .0) (w .1))
+
+  chain-near : (l : List ℕ) → Within m l → Nearby m (chainCheck v s l)
+  unfolding chainCheck
+  chain-near [] w = omega arith
+  chain-near (i ∷ rest) w =
+      let first = stepped v (queryOf s) [] (stepAt s i) in
+      then-near m (require (isStart (stepAt s i)) 20 i) (run v s first i rest)
+      (require-near m (isStart (stepAt s i)) 20 i (omega (arith, w .0)))
+      (run-near first i rest (w .0) (w .1))
+
+  module _ (f : Formed v s) (h : entries s ≤ m) where
+    follow-within : (n i x : ℕ) → Onward (IsStepAt s) (entries s) i x → Within m (follow (nextStep s) n x)
+    unfolding follow
+    follow-within zero i x l = tt
+    follow-within (suc n) i x (inl e) = rw e tt
+    follow-within (suc n) i zero (inr a) = tt
+    follow-within (suc n) i (suc x) (inr a) = (
+      omega (arith, a .within),
+      follow-within n (suc x) (nextStep s (suc x)) (f .links (suc x) (omega arith) (a .within) (a .target)),
+    )
+
+pub script-small : (v s : List ℕ) → Small (mostPlace s) (scriptCheck v s)
+unfolding scriptCheck
+script-small v s =
+    let m = mostPlace s in
+    after-count m 512 (vocabularyCheck v) _ (omega arith) (vocabulary-small v)
+    (then-small m (formCheck v s) _ (form-near m v s (omega arith) (omega arith) (omega arith))
+    (λ e. let f = formed v s e in
+    let few : entries s ≤ m = omega (arith, f .sized .most) in
+    then-small m (chainCheck v s (chain s)) _
+    (chain-near m v s (chain s) (follow-within m v s f few (entries s) 0 (firstStep s) (f .first)))
+    (λ _. omega (arith, chain-few s (firstStep s)))))
+
+header-byte : (s : List ℕ) (i : ℕ) → i < 16 → ((j : ℕ) → getD s j 0 < 256) → getD (partAt s 0) i 0 < 256
+header-byte s i h bytes =
+    let e = getD-take 16 (drop (16 * 0) s) i 0 h ∙ getD-drop (16 * 0) s i 0 in
+    subst (λ (x : ℕ). x < 256) (sym e) (bytes (16 * 0 + i))
+
+pub query-below : (s : List ℕ) → ((i : ℕ) → getD s i 0 < 256) → (queryOf s .a < 65536) × (queryOf s .b < 65536)
+unfolding entryAt
+query-below s bytes = (
+  omega (arith, header-byte s 2 (omega arith) bytes, header-byte s 3 (omega arith) bytes),
+  omega (arith, header-byte s 4 (omega arith) bytes, header-byte s 5 (omega arith) bytes),
+)
