@@ -1,19 +1,14 @@
 use native.Mathlib.Omega.{arith}
-use Rattle.columns.proofs.Groups.{past-at, none-at, same-at, negation-at, group-constant, group-junction, group-restriction, group-negation, group-inclusion, group-low, group-name, group-high, restriction-takes-y, plain-takes-none}
+use Rattle.columns.proofs.Groups.{restriction-takes-y, plain-takes-none}
 use Rattle.columns.proofs.column.group_takes_y.Statement.{statement}
 use Rattle.columns.proofs.column.group_takes_y.Tie as tie
-use Rattle.columns.proofs.column.group_takes_y.Reads as reads
-use Rattle.columns.proofs.column.group_takes_y.Lts as lts
 
--- src/column.rt:167:1
 returns : tie.Need-returns
 returns c = λ i. restriction-takes-y (c .before .before .args .fields) i (c .before .before .args .n) (c .before .before .args .fields .kind) (c .before .if1 .left) (c .if2 .taken)
 
--- src/column.rt:167:1
 returns-2 : tie.Need-returns-2
 returns-2 c = λ i. plain-takes-none (c .before .args .fields) i (c .before .args .n) (c .before .args .fields .kind) (λ l h. absurd (omega (arith, c .if1 .taken)))
 
--- src/column.rt:167:1
 returns-3 : tie.Need-returns-3
 returns-3 c = λ i. plain-takes-none (c .before .before .args .fields) i (c .before .before .args .n) (c .before .before .args .fields .kind) (λ l h. absurd (omega (arith, c .if2 .left)))
 

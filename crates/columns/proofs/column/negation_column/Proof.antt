@@ -1,36 +1,27 @@
-use Rattle.records.specs.Kinds.{negation, inclusion}
-use Rattle.columns.specs.Columns.{columnsOf}
-use lib.Dec.{eqb}
 use native.Mathlib.Omega.{arith}
-use mathlib.Core.Path.{_∙_, sym, refl}
-use Rattle.columns.proofs.Groups.{past-at, none-at, same-at, negation-at, group-constant, group-junction, group-restriction, group-negation, group-inclusion, group-low, group-name, group-high, restriction-takes-y, plain-takes-none}
-use Rattle.columns.specs.Literals.{concept, role}
-use Rattle.columns.proofs.Packing.{lists-one, lists-two, lists-three}
+use mathlib.Core.Path.{_∙_}
+use lib.Dec.{eqb}
 use borrow.Author.Needs.{needs}
+use Rattle.records.specs.Kinds.{negation}
+use Rattle.columns.specs.Columns.{columnsOf}
+use Rattle.columns.specs.Literals.{concept}
+use Rattle.columns.proofs.Groups.{past-at, negation-at}
+use Rattle.columns.proofs.Packing.{lists-two}
 use Rattle.columns.proofs.column.negation_column.Statement.{statement}
 use Rattle.columns.proofs.column.negation_column.Tie as tie
-use Rattle.columns.proofs.column.negation_column.Reads as reads
-use Rattle.columns.proofs.column.negation_column.Lts as lts
-use Rattle.columns.proofs.column.Column.none.Reads as none-reads
-use Rattle.columns.proofs.literal.pack_concept.Reads as pack-concept-reads
 
--- src/column.rt:76:20
 pack-concept-requires : tie.Need-pack-concept-requires
 pack-concept-requires c κs = search needs
 
--- src/column.rt:77:21
 pack-concept-requires-2 : tie.Need-pack-concept-requires-2
 pack-concept-requires-2 c κs = search needs
 
--- src/column.rt:75:9
 returns : tie.Need-returns
 returns c = lists-two (concept (eqb (c .before .before .before .args .n) 0) (c .before .before .before .args .i) (c .before .before .before .args .at .x)) (concept (eqb (c .before .before .before .args .n) 0) (c .before .before .before .args .j) (c .before .before .before .args .at .x)) _ _ (c .before .pack-concept .ensures) (c .pack-concept2 .ensures) ∙ negation-at _ _ _ _ _ _ (c .before .before .if1 .taken)
 
--- src/column.rt:81:5
 none-requires : tie.Need-none-requires
 none-requires c κs = search needs
 
--- src/column.rt:70:1
 returns-2 : tie.Need-returns-2
 returns-2 c = c .none .ensures ∙ past-at (columnsOf (c .before .before .args .i) (negation (c .before .before .args .j))) _ _ _ (c .before .before .args .n) (omega (arith, c .before .if1 .left))
 

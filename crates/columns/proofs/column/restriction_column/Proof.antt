@@ -1,64 +1,47 @@
-use Rattle.columns.specs.Packed.{constantGroup, junctionGroup, restrictionGroup}
-use mathlib.Core.Path.{_∙_, sym, refl}
-use Rattle.columns.proofs.Groups.{past-at, none-at, same-at, negation-at, group-constant, group-junction, group-restriction, group-negation, group-inclusion, group-low, group-name, group-high, restriction-takes-y, plain-takes-none}
 use native.Mathlib.Omega.{arith}
+use mathlib.Core.Path.{_∙_}
 use mathlib.Core.Bool.{not, true, false}
-use Rattle.columns.specs.Literals.{concept, role}
-use Rattle.columns.proofs.Packing.{lists-one, lists-two, lists-three}
 use borrow.Author.Needs.{needs}
+use Rattle.columns.specs.Packed.{restrictionGroup}
+use Rattle.columns.specs.Literals.{concept, role}
+use Rattle.columns.proofs.Groups.{past-at}
+use Rattle.columns.proofs.Packing.{lists-two, lists-three}
 use Rattle.columns.proofs.column.restriction_column.Statement.{statement}
 use Rattle.columns.proofs.column.restriction_column.Tie as tie
-use Rattle.columns.proofs.column.restriction_column.Reads as reads
-use Rattle.columns.proofs.column.restriction_column.Lts as lts
-use Rattle.columns.proofs.column.Column.none.Reads as none-reads
-use Rattle.columns.proofs.literal.pack_concept.Reads as pack-concept-reads
-use Rattle.columns.proofs.literal.pack_role.Reads as pack-role-reads
 
--- src/column.rt:117:20
 pack-concept-requires : tie.Need-pack-concept-requires
 pack-concept-requires c κs = search needs
 
--- src/column.rt:118:21
 pack-role-requires : tie.Need-pack-role-requires
 pack-role-requires c κs = search needs
 
--- src/column.rt:122:20
 pack-concept-requires-2 : tie.Need-pack-concept-requires-2
 pack-concept-requires-2 c κs = search needs
 
--- src/column.rt:123:21
 pack-concept-requires-3 : tie.Need-pack-concept-requires-3
 pack-concept-requires-3 c κs = search needs
 
--- src/column.rt:127:20
 pack-concept-requires-4 : tie.Need-pack-concept-requires-4
 pack-concept-requires-4 c κs = search needs
 
--- src/column.rt:128:21
 pack-role-requires-2 : tie.Need-pack-role-requires-2
 pack-role-requires-2 c κs = search needs
 
--- src/column.rt:129:20
 pack-concept-requires-5 : tie.Need-pack-concept-requires-5
 pack-concept-requires-5 c κs = search needs
 
--- src/column.rt:131:14
 none-requires : tie.Need-none-requires
 none-requires c κs = search needs
 
--- src/column.rt:109:1
 returns : tie.Need-returns
 returns c = rw (c .before .before .match .keys1) (lists-two (concept (c .before .before .before .args .sign) (c .before .before .before .args .i) (c .before .before .before .args .at .x)) (role false (c .before .before .before .args .r) (c .before .before .before .args .at .x) (c .before .before .before .args .at .fx)) _ _ (c .before .pack-concept .ensures) (c .pack-role .ensures))
 
--- src/column.rt:109:1
 returns-2 : tie.Need-returns-2
 returns-2 c = rw (c .before .before .match .keys2) (lists-two (concept (c .before .before .before .args .sign) (c .before .before .before .args .i) (c .before .before .before .args .at .x)) (concept (not (c .before .before .before .args .sign)) (c .before .before .before .args .j) (c .before .before .before .args .at .fx)) _ _ (c .before .pack-concept2 .ensures) (c .pack-concept3 .ensures))
 
--- src/column.rt:109:1
 returns-3 : tie.Need-returns-3
 returns-3 c = rw (c .before .before .before .match .keys3) (lists-three (concept (not (c .before .before .before .before .args .sign)) (c .before .before .before .before .args .i) (c .before .before .before .before .args .at .x)) (role true (c .before .before .before .before .args .r) (c .before .before .before .before .args .at .x) (c .before .before .before .before .args .at .y)) (concept (c .before .before .before .before .args .sign) (c .before .before .before .before .args .j) (c .before .before .before .before .args .at .y)) _ _ _ (c .before .before .pack-concept4 .ensures) (c .before .pack-role2 .ensures) (c .pack-concept5 .ensures))
 
--- src/column.rt:109:1
 returns-4 : tie.Need-returns-4
 returns-4 c = c .none .ensures ∙ past-at (restrictionGroup (c .before .before .args .sign) (c .before .before .args .i) (c .before .before .args .r) (c .before .before .args .j)) _ _ _ (c .before .before .args .n) (omega (arith, c .before .match .rest .1, c .before .match .rest .0 .1, c .before .match .rest .0 .0 .1))
 

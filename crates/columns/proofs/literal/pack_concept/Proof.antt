@@ -1,41 +1,30 @@
 use native.Mathlib.Omega.{arith}
-use Rattle.types.proofs.Bits.{digit-small}
 use borrow.Author.Needs.{needs}
+use Rattle.types.proofs.Bits.{digit-small}
 use Rattle.columns.proofs.literal.pack_concept.Statement.{statement}
 use Rattle.columns.proofs.literal.pack_concept.Tie as tie
-use Rattle.columns.proofs.literal.pack_concept.Reads as reads
-use Rattle.columns.proofs.literal.pack_concept.Lts as lts
-use Rattle.columns.proofs.literal.digit.Reads as digit-reads
 
--- src/literal.rt:19:5
 digit-requires : tie.Need-digit-requires
 digit-requires c κs = search needs
 
--- src/literal.rt:19:28
 mul-result : tie.Need-mul-result
 mul-result c = search needs
 
--- src/literal.rt:19:28
 add-result : tie.Need-add-result
 add-result c = search needs
 
--- src/literal.rt:19:23
 mul-result-2 : tie.Need-mul-result-2
 mul-result-2 c = search needs
 
--- src/literal.rt:19:5
 add-result-2 : tie.Need-add-result-2
 add-result-2 c = omega (arith, digit-small (c .before .args .positive), c .digit .ensures)
 
--- src/literal.rt:19:55
 mul-result-3 : tie.Need-mul-result-3
 mul-result-3 c = search needs
 
--- src/literal.rt:19:5
 add-result-3 : tie.Need-add-result-3
 add-result-3 c = omega (arith, digit-small (c .before .args .positive), c .digit .ensures)
 
--- src/literal.rt:16:1
 returns : tie.Need-returns
 returns c = search needs
 

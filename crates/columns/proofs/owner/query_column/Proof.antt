@@ -1,39 +1,29 @@
-use Rattle.columns.specs.Columns.{queryColumns}
-use mathlib.Core.Bool.{true, false}
-use Rattle.columns.proofs.Groups.{past-at, none-at, same-at}
-use Rattle.columns.specs.Literals.{concept}
-use Rattle.columns.proofs.Packing.{lists-one}
-use mathlib.Core.Path.{_∙_, sym, refl}
 use native.Mathlib.Omega.{arith}
+use mathlib.Core.Path.{_∙_}
+use mathlib.Core.Bool.{true, false}
 use borrow.Author.Needs.{needs}
+use Rattle.columns.specs.Columns.{queryColumns}
+use Rattle.columns.specs.Literals.{concept}
+use Rattle.columns.proofs.Groups.{past-at}
+use Rattle.columns.proofs.Packing.{lists-one}
 use Rattle.columns.proofs.owner.query_column.Statement.{statement}
 use Rattle.columns.proofs.owner.query_column.Tie as tie
-use Rattle.columns.proofs.owner.query_column.Reads as reads
-use Rattle.columns.proofs.owner.query_column.Lts as lts
-use Rattle.columns.proofs.column.Column.none.Reads as none-reads
-use Rattle.columns.proofs.literal.pack_concept.Reads as pack-concept-reads
 
--- src/owner.rt:28:20
 pack-concept-requires : tie.Need-pack-concept-requires
 pack-concept-requires c κs = search needs
 
--- src/owner.rt:33:20
 pack-concept-requires-2 : tie.Need-pack-concept-requires-2
 pack-concept-requires-2 c κs = search needs
 
--- src/owner.rt:37:14
 none-requires : tie.Need-none-requires
 none-requires c κs = search needs
 
--- src/owner.rt:23:1
 returns : tie.Need-returns
 returns c = λ nx ny nf. rw (c .before .match .keys1) (lists-one (concept false (c .before .before .args .a) 0) _ (c .pack-concept .ensures))
 
--- src/owner.rt:23:1
 returns-2 : tie.Need-returns-2
 returns-2 c = λ nx ny nf. rw (c .before .match .keys2) (lists-one (concept true (c .before .before .args .b) 0) _ (c .pack-concept2 .ensures))
 
--- src/owner.rt:23:1
 returns-3 : tie.Need-returns-3
 returns-3 c = λ nx ny nf. c .none .ensures ∙ past-at (queryColumns record { a = c .before .before .args .a; b = c .before .before .args .b }) _ _ _ (c .before .before .args .n) (omega (arith, c .before .match .rest .1, c .before .match .rest .0 .1))
 

@@ -1,22 +1,16 @@
 use borrow.Author.Needs.{needs}
 use Rattle.scripts.proofs.answers.judge_after.Statement.{statement}
 use Rattle.scripts.proofs.answers.judge_after.Tie as tie
-use Rattle.scripts.proofs.answers.judge_after.Reads as reads
-use Rattle.scripts.proofs.answers.judge_after.Lts as lts
 
--- src/answers.rt:30:26
 enum-told : tie.Need-enum-told
 enum-told c = search needs
 
--- src/answers.rt:31:28
 enum-known-check : tie.Need-enum-known-check
 enum-known-check c = search needs
 
--- src/answers.rt:26:1
 returns : tie.Need-returns
 returns c = rw (c .enum-told .given .1)
 
--- src/answers.rt:26:1
 returns-2 : tie.Need-returns-2
 returns-2 c = rw (c .before .check .given .1)
 

@@ -1,70 +1,45 @@
-use Rattle.scripts.proofs.Formed.{Formed, formed}
-use Rattle.records.proofs.Accepted.{Accepted, accepted-vocabulary}
-use Rattle.scripts.specs.Ready.{Ready, IsStep, Reached}
-use Rattle.scripts.proofs.Outcomes.{vocabulary-at, form-at, refused-vocabulary, refused-form, decided}
-use Rattle.scripts.proofs.Agreement.{numbers-agree}
 use denote.Ref.{now}
-use mathlib.Core.Path.{_≡_, _∙_, sym, refl, ap}
-use native.Mathlib.Omega.{arith}
 use borrow.Author.Needs.{needs}
+use Rattle.scripts.proofs.Outcomes.{vocabulary-at, form-at, refused-vocabulary, refused-form, decided}
 use Rattle.scripts.proofs.call.check_script.Statement.{statement}
 use Rattle.scripts.proofs.call.check_script.Tie as tie
-use Rattle.scripts.proofs.call.check_script.Reads as reads
-use Rattle.scripts.proofs.call.check_script.Lts as lts
-use Rattle.records.proofs.chain.mark_chain.Reads as mark-chain-reads
-use Rattle.records.proofs.check_vocabulary.Reads as check-vocabulary-reads
-use Rattle.scripts.proofs.answers.judge_after.Reads as judge-after-reads
-use Rattle.scripts.proofs.answers.judge_after_count.Reads as judge-after-count-reads
-use Rattle.scripts.proofs.form.check_form.Reads as check-form-reads
-use Rattle.scripts.proofs.run.check_chain.Reads as check-chain-reads
 
--- src/call.rt:18:9
 check-vocabulary-requires : tie.Need-check-vocabulary-requires
 check-vocabulary-requires c κs = search needs
 
 enum-told : tie.Need-enum-told
 enum-told c = search needs
 
--- src/call.rt:20:9
 enum-told-2 : tie.Need-enum-told-2
 enum-told-2 c = search needs
 
--- src/call.rt:20:9
 judge-after-count-requires : tie.Need-judge-after-count-requires
 judge-after-count-requires c κs = search needs
 
--- src/call.rt:20:9
 returns : tie.Need-returns
 returns c = refused-vocabulary (now (c .before .before .before .before .before .before .args .v)) (now (c .before .before .before .before .before .before .args .s)) _ _ _ _ (c .before .before .before .check-vocabulary .ensures) (c .before .enum-told2 .given .1) (c .judge-after-count .ensures)
 
--- src/call.rt:22:17
 mark-chain-requires : tie.Need-mark-chain-requires
 mark-chain-requires c κs = vocabulary-at (now (c .before .before .before .before .before .args .v)) _ _ (c .before .before .check-vocabulary .ensures) (c .enum-told .given .1)
 
--- src/call.rt:23:9
 check-form-requires : tie.Need-check-form-requires
 check-form-requires c κs = (vocabulary-at (now (c .before .before .before .before .before .before .before .args .v)) _ _ (c .before .before .before .before .check-vocabulary .ensures) (c .before .before .enum-told .given .1), c .before .mark-chain .ensures)
 
 enum-told-3 : tie.Need-enum-told-3
 enum-told-3 c = search needs
 
--- src/call.rt:25:9
 enum-told-4 : tie.Need-enum-told-4
 enum-told-4 c = search needs
 
--- src/call.rt:25:9
 judge-after-requires : tie.Need-judge-after-requires
 judge-after-requires c κs = search needs
 
--- src/call.rt:25:9
 returns-2 : tie.Need-returns-2
 returns-2 c = refused-form (now (c .before .before .before .before .before .before .before .before .before .before .before .args .v)) (now (c .before .before .before .before .before .before .before .before .before .before .before .args .s)) _ _ _ _ (vocabulary-at (now (c .before .before .before .before .before .before .before .before .before .before .before .args .v)) _ _ (c .before .before .before .before .before .before .before .before .check-vocabulary .ensures) (c .before .before .before .before .before .before .enum-told .given .1)) (c .before .before .before .check-form .ensures) (c .before .enum-told4 .given .1) (c .judge-after .ensures)
 
--- src/call.rt:27:5
 check-chain-requires : tie.Need-check-chain-requires
 check-chain-requires c κs = record { vocabulary = vocabulary-at (now (c .before .before .before .before .before .before .before .before .before .before .before .args .v)) _ _ (c .before .before .before .before .before .before .before .before .check-vocabulary .ensures) (c .before .before .before .before .before .before .enum-told .given .1); marked = c .before .before .before .before .before .mark-chain .ensures; form = form-at (now (c .before .before .before .before .before .before .before .before .before .before .before .args .v)) (now (c .before .before .before .before .before .before .before .before .before .before .before .args .s)) _ (c .before .before .before .check-form .ensures) (c .before .enum-told3 .given .1) }
 
--- src/call.rt:15:1
 returns-3 : tie.Need-returns-3
 returns-3 c = decided (now (c .before .before .before .before .before .before .before .before .before .before .before .before .args .v)) (now (c .before .before .before .before .before .before .before .before .before .before .before .before .args .s)) _ (vocabulary-at (now (c .before .before .before .before .before .before .before .before .before .before .before .before .args .v)) _ _ (c .before .before .before .before .before .before .before .before .before .check-vocabulary .ensures) (c .before .before .before .before .before .before .before .enum-told .given .1)) (form-at (now (c .before .before .before .before .before .before .before .before .before .before .before .before .args .v)) (now (c .before .before .before .before .before .before .before .before .before .before .before .before .args .s)) _ (c .before .before .before .before .check-form .ensures) (c .before .before .enum-told3 .given .1)) (c .check-chain .ensures)
 

@@ -1,106 +1,70 @@
-use Rattle.scripts.proofs.Lines.{length-passed}
-use native.Mathlib.Nat.{add-sub-cancel-left}
-use mathlib.Core.Logic.{⊎-elim}
-use Rattle.records.specs.Outcome.{inTurn, require, _then_}
-use Prim.Native.Nat.{ℕ, _≤_, _<_, _-_, _*_, _/_}
-use lib.ListN.{length}
-use lib.Dec.{eqb, leb, ltb}
-use mathlib.Core.Bool.{Bool, true, false, not, Bool·beq, _&&_, _||_}
-use Rattle.records.specs.Check.{anyBelow}
-use Rattle.scripts.specs.declared.entry.Entry.{Entry}
-use Rattle.scripts.specs.Form.{allZero, isNamed, functionFits, repeats, repeated, earlierTerm, isFunction, entryCheck, linkCheck, formCheck, kindFits, unusedFits, termFits, stepFits, lengthFits}
-use Rattle.scripts.specs.Format.{entryAt, kindOf, isTerm, isStep, lineOf}
-use Rattle.scripts.proofs.Lines.{words-zero, unused-none, unused-past, line-named, function-line, function-other, step-start, step-extension, step-other, repeat-same}
-use Rattle.records.proofs.Order.{stops, stopped, goes, asked, passed, fails, rests, turn-refused, turn-passed, turns-end, any-hit, any-miss}
-use denote.Ref.{now}
-use borrow.Author.Tests.{eq-eqb, ne-eqb, lt-ltb, le-ltb, lt-leb, le-leb, not-true, not-false}
-use mathlib.Core.Path.{_≡_, _∙_, sym, refl, ap}
 use native.Mathlib.Omega.{arith}
+use denote.Ref.{now}
 use borrow.Author.Needs.{needs}
+use Rattle.records.proofs.Order.{stops, goes, asked, passed}
+use Rattle.scripts.specs.Form.{formCheck}
+use Rattle.scripts.proofs.Lines.{length-passed}
 use Rattle.scripts.proofs.form.check_form.Statement.{statement}
 use Rattle.scripts.proofs.form.check_form.Tie as tie
-use Rattle.scripts.proofs.form.check_form.Reads as reads
-use Rattle.scripts.proofs.form.check_form.Lts as lts
-use Rattle.records.proofs.answers.pass_if.Reads as pass-if-reads
-use Rattle.scripts.proofs.form.check_entries.Reads as check-entries-reads
-use Rattle.scripts.proofs.form.check_header.Reads as check-header-reads
-use Rattle.scripts.proofs.form.check_links.Reads as check-links-reads
-use Rattle.scripts.proofs.form.check_query.Reads as check-query-reads
-use Rattle.scripts.proofs.form.length_fits.Reads as length-fits-reads
 
--- src/form.rt:409:26
 length-fits-requires : tie.Need-length-fits-requires
 length-fits-requires c κs = search needs
 
--- src/form.rt:409:9
 pass-if-requires : tie.Need-pass-if-requires
 pass-if-requires c κs = search needs
 
 enum-told : tie.Need-enum-told
 enum-told c = search needs
 
--- src/form.rt:411:9
 enum-told-2 : tie.Need-enum-told-2
 enum-told-2 c = search needs
 
--- src/form.rt:411:9
 returns : tie.Need-returns
 unfolding formCheck
 returns c = stops _ _ _ _ _ (asked _ _ _ _ _ (c .before .before .pass-if .ensures) (c .before .before .before .length-fits .ensures)) (c .enum-told2 .given .1)
 
--- src/form.rt:413:9
 check-header-requires : tie.Need-check-header-requires
 check-header-requires c κs = omega (arith, length-passed (now (c .before .before .before .before .before .before .args .s)) (passed _ _ (asked _ _ _ _ _ (c .before .before .pass-if .ensures) (c .before .before .before .length-fits .ensures)) (c .enum-told .given .1)))
 
 enum-told-3 : tie.Need-enum-told-3
 enum-told-3 c = search needs
 
--- src/form.rt:415:9
 enum-told-4 : tie.Need-enum-told-4
 enum-told-4 c = search needs
 
--- src/form.rt:415:9
 returns-2 : tie.Need-returns-2
 unfolding formCheck
 returns-2 c = goes _ _ _ _ (asked _ _ _ _ _ (c .before .before .before .before .before .pass-if .ensures) (c .before .before .before .before .before .before .length-fits .ensures)) (c .before .before .before .enum-told .given .1) (stops _ _ _ _ _ (c .before .before .check-header .ensures) (c .enum-told4 .given .1))
 
--- src/form.rt:417:9
 check-query-requires : tie.Need-check-query-requires
 check-query-requires c κs = omega (arith, length-passed (now (c .before .before .before .before .before .before .before .before .before .args .s)) (passed _ _ (asked _ _ _ _ _ (c .before .before .before .before .before .pass-if .ensures) (c .before .before .before .before .before .before .length-fits .ensures)) (c .before .before .before .enum-told .given .1)))
 
 enum-told-5 : tie.Need-enum-told-5
 enum-told-5 c = search needs
 
--- src/form.rt:419:9
 enum-told-6 : tie.Need-enum-told-6
 enum-told-6 c = search needs
 
--- src/form.rt:419:9
 returns-3 : tie.Need-returns-3
 unfolding formCheck
 returns-3 c = goes _ _ _ _ (asked _ _ _ _ _ (c .before .before .before .before .before .before .before .before .pass-if .ensures) (c .before .before .before .before .before .before .before .before .before .length-fits .ensures)) (c .before .before .before .before .before .before .enum-told .given .1) (goes _ _ _ _ (c .before .before .before .before .before .check-header .ensures) (c .before .before .before .enum-told3 .given .1) (stops _ _ _ _ _ (c .before .before .check-query .ensures) (c .enum-told6 .given .1)))
 
--- src/form.rt:421:9
 check-entries-requires : tie.Need-check-entries-requires
 check-entries-requires c κs = (c .before .before .before .before .before .before .before .before .before .before .before .before .pre .0, (c .before .before .before .before .before .before .before .before .before .before .before .before .pre .1, omega (arith, length-passed (now (c .before .before .before .before .before .before .before .before .before .before .before .before .args .s)) (passed _ _ (asked _ _ _ _ _ (c .before .before .before .before .before .before .before .before .pass-if .ensures) (c .before .before .before .before .before .before .before .before .before .length-fits .ensures)) (c .before .before .before .before .before .before .enum-told .given .1)))))
 
 enum-told-7 : tie.Need-enum-told-7
 enum-told-7 c = search needs
 
--- src/form.rt:423:9
 enum-told-8 : tie.Need-enum-told-8
 enum-told-8 c = search needs
 
--- src/form.rt:423:9
 returns-4 : tie.Need-returns-4
 unfolding formCheck
 returns-4 c = goes _ _ _ _ (asked _ _ _ _ _ (c .before .before .before .before .before .before .before .before .before .before .before .pass-if .ensures) (c .before .before .before .before .before .before .before .before .before .before .before .before .length-fits .ensures)) (c .before .before .before .before .before .before .before .before .before .enum-told .given .1) (goes _ _ _ _ (c .before .before .before .before .before .before .before .before .check-header .ensures) (c .before .before .before .before .before .before .enum-told3 .given .1) (goes _ _ _ _ (c .before .before .before .before .before .check-query .ensures) (c .before .before .before .enum-told5 .given .1) (stops _ _ _ _ _ (c .before .before .check-entries .ensures) (c .enum-told8 .given .1))))
 
--- src/form.rt:425:5
 check-links-requires : tie.Need-check-links-requires
 check-links-requires c κs = omega (arith, length-passed (now (c .before .before .before .before .before .before .before .before .before .before .before .before .before .before .before .args .s)) (passed _ _ (asked _ _ _ _ _ (c .before .before .before .before .before .before .before .before .before .before .before .pass-if .ensures) (c .before .before .before .before .before .before .before .before .before .before .before .before .length-fits .ensures)) (c .before .before .before .before .before .before .before .before .before .enum-told .given .1)))
 
--- src/form.rt:404:1
 returns-5 : tie.Need-returns-5
 unfolding formCheck
 returns-5 c = goes _ _ _ _ (asked _ _ _ _ _ (c .before .before .before .before .before .before .before .before .before .before .before .before .pass-if .ensures) (c .before .before .before .before .before .before .before .before .before .before .before .before .before .length-fits .ensures)) (c .before .before .before .before .before .before .before .before .before .before .enum-told .given .1) (goes _ _ _ _ (c .before .before .before .before .before .before .before .before .before .check-header .ensures) (c .before .before .before .before .before .before .before .enum-told3 .given .1) (goes _ _ _ _ (c .before .before .before .before .before .before .check-query .ensures) (c .before .before .before .before .enum-told5 .given .1) (goes _ _ _ _ (c .before .before .before .check-entries .ensures) (c .before .enum-told7 .given .1) (c .check-links .ensures))))

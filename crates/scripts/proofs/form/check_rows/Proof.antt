@@ -1,102 +1,67 @@
-use native.Mathlib.Nat.{add-sub-cancel-left}
-use mathlib.Core.Logic.{⊎-elim}
-use Rattle.records.specs.Outcome.{inTurn, require, _then_}
-use Prim.Native.Nat.{ℕ, _≤_, _<_, _-_, _*_, _/_}
-use lib.ListN.{length}
-use lib.Dec.{eqb, leb, ltb}
-use mathlib.Core.Bool.{Bool, true, false, not, Bool·beq, _&&_, _||_}
-use Rattle.records.specs.Check.{anyBelow}
-use Rattle.scripts.specs.declared.entry.Entry.{Entry}
-use Rattle.scripts.specs.Form.{allZero, isNamed, functionFits, repeats, repeated, earlierTerm, isFunction, entryCheck, linkCheck, formCheck, kindFits, unusedFits, termFits, stepFits, lengthFits}
-use Rattle.scripts.specs.Format.{entryAt, kindOf, isTerm, isStep, lineOf}
-use Rattle.scripts.proofs.Lines.{words-zero, unused-none, unused-past, line-named, function-line, function-other, step-start, step-extension, step-other, repeat-same}
-use Rattle.records.proofs.Order.{stops, stopped, goes, asked, passed, fails, rests, turn-refused, turn-passed, turns-end, any-hit, any-miss}
+use mathlib.Core.Path.{_∙_, ap}
 use denote.Ref.{now}
-use borrow.Author.Tests.{eq-eqb, ne-eqb, lt-ltb, le-ltb, lt-leb, le-leb, not-true, not-false}
-use mathlib.Core.Path.{_≡_, _∙_, sym, refl, ap}
-use native.Mathlib.Omega.{arith}
 use borrow.Author.Needs.{needs}
+use Rattle.records.proofs.Order.{stops, goes, asked}
+use Rattle.scripts.specs.Form.{kindFits, unusedFits, termFits, stepFits}
+use Rattle.scripts.specs.Format.{lineOf}
+use Rattle.scripts.specs.declared.entry.Entry.{Entry}
 use Rattle.scripts.proofs.form.check_rows.Statement.{statement}
 use Rattle.scripts.proofs.form.check_rows.Tie as tie
-use Rattle.scripts.proofs.form.check_rows.Reads as reads
-use Rattle.scripts.proofs.form.check_rows.Lts as lts
-use Rattle.records.proofs.answers.pass_if.Reads as pass-if-reads
-use Rattle.scripts.proofs.entry.Entry.read.Reads as read-reads
-use Rattle.scripts.proofs.form.kind_fits.Reads as kind-fits-reads
-use Rattle.scripts.proofs.form.step_fits.Reads as step-fits-reads
-use Rattle.scripts.proofs.form.term_fits.Reads as term-fits-reads
-use Rattle.scripts.proofs.form.unused_fits.Reads as unused-fits-reads
 
--- src/form.rt:294:9
 read-requires : tie.Need-read-requires
 read-requires c κs = search needs
 
--- src/form.rt:295:24
 kind-fits-requires : tie.Need-kind-fits-requires
 kind-fits-requires c κs = search needs
 
--- src/form.rt:295:9
 pass-if-requires : tie.Need-pass-if-requires
 pass-if-requires c κs = search needs
 
 enum-told : tie.Need-enum-told
 enum-told c = search needs
 
--- src/form.rt:297:9
 enum-told-2 : tie.Need-enum-told-2
 enum-told-2 c = search needs
 
--- src/form.rt:297:9
 returns : tie.Need-returns
 returns c = stops _ _ _ _ _ (asked _ _ _ _ _ (c .before .before .pass-if .ensures) (c .before .before .before .kind-fits .ensures ∙ ap (λ (x : Entry). kindFits x) (c .before .before .before .before .read .ensures))) (c .enum-told2 .given .1)
 
--- src/form.rt:299:26
 unused-fits-requires : tie.Need-unused-fits-requires
 unused-fits-requires c κs = search needs
 
--- src/form.rt:299:9
 pass-if-requires-2 : tie.Need-pass-if-requires-2
 pass-if-requires-2 c κs = search needs
 
 enum-told-3 : tie.Need-enum-told-3
 enum-told-3 c = search needs
 
--- src/form.rt:301:9
 enum-told-4 : tie.Need-enum-told-4
 enum-told-4 c = search needs
 
--- src/form.rt:301:9
 returns-2 : tie.Need-returns-2
 returns-2 c = goes _ _ _ _ (asked _ _ _ _ _ (c .before .before .before .before .before .before .pass-if .ensures) (c .before .before .before .before .before .before .before .kind-fits .ensures ∙ ap (λ (x : Entry). kindFits x) (c .before .before .before .before .before .before .before .before .read .ensures))) (c .before .before .before .before .enum-told .given .1) (stops _ _ _ _ _ (asked _ _ _ _ _ (c .before .before .pass-if2 .ensures) (c .before .before .before .unused-fits .ensures ∙ ap (λ (x : Entry). unusedFits x) (c .before .before .before .before .before .before .before .before .read .ensures))) (c .enum-told4 .given .1))
 
--- src/form.rt:303:24
 term-fits-requires : tie.Need-term-fits-requires
 term-fits-requires c κs = search needs
 
--- src/form.rt:303:9
 pass-if-requires-3 : tie.Need-pass-if-requires-3
 pass-if-requires-3 c κs = search needs
 
 enum-told-5 : tie.Need-enum-told-5
 enum-told-5 c = search needs
 
--- src/form.rt:305:9
 enum-told-6 : tie.Need-enum-told-6
 enum-told-6 c = search needs
 
--- src/form.rt:305:9
 returns-3 : tie.Need-returns-3
 returns-3 c = goes _ _ _ _ (asked _ _ _ _ _ (c .before .before .before .before .before .before .before .before .before .before .pass-if .ensures) (c .before .before .before .before .before .before .before .before .before .before .before .kind-fits .ensures ∙ ap (λ (x : Entry). kindFits x) (c .before .before .before .before .before .before .before .before .before .before .before .before .read .ensures))) (c .before .before .before .before .before .before .before .before .enum-told .given .1) (goes _ _ _ _ (asked _ _ _ _ _ (c .before .before .before .before .before .before .pass-if2 .ensures) (c .before .before .before .before .before .before .before .unused-fits .ensures ∙ ap (λ (x : Entry). unusedFits x) (c .before .before .before .before .before .before .before .before .before .before .before .before .read .ensures))) (c .before .before .before .before .enum-told3 .given .1) (stops _ _ _ _ _ (asked _ _ _ _ _ (c .before .before .pass-if3 .ensures) (c .before .before .before .term-fits .ensures ∙ ap (λ (x : Entry). termFits (now (c .before .before .before .before .before .before .before .before .before .before .before .before .before .before .before .before .args .v)) (now (c .before .before .before .before .before .before .before .before .before .before .before .before .before .before .before .before .args .s)) (c .before .before .before .before .before .before .before .before .before .before .before .before .before .before .before .before .args .i) (lineOf x)) (c .before .before .before .before .before .before .before .before .before .before .before .before .read .ensures))) (c .enum-told6 .given .1)))
 
--- src/form.rt:307:13
 step-fits-requires : tie.Need-step-fits-requires
 step-fits-requires c κs = search needs
 
--- src/form.rt:307:5
 pass-if-requires-4 : tie.Need-pass-if-requires-4
 pass-if-requires-4 c κs = search needs
 
--- src/form.rt:279:1
 returns-4 : tie.Need-returns-4
 returns-4 c = goes _ _ _ _ (asked _ _ _ _ _ (c .before .before .before .before .before .before .before .before .before .before .before .before .pass-if .ensures) (c .before .before .before .before .before .before .before .before .before .before .before .before .before .kind-fits .ensures ∙ ap (λ (x : Entry). kindFits x) (c .before .before .before .before .before .before .before .before .before .before .before .before .before .before .read .ensures))) (c .before .before .before .before .before .before .before .before .before .before .enum-told .given .1) (goes _ _ _ _ (asked _ _ _ _ _ (c .before .before .before .before .before .before .before .before .pass-if2 .ensures) (c .before .before .before .before .before .before .before .before .before .unused-fits .ensures ∙ ap (λ (x : Entry). unusedFits x) (c .before .before .before .before .before .before .before .before .before .before .before .before .before .before .read .ensures))) (c .before .before .before .before .before .before .enum-told3 .given .1) (goes _ _ _ _ (asked _ _ _ _ _ (c .before .before .before .before .pass-if3 .ensures) (c .before .before .before .before .before .term-fits .ensures ∙ ap (λ (x : Entry). termFits (now (c .before .before .before .before .before .before .before .before .before .before .before .before .before .before .before .before .before .before .args .v)) (now (c .before .before .before .before .before .before .before .before .before .before .before .before .before .before .before .before .before .before .args .s)) (c .before .before .before .before .before .before .before .before .before .before .before .before .before .before .before .before .before .before .args .i) (lineOf x)) (c .before .before .before .before .before .before .before .before .before .before .before .before .before .before .read .ensures))) (c .before .before .enum-told5 .given .1) (asked _ _ _ _ _ (c .pass-if4 .ensures) (c .before .step-fits .ensures ∙ ap (λ (x : Entry). stepFits (now (c .before .before .before .before .before .before .before .before .before .before .before .before .before .before .before .before .before .before .args .v)) (now (c .before .before .before .before .before .before .before .before .before .before .before .before .before .before .before .before .before .before .args .s)) (c .before .before .before .before .before .before .before .before .before .before .before .before .before .before .before .before .before .before .args .i) (lineOf x)) (c .before .before .before .before .before .before .before .before .before .before .before .before .before .before .read .ensures)))))
 

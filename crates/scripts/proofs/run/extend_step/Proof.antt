@@ -1,47 +1,32 @@
-use Rattle.scripts.specs.Numbered.{goalNumber}
-use Rattle.scripts.specs.Calculus.{without, frameLimit}
-use Rattle.records.specs.Answers.{checked}
-use Rattle.records.proofs.Passed.{require-passed}
-use Rattle.scripts.specs.Ready.{Ready, IsStep, Reached}
-use Rattle.scripts.specs.declared.machine.Machine.{Machine}
-use Rattle.scripts.specs.Machine.{framesOf, framesFrom}
-use Rattle.scripts.specs.Run.{isNil}
-use Rattle.scripts.specs.Codes.{codeAt, opposed}
-use Rattle.columns.specs.Columns.{Query, columnAt}
-use Rattle.columns.specs.Packed.{listed, packedAt}
-use Rattle.records.specs.Outcome.{pass, require, _then_, accepted}
-use Prim.Native.Nat.{ℕ, _+_, _*_, _-_, _≤_, _<_}
+use Prim.Native.Nat.{ℕ, _<_}
+use mathlib.Core.Path.{_≡_, _∙_, sym, ap}
+use mathlib.Core.Bool.{Bool, _||_}
 use mathlib.Core.List.{List}
 use lib.ListN.{length, getD, length-map}
-use lib.Dec.{eqb, leb, ltb}
-use mathlib.Core.Bool.{Bool, true, false, not, _&&_, _||_}
-use Rattle.scripts.proofs.Extending.{Extends, extends, second-small, namedColumn}
-use Rattle.scripts.proofs.Terms.{code-small, apply-small}
-use Rattle.scripts.proofs.Formed.{Formed, formed}
-use Rattle.records.proofs.Accepted.{Accepted, accepted-vocabulary}
-use Rattle.scripts.specs.declared.entry.Entry.{Entry}
-use Rattle.scripts.specs.Numbered.{secondCode, usedNumbers, lineCheck, lineStepped, numberCheck, numberStepped, numberRun, numberChain}
-use Rattle.scripts.specs.Format.{entryAt, entries, lineOf, chainFrom, chain, queryOf, nextStep}
-use Rattle.scripts.proofs.Stepping.{not-passed, goal-told, open-told, reduce-told, connect-told, room-told, room-left, line-extending, line-reducing, line-neither}
-use Rattle.records.proofs.Order.{stops, stopped, goes, asked, passed}
+use lib.Dec.{ltb}
 use denote.Ref.{now}
-use borrow.Author.Tests.{eq-eqb, ne-eqb, lt-ltb, le-ltb, lt-leb, le-leb, not-true, not-false}
-use mathlib.Core.Path.{_≡_, _∙_, sym, refl, ap}
-use native.Mathlib.Omega.{arith}
 use borrow.Author.Needs.{needs}
+use Rattle.records.specs.Answers.{checked}
+use Rattle.records.specs.Outcome.{require}
+use Rattle.records.proofs.Passed.{require-passed}
+use Rattle.records.proofs.Accepted.{accepted-vocabulary}
+use Rattle.records.proofs.Order.{stops, goes, asked, passed}
+use Rattle.columns.specs.Columns.{columnAt}
+use Rattle.columns.specs.Packed.{listed}
+use Rattle.scripts.specs.Numbered.{goalNumber, usedNumbers}
+use Rattle.scripts.specs.Calculus.{without, frameLimit}
+use Rattle.scripts.specs.Ready.{Ready, IsStep}
+use Rattle.scripts.specs.Machine.{framesOf}
+use Rattle.scripts.specs.Run.{isNil}
+use Rattle.scripts.specs.Codes.{opposed}
+use Rattle.scripts.specs.Format.{entryAt, queryOf}
+use Rattle.scripts.specs.declared.entry.Entry.{Entry}
+use Rattle.scripts.proofs.Extending.{Extends, extends}
+use Rattle.scripts.proofs.Formed.{formed}
+use Rattle.scripts.proofs.Stepping.{not-passed, goal-told, connect-told, room-told, room-left}
 use Rattle.scripts.proofs.run.extend_step.Statement.{statement}
 use Rattle.scripts.proofs.run.extend_step.Tie as tie
-use Rattle.scripts.proofs.run.extend_step.Reads as reads
-use Rattle.scripts.proofs.run.extend_step.Lts as lts
-use Rattle.records.proofs.answers.pass_if.Reads as pass-if-reads
-use Rattle.scripts.proofs.machine.Machine.extend.Reads as extend-reads
-use Rattle.scripts.proofs.machine.leave_out.Reads as leave-out-reads
-use Rattle.scripts.proofs.machine.literal_at.Reads as literal-at-reads
-use Rattle.scripts.proofs.run.has_room.Reads as has-room-reads
-use Rattle.scripts.proofs.run.is_opposed.Reads as is-opposed-reads
-use Rattle.scripts.proofs.run.used_column.Reads as used-column-reads
 
--- LAWS BEGIN
 -- what row 18 tells of the extension that was read
 ext : (v s : List ℕ) (marks : List Bool) → Ready v s marks → (i : ℕ) → IsStep s i → (e : Entry) → e ≡ entryAt s i → e .w0 ≡ 4 → Extends v s i
 ext v s marks r i t e q k =
@@ -54,79 +39,60 @@ position-as : (v s : List ℕ) (i : ℕ) (e : Entry) → e ≡ entryAt s i → E
 position-as v s i e q x a b c h =
     rw (h, length-map (columnAt v (queryOf s) (e .w1) (e .w2)) _, q) (x .position)
 
--- LAWS END
-
--- src/run.rt:114:16
 sub-last : tie.Need-sub-last
 sub-last c = search needs
 
--- src/run.rt:115:16
 mul-goal : tie.Need-mul-goal
 mul-goal c = search needs
 
--- src/run.rt:115:16
 element-copy-out-goal : tie.Need-element-copy-out-goal
 element-copy-out-goal c = search needs
 
--- src/run.rt:116:9
 used-column-requires : tie.Need-used-column-requires
 used-column-requires c κs = (c .before .before .before .pre .0, (c .before .before .before .pre .1 .0, (c .before .before .before .pre .1 .1 .0, c .before .before .before .pre .1 .1 .1 .0)))
 
--- src/run.rt:117:20
 cast-position : tie.Need-cast-position
 cast-position c = search needs
 
--- src/run.rt:118:37
 literal-at-requires : tie.Need-literal-at-requires
 literal-at-requires c κs = (position-as (now (c .before .before .before .before .before .args .v)) (now (c .before .before .before .before .before .args .s)) (c .before .before .before .before .before .args .i) (c .before .before .before .before .before .args .e) (c .before .before .before .before .before .pre .1 .1 .0) (ext (now (c .before .before .before .before .before .args .v)) (now (c .before .before .before .before .before .args .s)) _ (c .before .before .before .before .before .pre .0) (c .before .before .before .before .before .args .i) (c .before .before .before .before .before .pre .1 .0) (c .before .before .before .before .before .args .e) (c .before .before .before .before .before .pre .1 .1 .0) (c .before .before .before .before .before .pre .1 .1 .1 .0)) (c .before .used-column .result .first) (c .before .used-column .result .second) (c .before .used-column .result .third) (c .before .used-column .ensures))
 
--- src/run.rt:118:26
 is-opposed-requires : tie.Need-is-opposed-requires
 is-opposed-requires c κs = search needs
 
--- src/run.rt:118:9
 pass-if-requires : tie.Need-pass-if-requires
 pass-if-requires c κs = search needs
 
 enum-told : tie.Need-enum-told
 enum-told c = search needs
 
--- src/run.rt:120:34
 enum-told-2 : tie.Need-enum-told-2
 enum-told-2 c = search needs
 
--- src/run.rt:120:9
 returns : tie.Need-returns
 returns c = (stops _ (require (opposed (getD (usedNumbers (now (c .before .before .before .before .before .before .before .before .before .before .args .v)) (now (c .before .before .before .before .before .before .before .before .before .before .args .s)) (c .before .before .before .before .before .before .before .before .before .before .args .e .w1) (c .before .before .before .before .before .before .before .before .before .before .args .e .w2) (c .before .before .before .before .before .before .before .before .before .before .args .e .w3) (c .before .before .before .before .before .before .before .before .before .before .args .e .w4)) (c .before .before .before .before .before .before .before .before .before .before .args .e .w5) 0) (goalNumber (framesOf (c .before .before .before .before .before .before .before .before .before .before .args .t6)))) 21 (c .before .before .before .before .before .before .before .before .before .before .args .i)) (require (isNil (without (c .before .before .before .before .before .before .before .before .before .before .args .e .w5) (usedNumbers (now (c .before .before .before .before .before .before .before .before .before .before .args .v)) (now (c .before .before .before .before .before .before .before .before .before .before .args .s)) (c .before .before .before .before .before .before .before .before .before .before .args .e .w1) (c .before .before .before .before .before .before .before .before .before .before .args .e .w2) (c .before .before .before .before .before .before .before .before .before .before .args .e .w3) (c .before .before .before .before .before .before .before .before .before .before .args .e .w4))) || ltb (length (framesOf (c .before .before .before .before .before .before .before .before .before .before .args .t6))) frameLimit) 23 (c .before .before .before .before .before .before .before .before .before .before .args .i)) _ _ (asked _ _ _ _ _ (c .before .before .pass-if .ensures) (connect-told (listed (c .before .before .before .before .before .before .used-column .result .first) (c .before .before .before .before .before .before .used-column .result .second) (c .before .before .before .before .before .before .used-column .result .third)) (usedNumbers (now (c .before .before .before .before .before .before .before .before .before .before .args .v)) (now (c .before .before .before .before .before .before .before .before .before .before .args .s)) (c .before .before .before .before .before .before .before .before .before .before .args .e .w1) (c .before .before .before .before .before .before .before .before .before .before .args .e .w2) (c .before .before .before .before .before .before .before .before .before .before .args .e .w3) (c .before .before .before .before .before .before .before .before .before .before .args .e .w4)) (c .before .before .before .before .before .before .used-column .ensures) (c .before .before .before .before .before .before .before .before .before .before .args .e .w5) _ _ _ (framesOf (c .before .before .before .before .before .before .before .before .before .before .args .t6)) (c .before .before .before .is-opposed .ensures) (c .before .before .before .before .literal-at .ensures) (goal-told ((c .before .before .before .before .before .before .before .before .before .before .args .t6) .goals) ((c .before .before .before .before .before .before .before .before .before .before .args .t6) .seconds) ((c .before .before .before .before .before .before .before .before .before .before .args .t6) .depth) (c .before .before .before .before .before .before .before .before .before .before .pre .1 .1 .1 .1 .0)))) (c .enum-told2 .given .1), (λ q. absurd (not-passed _ _ _ (c .enum-told2 .given .1) q), c .before .before .before .before .before .before .before .before .before .before .pre .1 .1 .1 .1 .1))
 
--- src/run.rt:122:9
 leave-out-requires : tie.Need-leave-out-requires
 leave-out-requires c κs = (position-as (now (c .before .before .before .before .before .before .before .before .before .before .args .v)) (now (c .before .before .before .before .before .before .before .before .before .before .args .s)) (c .before .before .before .before .before .before .before .before .before .before .args .i) (c .before .before .before .before .before .before .before .before .before .before .args .e) (c .before .before .before .before .before .before .before .before .before .before .pre .1 .1 .0) (ext (now (c .before .before .before .before .before .before .before .before .before .before .args .v)) (now (c .before .before .before .before .before .before .before .before .before .before .args .s)) _ (c .before .before .before .before .before .before .before .before .before .before .pre .0) (c .before .before .before .before .before .before .before .before .before .before .args .i) (c .before .before .before .before .before .before .before .before .before .before .pre .1 .0) (c .before .before .before .before .before .before .before .before .before .before .args .e) (c .before .before .before .before .before .before .before .before .before .before .pre .1 .1 .0) (c .before .before .before .before .before .before .before .before .before .before .pre .1 .1 .1 .0)) (c .before .before .before .before .before .before .used-column .result .first) (c .before .before .before .before .before .before .used-column .result .second) (c .before .before .before .before .before .before .used-column .result .third) (c .before .before .before .before .before .before .used-column .ensures))
 
--- src/run.rt:123:24
 has-room-requires : tie.Need-has-room-requires
 has-room-requires c κs = search needs
 
--- src/run.rt:123:9
 pass-if-requires-2 : tie.Need-pass-if-requires-2
 pass-if-requires-2 c κs = search needs
 
 enum-told-3 : tie.Need-enum-told-3
 enum-told-3 c = search needs
 
--- src/run.rt:125:40
 enum-told-4 : tie.Need-enum-told-4
 enum-told-4 c = search needs
 
--- src/run.rt:125:9
 returns-2 : tie.Need-returns-2
 returns-2 c = (goes _ (require (opposed (getD (usedNumbers (now (c .before .before .before .before .before .before .before .before .before .before .before .before .before .before .before .args .v)) (now (c .before .before .before .before .before .before .before .before .before .before .before .before .before .before .before .args .s)) (c .before .before .before .before .before .before .before .before .before .before .before .before .before .before .before .args .e .w1) (c .before .before .before .before .before .before .before .before .before .before .before .before .before .before .before .args .e .w2) (c .before .before .before .before .before .before .before .before .before .before .before .before .before .before .before .args .e .w3) (c .before .before .before .before .before .before .before .before .before .before .before .before .before .before .before .args .e .w4)) (c .before .before .before .before .before .before .before .before .before .before .before .before .before .before .before .args .e .w5) 0) (goalNumber (framesOf (c .before .before .before .before .before .before .before .before .before .before .before .before .before .before .before .args .t6)))) 21 (c .before .before .before .before .before .before .before .before .before .before .before .before .before .before .before .args .i)) (require (isNil (without (c .before .before .before .before .before .before .before .before .before .before .before .before .before .before .before .args .e .w5) (usedNumbers (now (c .before .before .before .before .before .before .before .before .before .before .before .before .before .before .before .args .v)) (now (c .before .before .before .before .before .before .before .before .before .before .before .before .before .before .before .args .s)) (c .before .before .before .before .before .before .before .before .before .before .before .before .before .before .before .args .e .w1) (c .before .before .before .before .before .before .before .before .before .before .before .before .before .before .before .args .e .w2) (c .before .before .before .before .before .before .before .before .before .before .before .before .before .before .before .args .e .w3) (c .before .before .before .before .before .before .before .before .before .before .before .before .before .before .before .args .e .w4))) || ltb (length (framesOf (c .before .before .before .before .before .before .before .before .before .before .before .before .before .before .before .args .t6))) frameLimit) 23 (c .before .before .before .before .before .before .before .before .before .before .before .before .before .before .before .args .i)) _ (asked _ _ _ _ _ (c .before .before .before .before .before .before .before .pass-if .ensures) (connect-told (listed (c .before .before .before .before .before .before .before .before .before .before .before .used-column .result .first) (c .before .before .before .before .before .before .before .before .before .before .before .used-column .result .second) (c .before .before .before .before .before .before .before .before .before .before .before .used-column .result .third)) (usedNumbers (now (c .before .before .before .before .before .before .before .before .before .before .before .before .before .before .before .args .v)) (now (c .before .before .before .before .before .before .before .before .before .before .before .before .before .before .before .args .s)) (c .before .before .before .before .before .before .before .before .before .before .before .before .before .before .before .args .e .w1) (c .before .before .before .before .before .before .before .before .before .before .before .before .before .before .before .args .e .w2) (c .before .before .before .before .before .before .before .before .before .before .before .before .before .before .before .args .e .w3) (c .before .before .before .before .before .before .before .before .before .before .before .before .before .before .before .args .e .w4)) (c .before .before .before .before .before .before .before .before .before .before .before .used-column .ensures) (c .before .before .before .before .before .before .before .before .before .before .before .before .before .before .before .args .e .w5) _ _ _ (framesOf (c .before .before .before .before .before .before .before .before .before .before .before .before .before .before .before .args .t6)) (c .before .before .before .before .before .before .before .before .is-opposed .ensures) (c .before .before .before .before .before .before .before .before .before .literal-at .ensures) (goal-told ((c .before .before .before .before .before .before .before .before .before .before .before .before .before .before .before .args .t6) .goals) ((c .before .before .before .before .before .before .before .before .before .before .before .before .before .before .before .args .t6) .seconds) ((c .before .before .before .before .before .before .before .before .before .before .before .before .before .before .before .args .t6) .depth) (c .before .before .before .before .before .before .before .before .before .before .before .before .before .before .before .pre .1 .1 .1 .1 .0)))) (c .before .before .before .before .before .enum-told .given .1) (asked _ _ _ _ _ (c .before .before .pass-if2 .ensures) (room-told (listed (c .before .before .before .before .before .before .before .before .before .before .before .used-column .result .first) (c .before .before .before .before .before .before .before .before .before .before .before .used-column .result .second) (c .before .before .before .before .before .before .before .before .before .before .before .used-column .result .third)) (usedNumbers (now (c .before .before .before .before .before .before .before .before .before .before .before .before .before .before .before .args .v)) (now (c .before .before .before .before .before .before .before .before .before .before .before .before .before .before .before .args .s)) (c .before .before .before .before .before .before .before .before .before .before .before .before .before .before .before .args .e .w1) (c .before .before .before .before .before .before .before .before .before .before .before .before .before .before .before .args .e .w2) (c .before .before .before .before .before .before .before .before .before .before .before .before .before .before .before .args .e .w3) (c .before .before .before .before .before .before .before .before .before .before .before .before .before .before .before .args .e .w4)) (c .before .before .before .before .before .before .before .before .before .before .before .used-column .ensures) (c .before .before .before .before .before .before .before .before .before .before .before .before .before .before .before .args .e .w5) _ (c .before .before .before .before .leave-out .result .first) (c .before .before .before .before .leave-out .result .second) ((c .before .before .before .before .before .before .before .before .before .before .before .before .before .before .before .args .t6) .goals) ((c .before .before .before .before .before .before .before .before .before .before .before .before .before .before .before .args .t6) .seconds) ((c .before .before .before .before .before .before .before .before .before .before .before .before .before .before .before .args .t6) .depth) (c .before .before .before .has-room .ensures) (c .before .before .before .before .leave-out .ensures .0))), (λ q. absurd (not-passed _ _ _ (c .enum-told4 .given .1) q), c .before .before .before .before .before .before .before .before .before .before .before .before .before .before .before .pre .1 .1 .1 .1 .1))
 
--- src/run.rt:129:18
 extend-requires : tie.Need-extend-requires
 extend-requires c κs = (c .before .before .before .before .before .before .before .before .before .before .before .before .before .before .before .pre .1 .1 .1 .1 .1, room-left (c .before .before .before .before .leave-out .result .first) (c .before .before .before .before .leave-out .result .second) ((c .before .before .before .before .before .before .before .before .before .before .before .before .before .before .before .args .t6) .depth) (sym (c .before .before .before .has-room .ensures) ∙ require-passed _ _ _ (sym (c .before .before .pass-if2 .ensures) ∙ ap checked (c .enum-told3 .given .1))))
 
--- src/run.rt:96:1
 returns-3 : tie.Need-returns-3
 returns-3 c = (goes _ (require (opposed (getD (usedNumbers (now (c .before .before .before .before .before .before .before .before .before .before .before .before .before .before .before .before .args .v)) (now (c .before .before .before .before .before .before .before .before .before .before .before .before .before .before .before .before .args .s)) (c .before .before .before .before .before .before .before .before .before .before .before .before .before .before .before .before .args .e .w1) (c .before .before .before .before .before .before .before .before .before .before .before .before .before .before .before .before .args .e .w2) (c .before .before .before .before .before .before .before .before .before .before .before .before .before .before .before .before .args .e .w3) (c .before .before .before .before .before .before .before .before .before .before .before .before .before .before .before .before .args .e .w4)) (c .before .before .before .before .before .before .before .before .before .before .before .before .before .before .before .before .args .e .w5) 0) (goalNumber (framesOf (c .before .before .before .before .before .before .before .before .before .before .before .before .before .before .before .before .args .t6)))) 21 (c .before .before .before .before .before .before .before .before .before .before .before .before .before .before .before .before .args .i)) (require (isNil (without (c .before .before .before .before .before .before .before .before .before .before .before .before .before .before .before .before .args .e .w5) (usedNumbers (now (c .before .before .before .before .before .before .before .before .before .before .before .before .before .before .before .before .args .v)) (now (c .before .before .before .before .before .before .before .before .before .before .before .before .before .before .before .before .args .s)) (c .before .before .before .before .before .before .before .before .before .before .before .before .before .before .before .before .args .e .w1) (c .before .before .before .before .before .before .before .before .before .before .before .before .before .before .before .before .args .e .w2) (c .before .before .before .before .before .before .before .before .before .before .before .before .before .before .before .before .args .e .w3) (c .before .before .before .before .before .before .before .before .before .before .before .before .before .before .before .before .args .e .w4))) || ltb (length (framesOf (c .before .before .before .before .before .before .before .before .before .before .before .before .before .before .before .before .args .t6))) frameLimit) 23 (c .before .before .before .before .before .before .before .before .before .before .before .before .before .before .before .before .args .i)) _ (asked _ _ _ _ _ (c .before .before .before .before .before .before .before .before .pass-if .ensures) (connect-told (listed (c .before .before .before .before .before .before .before .before .before .before .before .before .used-column .result .first) (c .before .before .before .before .before .before .before .before .before .before .before .before .used-column .result .second) (c .before .before .before .before .before .before .before .before .before .before .before .before .used-column .result .third)) (usedNumbers (now (c .before .before .before .before .before .before .before .before .before .before .before .before .before .before .before .before .args .v)) (now (c .before .before .before .before .before .before .before .before .before .before .before .before .before .before .before .before .args .s)) (c .before .before .before .before .before .before .before .before .before .before .before .before .before .before .before .before .args .e .w1) (c .before .before .before .before .before .before .before .before .before .before .before .before .before .before .before .before .args .e .w2) (c .before .before .before .before .before .before .before .before .before .before .before .before .before .before .before .before .args .e .w3) (c .before .before .before .before .before .before .before .before .before .before .before .before .before .before .before .before .args .e .w4)) (c .before .before .before .before .before .before .before .before .before .before .before .before .used-column .ensures) (c .before .before .before .before .before .before .before .before .before .before .before .before .before .before .before .before .args .e .w5) _ _ _ (framesOf (c .before .before .before .before .before .before .before .before .before .before .before .before .before .before .before .before .args .t6)) (c .before .before .before .before .before .before .before .before .before .is-opposed .ensures) (c .before .before .before .before .before .before .before .before .before .before .literal-at .ensures) (goal-told ((c .before .before .before .before .before .before .before .before .before .before .before .before .before .before .before .before .args .t6) .goals) ((c .before .before .before .before .before .before .before .before .before .before .before .before .before .before .before .before .args .t6) .seconds) ((c .before .before .before .before .before .before .before .before .before .before .before .before .before .before .before .before .args .t6) .depth) (c .before .before .before .before .before .before .before .before .before .before .before .before .before .before .before .before .pre .1 .1 .1 .1 .0)))) (c .before .before .before .before .before .before .enum-told .given .1) (sym (passed _ (require (isNil (without (c .before .before .before .before .before .before .before .before .before .before .before .before .before .before .before .before .args .e .w5) (usedNumbers (now (c .before .before .before .before .before .before .before .before .before .before .before .before .before .before .before .before .args .v)) (now (c .before .before .before .before .before .before .before .before .before .before .before .before .before .before .before .before .args .s)) (c .before .before .before .before .before .before .before .before .before .before .before .before .before .before .before .before .args .e .w1) (c .before .before .before .before .before .before .before .before .before .before .before .before .before .before .before .before .args .e .w2) (c .before .before .before .before .before .before .before .before .before .before .before .before .before .before .before .before .args .e .w3) (c .before .before .before .before .before .before .before .before .before .before .before .before .before .before .before .before .args .e .w4))) || ltb (length (framesOf (c .before .before .before .before .before .before .before .before .before .before .before .before .before .before .before .before .args .t6))) frameLimit) 23 (c .before .before .before .before .before .before .before .before .before .before .before .before .before .before .before .before .args .i)) (asked _ _ _ _ _ (c .before .before .before .pass-if2 .ensures) (room-told (listed (c .before .before .before .before .before .before .before .before .before .before .before .before .used-column .result .first) (c .before .before .before .before .before .before .before .before .before .before .before .before .used-column .result .second) (c .before .before .before .before .before .before .before .before .before .before .before .before .used-column .result .third)) (usedNumbers (now (c .before .before .before .before .before .before .before .before .before .before .before .before .before .before .before .before .args .v)) (now (c .before .before .before .before .before .before .before .before .before .before .before .before .before .before .before .before .args .s)) (c .before .before .before .before .before .before .before .before .before .before .before .before .before .before .before .before .args .e .w1) (c .before .before .before .before .before .before .before .before .before .before .before .before .before .before .before .before .args .e .w2) (c .before .before .before .before .before .before .before .before .before .before .before .before .before .before .before .before .args .e .w3) (c .before .before .before .before .before .before .before .before .before .before .before .before .before .before .before .before .args .e .w4)) (c .before .before .before .before .before .before .before .before .before .before .before .before .used-column .ensures) (c .before .before .before .before .before .before .before .before .before .before .before .before .before .before .before .before .args .e .w5) _ (c .before .before .before .before .before .leave-out .result .first) (c .before .before .before .before .before .leave-out .result .second) ((c .before .before .before .before .before .before .before .before .before .before .before .before .before .before .before .before .args .t6) .goals) ((c .before .before .before .before .before .before .before .before .before .before .before .before .before .before .before .before .args .t6) .seconds) ((c .before .before .before .before .before .before .before .before .before .before .before .before .before .before .before .before .args .t6) .depth) (c .before .before .before .before .has-room .ensures) (c .before .before .before .before .before .leave-out .ensures .0))) (c .before .enum-told3 .given .1))), (λ q. c .extend .ensures .0 ∙ rw (c .before .before .before .before .before .leave-out .ensures .0, c .before .before .before .before .before .before .before .before .before .before .before .before .used-column .ensures), c .extend .ensures .1))
 

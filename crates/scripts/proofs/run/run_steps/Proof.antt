@@ -1,42 +1,20 @@
-use Rattle.records.specs.Answers.{checked}
-use Prim.Native.Nat.{suc}
-use borrow.Author.Needs.{needs}
-use Rattle.records.proofs.Following.{left}
-use Rattle.scripts.proofs.Walking.{Walk, standing, walk-start, walk-next, walk-refused, walk-done, walk-falls, next-reached, reached}
-use Rattle.scripts.specs.Ready.{Ready, IsStep, Reached}
-use Rattle.scripts.specs.declared.machine.Machine.{Machine}
-use Rattle.scripts.specs.Machine.{framesOf, framesFrom}
-use Rattle.scripts.specs.Run.{isNil}
-use Rattle.scripts.specs.Codes.{codeAt, opposed}
-use Rattle.columns.specs.Columns.{Query, columnAt}
-use Rattle.columns.specs.Packed.{listed, packedAt}
-use Rattle.records.specs.Outcome.{pass, require, _then_, accepted}
-use Prim.Native.Nat.{ℕ, _+_, _*_, _-_, _≤_, _<_}
-use mathlib.Core.List.{List}
-use lib.ListN.{length, getD, length-map}
-use lib.Dec.{eqb, leb, ltb}
-use mathlib.Core.Bool.{Bool, true, false, not, _&&_, _||_}
-use Rattle.scripts.proofs.Extending.{Extends, extends, second-small, namedColumn}
-use Rattle.scripts.proofs.Terms.{code-small, apply-small}
-use Rattle.scripts.proofs.Formed.{Formed, formed}
-use Rattle.records.proofs.Accepted.{Accepted, accepted-vocabulary}
-use Rattle.scripts.specs.declared.entry.Entry.{Entry}
-use Rattle.scripts.specs.Numbered.{secondCode, usedNumbers, lineCheck, lineStepped, numberCheck, numberStepped, numberRun, numberChain}
-use Rattle.scripts.specs.Format.{entryAt, entries, lineOf, chainFrom, chain, queryOf, nextStep}
-use Rattle.scripts.proofs.Stepping.{not-passed, goal-told, open-told, reduce-told, connect-told, room-told, room-left, line-extending, line-reducing, line-neither}
-use Rattle.records.proofs.Order.{stops, stopped, goes, asked, passed}
-use denote.Ref.{now}
-use borrow.Author.Tests.{eq-eqb, ne-eqb, lt-ltb, le-ltb, lt-leb, le-leb, not-true, not-false}
-use mathlib.Core.Path.{_≡_, _∙_, sym, refl, ap}
+use Prim.Native.Nat.{suc, _≤_}
 use native.Mathlib.Omega.{arith}
+use mathlib.Core.Path.{ap}
+use lib.ListN.{length}
+use denote.Ref.{now}
+use borrow.Author.Needs.{needs}
+use Rattle.records.specs.Answers.{checked}
+use Rattle.records.specs.Outcome.{_then_, accepted}
+use Rattle.records.proofs.Following.{left}
+use Rattle.scripts.specs.Machine.{framesOf}
+use Rattle.scripts.specs.Numbered.{numberRun}
+use Rattle.scripts.specs.Format.{entries, chainFrom}
+use Rattle.scripts.specs.declared.entry.Entry.{Entry}
+use Rattle.scripts.proofs.Walking.{Walk, standing, walk-start, walk-next, walk-refused, walk-done, walk-falls, reached}
+use Rattle.scripts.proofs.Formed.{formed}
 use Rattle.scripts.proofs.run.run_steps.Statement.{statement}
 use Rattle.scripts.proofs.run.run_steps.Tie as tie
-use Rattle.scripts.proofs.run.run_steps.Reads as reads
-use Rattle.scripts.proofs.run.run_steps.Lts as lts
-use Rattle.records.proofs.answers.pass_if.Reads as pass-if-reads
-use Rattle.scripts.proofs.answers.judge_after.Reads as judge-after-reads
-use Rattle.scripts.proofs.entry.read_entry.Reads as read-entry-reads
-use Rattle.scripts.proofs.run.step.Reads as step-reads
 
 abbrev Inv-loop : tie.InvT-loop
 Inv-loop v marks s first next state₀ last₀ at₀ steps₀ state last at steps = Walk v s (numberRun v s (framesOf state₀) first (chainFrom s next) then accepted (suc (length (chainFrom s next)))) (framesOf state) last at steps
@@ -45,58 +23,45 @@ Inv-loop v marks s first next state₀ last₀ at₀ steps₀ state last at step
 abbrev μ-loop : tie.MeasureT-loop
 μ-loop v marks s first next state₀ last₀ at₀ steps₀ state last at steps = left (entries s) at
 
--- src/run.rt:216:5
 loop-holds : tie.Need-loop-holds Inv-loop μ-loop
 loop-holds c = (walk-start (now (c .before .before .args .v)) (now (c .before .before .args .s)) (formed (now (c .before .before .args .v)) (now (c .before .before .args .s)) (c .before .before .pre .0 .form)) _ _ _ (c .before .before .pre .1 .0), c .before .before .pre .1 .1)
 
--- src/run.rt:217:13
 step-requires : tie.Need-step-requires Inv-loop μ-loop
 step-requires c κs = (c .before .before .before .before .pre .0, ((standing (now (c .before .before .before .before .args .s)) (c .before .loop .at) (c .before .loop .inv .0 .reached) (c .loop-test .taken)), c .before .loop .inv .1))
 
 enum-told : tie.Need-enum-told Inv-loop μ-loop
 enum-told c = search needs
 
--- src/run.rt:220:13
 enum-told-2 : tie.Need-enum-told-2 Inv-loop μ-loop
 enum-told-2 c = search needs
 
--- src/run.rt:220:13
 judge-after-requires : tie.Need-judge-after-requires Inv-loop μ-loop
 judge-after-requires c κs = tt
 
--- src/run.rt:220:13
 returns : tie.Need-returns Inv-loop μ-loop
 returns c = walk-refused (now (c .before .before .before .before .before .before .before .before .args .v)) (now (c .before .before .before .before .before .before .before .before .args .s)) (formed (now (c .before .before .before .before .before .before .before .before .args .v)) (now (c .before .before .before .before .before .before .before .before .args .s)) (c .before .before .before .before .before .before .before .before .pre .0 .form)) _ _ _ _ _ (c .before .before .before .before .before .loop .inv .0) _ _ _ _ (standing (now (c .before .before .before .before .before .before .before .before .args .s)) (c .before .before .before .before .before .loop .at) (c .before .before .before .before .before .loop .inv .0 .reached) (c .before .before .before .before .loop-test .taken)) (c .before .before .before .step .ensures .0) (c .before .enum-told2 .given .1) (c .judge-after .ensures)
 
--- src/run.rt:224:9
 add-steps : tie.Need-add-steps Inv-loop μ-loop
 add-steps c = omega (arith, (c .before .before .before .before .before .loop .inv .0) .few)
 
--- src/run.rt:225:14
 read-entry-requires : tie.Need-read-entry-requires Inv-loop μ-loop
 read-entry-requires c κs = omega (arith, (standing (now (c .before .before .before .before .before .before .before .before .args .s)) (c .before .before .before .before .before .loop .at) (c .before .before .before .before .before .loop .inv .0 .reached) (c .before .before .before .before .loop-test .taken)) .within)
 
--- src/run.rt:225:14
 cast-at : tie.Need-cast-at Inv-loop μ-loop
 cast-at c = omega arith
 
--- src/run.rt:216:5
 loop-less : tie.Need-loop-less Inv-loop μ-loop
 loop-less c = walk-falls (now (c .before .before .before .before .before .before .before .before .before .before .args .v)) (now (c .before .before .before .before .before .before .before .before .before .before .args .s)) (formed (now (c .before .before .before .before .before .before .before .before .before .before .args .v)) (now (c .before .before .before .before .before .before .before .before .before .before .args .s)) (c .before .before .before .before .before .before .before .before .before .before .pre .0 .form)) _ _ (standing (now (c .before .before .before .before .before .before .before .before .before .before .args .s)) (c .before .before .before .before .before .before .before .loop .at) (c .before .before .before .before .before .before .before .loop .inv .0 .reached) (c .before .before .before .before .before .before .loop-test .taken)) (ap (λ (x : Entry). x .w7) (c .before .read-entry .ensures))
 
--- src/run.rt:216:5
 loop-again : tie.Need-loop-again Inv-loop μ-loop
 loop-again c = (walk-next (now (c .before .before .before .before .before .before .before .before .before .before .args .v)) (now (c .before .before .before .before .before .before .before .before .before .before .args .s)) (formed (now (c .before .before .before .before .before .before .before .before .before .before .args .v)) (now (c .before .before .before .before .before .before .before .before .before .before .args .s)) (c .before .before .before .before .before .before .before .before .before .before .pre .0 .form)) _ _ _ _ _ (c .before .before .before .before .before .before .before .loop .inv .0) _ _ _ (standing (now (c .before .before .before .before .before .before .before .before .before .before .args .s)) (c .before .before .before .before .before .before .before .loop .at) (c .before .before .before .before .before .before .before .loop .inv .0 .reached) (c .before .before .before .before .before .before .loop-test .taken)) (c .before .before .before .before .before .step .ensures .0) (ap checked (c .before .before .before .enum-told .given .1)) (c .before .before .before .before .before .step .ensures .1 .0 (ap checked (c .before .before .before .enum-told .given .1))) (ap (λ (x : Entry). x .w7) (c .before .read-entry .ensures)), c .before .before .before .before .before .step .ensures .1 .1)
 
--- src/run.rt:227:17
 pass-if-requires : tie.Need-pass-if-requires Inv-loop μ-loop
 pass-if-requires c κs = tt
 
--- src/run.rt:227:5
 judge-after-requires-2 : tie.Need-judge-after-requires-2 Inv-loop μ-loop
 judge-after-requires-2 c κs = tt
 
--- src/run.rt:199:1
 returns-2 : tie.Need-returns-2 Inv-loop μ-loop
 returns-2 c = walk-done (now (c .before .before .before .before .before .before .before .args .v)) (now (c .before .before .before .before .before .before .before .args .s)) _ (c .before .before .before .before .loop .state .goals) (c .before .before .before .before .loop .state .seconds) (c .before .before .before .before .loop .state .depth) _ _ _ (c .before .before .before .before .loop .inv .0) (c .before .before .before .loop-test .left) _ _ (c .before .pass-if .ensures) (c .judge-after2 .ensures)
 

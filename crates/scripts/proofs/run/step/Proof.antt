@@ -1,81 +1,47 @@
-use Rattle.scripts.proofs.Stepping.{check-extending, step-extending, check-reducing, step-reducing, check-neither, open-positive}
+use native.Mathlib.Omega.{arith}
+use mathlib.Core.Path.{_∙_, sym, ap}
+use denote.Ref.{now}
+use borrow.Author.Needs.{needs}
 use Rattle.records.specs.Answers.{checked}
 use Rattle.records.proofs.Passed.{require-passed, clash}
-use Rattle.scripts.specs.Ready.{Ready, IsStep, Reached}
-use Rattle.scripts.specs.declared.machine.Machine.{Machine}
-use Rattle.scripts.specs.Machine.{framesOf, framesFrom}
-use Rattle.scripts.specs.Run.{isNil}
-use Rattle.scripts.specs.Codes.{codeAt, opposed}
-use Rattle.columns.specs.Columns.{Query, columnAt}
-use Rattle.columns.specs.Packed.{listed, packedAt}
-use Rattle.records.specs.Outcome.{pass, require, _then_, accepted}
-use Prim.Native.Nat.{ℕ, _+_, _*_, _-_, _≤_, _<_}
-use mathlib.Core.List.{List}
-use lib.ListN.{length, getD, length-map}
-use lib.Dec.{eqb, leb, ltb}
-use mathlib.Core.Bool.{Bool, true, false, not, _&&_, _||_}
-use Rattle.scripts.proofs.Extending.{Extends, extends, second-small, namedColumn}
-use Rattle.scripts.proofs.Terms.{code-small, apply-small}
-use Rattle.scripts.proofs.Formed.{Formed, formed}
-use Rattle.records.proofs.Accepted.{Accepted, accepted-vocabulary}
-use Rattle.scripts.specs.declared.entry.Entry.{Entry}
-use Rattle.scripts.specs.Numbered.{secondCode, usedNumbers, lineCheck, lineStepped, numberCheck, numberStepped, numberRun, numberChain}
-use Rattle.scripts.specs.Format.{entryAt, entries, lineOf, chainFrom, chain, queryOf, nextStep}
-use Rattle.scripts.proofs.Stepping.{not-passed, goal-told, open-told, reduce-told, connect-told, room-told, room-left, line-extending, line-reducing, line-neither}
-use Rattle.records.proofs.Order.{stops, stopped, goes, asked, passed}
-use denote.Ref.{now}
-use borrow.Author.Tests.{eq-eqb, ne-eqb, lt-ltb, le-ltb, lt-leb, le-leb, not-true, not-false}
-use mathlib.Core.Path.{_≡_, _∙_, sym, refl, ap}
-use native.Mathlib.Omega.{arith}
-use borrow.Author.Needs.{needs}
+use Rattle.records.proofs.Order.{stops, goes, asked}
+use Rattle.scripts.specs.Machine.{framesOf}
+use Rattle.scripts.specs.Numbered.{numberCheck, numberStepped}
+use Rattle.scripts.proofs.Stepping.{check-extending, step-extending, check-reducing, step-reducing, check-neither}
+use Rattle.scripts.proofs.Stepping.{open-positive, not-passed, open-told}
 use Rattle.scripts.proofs.run.step.Statement.{statement}
 use Rattle.scripts.proofs.run.step.Tie as tie
-use Rattle.scripts.proofs.run.step.Reads as reads
-use Rattle.scripts.proofs.run.step.Lts as lts
-use Rattle.records.proofs.answers.pass_if.Reads as pass-if-reads
-use Rattle.scripts.proofs.entry.read_entry.Reads as read-entry-reads
-use Rattle.scripts.proofs.run.extend_step.Reads as extend-step-reads
-use Rattle.scripts.proofs.run.reduce_step.Reads as reduce-step-reads
 
--- src/run.rt:179:9
 pass-if-requires : tie.Need-pass-if-requires
 pass-if-requires c κs = search needs
 
 enum-told : tie.Need-enum-told
 enum-told c = search needs
 
--- src/run.rt:181:9
 enum-told-2 : tie.Need-enum-told-2
 enum-told-2 c = search needs
 
--- src/run.rt:181:9
 returns : tie.Need-returns
 unfolding numberCheck numberStepped
 returns c = (stops _ _ _ _ _ (asked _ _ _ _ _ (c .before .before .pass-if .ensures) (open-told ((c .before .before .before .before .before .before .args .machine) .goals) ((c .before .before .before .before .before .before .args .machine) .seconds) ((c .before .before .before .before .before .before .args .machine) .depth))) (c .enum-told2 .given .1), (λ q. absurd (not-passed _ _ _ (c .enum-told2 .given .1) q), c .before .before .before .before .before .before .pre .1 .1))
 
--- src/run.rt:183:9
 read-entry-requires : tie.Need-read-entry-requires
 read-entry-requires c κs = omega (arith, c .before .before .before .before .before .before .pre .1 .0 .within)
 
--- src/run.rt:186:14
 extend-step-requires : tie.Need-extend-step-requires
 extend-step-requires c κs = (c .before .before .before .before .before .before .before .before .pre .0, (c .before .before .before .before .before .before .before .before .pre .1 .0, (c .before .read-entry .ensures, (c .match2 .keys1, (open-positive ((c .before .before .before .before .before .before .before .before .args .machine) .depth) (require-passed _ _ _ (sym (c .before .before .before .before .pass-if .ensures) ∙ ap checked (c .before .before .enum-told .given .1))), c .before .before .before .before .before .before .before .before .pre .1 .1)))))
 
--- src/run.rt:187:14
 reduce-step-requires : tie.Need-reduce-step-requires
 reduce-step-requires c κs = (open-positive ((c .before .before .before .before .before .before .before .before .args .machine) .depth) (require-passed _ _ _ (sym (c .before .before .before .before .pass-if .ensures) ∙ ap checked (c .before .before .enum-told .given .1))), c .before .before .before .before .before .before .before .before .pre .1 .1)
 
--- src/run.rt:165:1
 returns-2 : tie.Need-returns-2
 unfolding numberCheck numberStepped
 returns-2 c = (goes _ _ _ _ (asked _ _ _ _ _ (c .before .before .before .before .before .pass-if .ensures) (open-told ((c .before .before .before .before .before .before .before .before .before .args .machine) .goals) ((c .before .before .before .before .before .before .before .before .before .args .machine) .seconds) ((c .before .before .before .before .before .before .before .before .before .args .machine) .depth))) (c .before .before .before .enum-told .given .1) (c .extend-step .ensures .0 ∙ check-extending (now (c .before .before .before .before .before .before .before .before .before .args .v)) (now (c .before .before .before .before .before .before .before .before .before .args .s)) (c .before .before .before .before .before .before .before .before .before .args .i) (c .before .before .read-entry .result) (c .before .before .read-entry .ensures) (framesOf (c .before .before .before .before .before .before .before .before .before .args .machine)) (c .before .match2 .keys1)), (λ q. c .extend-step .ensures .1 .0 q ∙ step-extending (now (c .before .before .before .before .before .before .before .before .before .args .v)) (now (c .before .before .before .before .before .before .before .before .before .args .s)) (c .before .before .before .before .before .before .before .before .before .args .i) (c .before .before .read-entry .result) (c .before .before .read-entry .ensures) (framesOf (c .before .before .before .before .before .before .before .before .before .args .machine)) (c .before .match2 .keys1), c .extend-step .ensures .1 .1))
 
--- src/run.rt:165:1
 returns-3 : tie.Need-returns-3
 unfolding numberCheck numberStepped
 returns-3 c = (goes _ _ _ _ (asked _ _ _ _ _ (c .before .before .before .before .before .pass-if .ensures) (open-told ((c .before .before .before .before .before .before .before .before .before .args .machine) .goals) ((c .before .before .before .before .before .before .before .before .before .args .machine) .seconds) ((c .before .before .before .before .before .before .before .before .before .args .machine) .depth))) (c .before .before .before .enum-told .given .1) (c .reduce-step .ensures .0 ∙ check-reducing (now (c .before .before .before .before .before .before .before .before .before .args .v)) (now (c .before .before .before .before .before .before .before .before .before .args .s)) (c .before .before .before .before .before .before .before .before .before .args .i) (c .before .before .read-entry .result) (c .before .before .read-entry .ensures) (framesOf (c .before .before .before .before .before .before .before .before .before .args .machine)) (c .before .match2 .keys2)), (λ q. c .reduce-step .ensures .1 .0 q ∙ step-reducing (now (c .before .before .before .before .before .before .before .before .before .args .v)) (now (c .before .before .before .before .before .before .before .before .before .args .s)) (c .before .before .before .before .before .before .before .before .before .args .i) (c .before .before .read-entry .result) (c .before .before .read-entry .ensures) (framesOf (c .before .before .before .before .before .before .before .before .before .args .machine)) (c .before .match2 .keys2), c .reduce-step .ensures .1 .1))
 
--- src/run.rt:165:1
 returns-4 : tie.Need-returns-4
 unfolding numberCheck numberStepped
 returns-4 c = (goes _ _ _ _ (asked _ _ _ _ _ (c .before .before .before .before .pass-if .ensures) (open-told ((c .before .before .before .before .before .before .before .before .args .machine) .goals) ((c .before .before .before .before .before .before .before .before .args .machine) .seconds) ((c .before .before .before .before .before .before .before .before .args .machine) .depth))) (c .before .before .enum-told .given .1) (check-neither (now (c .before .before .before .before .before .before .before .before .args .v)) (now (c .before .before .before .before .before .before .before .before .args .s)) (c .before .before .before .before .before .before .before .before .args .i) (c .before .read-entry .result) (c .before .read-entry .ensures) (framesOf (c .before .before .before .before .before .before .before .before .args .machine)) (c .match2 .rest .0 .1) (c .match2 .rest .1)), (λ q. absurd (clash (cc)), c .before .before .before .before .before .before .before .before .pre .1 .1))

@@ -1,43 +1,26 @@
-use Rattle.scripts.specs.declared.machine.Machine.{Machine}
-use Rattle.scripts.specs.Machine.{framesOf, framesFrom}
-use Rattle.scripts.specs.Run.{isNil}
-use Rattle.scripts.specs.Codes.{codeAt, opposed}
-use Rattle.columns.specs.Columns.{Query, columnAt}
-use Rattle.columns.specs.Packed.{listed, packedAt}
-use Rattle.records.specs.Outcome.{pass, require, _then_, accepted}
-use Prim.Native.Nat.{ℕ, _+_, _*_, _-_, _≤_, _<_}
-use mathlib.Core.List.{List}
-use lib.ListN.{length, getD, length-map}
-use lib.Dec.{eqb, leb, ltb}
-use mathlib.Core.Bool.{Bool, true, false, not, _&&_, _||_}
-use Rattle.scripts.proofs.Extending.{Extends, extends, second-small, namedColumn}
-use Rattle.scripts.proofs.Terms.{code-small, apply-small}
-use Rattle.scripts.proofs.Formed.{Formed, formed}
-use Rattle.records.proofs.Accepted.{Accepted, accepted-vocabulary}
-use Rattle.scripts.specs.declared.entry.Entry.{Entry}
-use Rattle.scripts.specs.Numbered.{secondCode, usedNumbers, lineCheck, lineStepped, numberCheck, numberStepped, numberRun, numberChain}
-use Rattle.scripts.specs.Format.{entryAt, entries, lineOf, chainFrom, chain, queryOf, nextStep}
-use Rattle.scripts.proofs.Stepping.{not-passed, goal-told, open-told, reduce-told, connect-told, room-told, room-left, line-extending, line-reducing, line-neither}
-use Rattle.records.proofs.Order.{stops, stopped, goes, asked, passed}
-use denote.Ref.{now}
-use borrow.Author.Tests.{eq-eqb, ne-eqb, lt-ltb, le-ltb, lt-leb, le-leb, not-true, not-false}
-use mathlib.Core.Path.{_≡_, _∙_, sym, refl, ap}
+use Prim.Native.Nat.{ℕ, _+_, _*_, _≤_, _<_, _^_}
 use native.Mathlib.Omega.{arith}
-use Prim.Native.Nat.{_^_}
-use Rattle.scripts.proofs.Terms.{TermRecord}
+use mathlib.Core.Path.{_≡_, _∙_, sym, ap}
+use mathlib.Core.Bool.{Bool}
+use mathlib.Core.List.{List}
 use mathlib.Core.Logic.{_⊎_, inl, inr}
-use Rattle.scripts.specs.Ready.{Ready, IsStep, Reached}
+use lib.ListN.{length}
+use denote.Ref.{now}
 use borrow.Author.Needs.{needs}
+use Rattle.records.proofs.Accepted.{accepted-vocabulary}
+use Rattle.columns.specs.Columns.{columnAt}
+use Rattle.columns.specs.Packed.{packedAt}
+use Rattle.scripts.specs.Codes.{codeAt}
+use Rattle.scripts.specs.Numbered.{secondCode, usedNumbers}
+use Rattle.scripts.specs.Format.{entryAt, entries}
+use Rattle.scripts.specs.Ready.{Ready, IsStep}
+use Rattle.scripts.specs.declared.entry.Entry.{Entry}
+use Rattle.scripts.proofs.Extending.{Extends, extends, second-small}
+use Rattle.scripts.proofs.Terms.{code-small, TermRecord}
+use Rattle.scripts.proofs.Formed.{formed}
 use Rattle.scripts.proofs.run.used_column.Statement.{statement}
 use Rattle.scripts.proofs.run.used_column.Tie as tie
-use Rattle.scripts.proofs.run.used_column.Reads as reads
-use Rattle.scripts.proofs.run.used_column.Lts as lts
-use Rattle.columns.proofs.find_column.Reads as find-column-reads
-use Rattle.scripts.proofs.entry.read_entry.Reads as read-entry-reads
-use Rattle.scripts.proofs.run.second_code.Reads as second-code-reads
-use Rattle.scripts.proofs.run.term_code.Reads as term-code-reads
 
--- LAWS BEGIN
 -- what row 18 tells of the extension that was read
 ext : (v s : List ℕ) (marks : List Bool) → Ready v s marks → (i : ℕ) → IsStep s i → (e : Entry) → e ≡ entryAt s i → e .w0 ≡ 4 → Extends v s i
 ext v s marks r i t e q k =
@@ -62,41 +45,30 @@ used-as : (v s : List ℕ) (h : Entry) (owner n x y cx cy : ℕ) → h ≡ entry
     → packedAt cx cy (owner + 512 * x) (columnAt v record { a = h .w1; b = h .w2 } owner n) ≡ usedNumbers v s owner n x y
 used-as v s h owner n x y cx cy e p q = rw (e, p, q)
 
--- LAWS END
-
--- src/run.rt:68:9
 read-entry-requires : tie.Need-read-entry-requires
 read-entry-requires c κs = omega (arith, (formed (now (c .before .before .args .v)) (now (c .before .before .args .s)) (c .before .before .pre .0 .form)) .sized .least)
 
--- src/run.rt:69:9
 term-code-requires : tie.Need-term-code-requires
 term-code-requires c κs = room (now (c .before .before .before .args .s)) _ _ (ap (λ (x : Entry). x .w3) (c .before .before .before .pre .1 .1 .0)) ((ext (now (c .before .before .before .args .v)) (now (c .before .before .before .args .s)) _ (c .before .before .before .pre .0) (c .before .before .before .args .i) (c .before .before .before .pre .1 .0) (c .before .before .before .args .e) (c .before .before .before .pre .1 .1 .0) (c .before .before .before .pre .1 .1 .1)) .first .within)
 
--- src/run.rt:70:9
 second-code-requires : tie.Need-second-code-requires
 second-code-requires c κs = room-second (now (c .before .before .before .before .args .s)) _ _ (ap (λ (x : Entry). x .w4) (c .before .before .before .before .pre .1 .1 .0)) ((ext (now (c .before .before .before .before .args .v)) (now (c .before .before .before .before .args .s)) _ (c .before .before .before .before .pre .0) (c .before .before .before .before .args .i) (c .before .before .before .before .pre .1 .0) (c .before .before .before .before .args .e) (c .before .before .before .before .pre .1 .1 .0) (c .before .before .before .before .pre .1 .1 .1)) .second) ((formed (now (c .before .before .before .before .args .v)) (now (c .before .before .before .before .args .s)) (c .before .before .before .before .pre .0 .form)) .sized .least)
 
--- src/run.rt:71:14
 cast-fx : tie.Need-cast-fx
 cast-fx c = search needs
 
--- src/run.rt:71:35
 cast-fx-2 : tie.Need-cast-fx-2
 cast-fx-2 c = search needs
 
--- src/run.rt:71:28
 mul-fx : tie.Need-mul-fx
 mul-fx c = search needs
 
--- src/run.rt:71:14
 add-fx : tie.Need-add-fx
 add-fx c = search needs
 
--- src/run.rt:72:5
 find-column-requires : tie.Need-find-column-requires
 find-column-requires c κs = (c .before .before .before .before .before .before .before .pre .0 .vocabulary, (c .before .before .before .before .before .before .before .pre .0 .marked, (below-as _ _ _ (c .before .before .before .term-code .ensures ∙ ap (codeAt (now (c .before .before .before .before .before .before .before .args .s))) (ap (λ (x : Entry). x .w3) (c .before .before .before .before .before .before .before .pre .1 .1 .0))) (code-small (now (c .before .before .before .before .before .before .before .args .v)) (now (c .before .before .before .before .before .before .before .args .s)) (accepted-vocabulary (now (c .before .before .before .before .before .before .before .args .v)) _ (c .before .before .before .before .before .before .before .pre .0 .vocabulary)) (formed (now (c .before .before .before .before .before .before .before .args .v)) (now (c .before .before .before .before .before .before .before .args .s)) (c .before .before .before .before .before .before .before .pre .0 .form)) _ ((ext (now (c .before .before .before .before .before .before .before .args .v)) (now (c .before .before .before .before .before .before .before .args .s)) _ (c .before .before .before .before .before .before .before .pre .0) (c .before .before .before .before .before .before .before .args .i) (c .before .before .before .before .before .before .before .pre .1 .0) (c .before .before .before .before .before .before .before .args .e) (c .before .before .before .before .before .before .before .pre .1 .1 .0) (c .before .before .before .before .before .before .before .pre .1 .1 .1)) .first)), (below-as _ _ _ (c .before .before .second-code .ensures ∙ ap (secondCode (now (c .before .before .before .before .before .before .before .args .s))) (ap (λ (x : Entry). x .w4) (c .before .before .before .before .before .before .before .pre .1 .1 .0))) (second-small (now (c .before .before .before .before .before .before .before .args .v)) (now (c .before .before .before .before .before .before .before .args .s)) (accepted-vocabulary (now (c .before .before .before .before .before .before .before .args .v)) _ (c .before .before .before .before .before .before .before .pre .0 .vocabulary)) (formed (now (c .before .before .before .before .before .before .before .args .v)) (now (c .before .before .before .before .before .before .before .args .s)) (c .before .before .before .before .before .before .before .pre .0 .form)) _ ((ext (now (c .before .before .before .before .before .before .before .args .v)) (now (c .before .before .before .before .before .before .before .args .s)) _ (c .before .before .before .before .before .before .before .pre .0) (c .before .before .before .before .before .before .before .args .i) (c .before .before .before .before .before .before .before .pre .1 .0) (c .before .before .before .before .before .before .before .args .e) (c .before .before .before .before .before .before .before .pre .1 .1 .0) (c .before .before .before .before .before .before .before .pre .1 .1 .1)) .second)), applied-small (now (c .before .before .before .before .before .before .before .args .s)) _ _ _ _ (ap (λ (x : Entry). x .w1) (c .before .before .before .before .before .before .before .pre .1 .1 .0)) (ap (λ (x : Entry). x .w3) (c .before .before .before .before .before .before .before .pre .1 .1 .0)) ((ext (now (c .before .before .before .before .before .before .before .args .v)) (now (c .before .before .before .before .before .before .before .args .s)) _ (c .before .before .before .before .before .before .before .pre .0) (c .before .before .before .before .before .before .before .args .i) (c .before .before .before .before .before .before .before .pre .1 .0) (c .before .before .before .before .before .before .before .args .e) (c .before .before .before .before .before .before .before .pre .1 .1 .0) (c .before .before .before .before .before .before .before .pre .1 .1 .1)) .owner) ((ext (now (c .before .before .before .before .before .before .before .args .v)) (now (c .before .before .before .before .before .before .before .args .s)) _ (c .before .before .before .before .before .before .before .pre .0) (c .before .before .before .before .before .before .before .args .i) (c .before .before .before .before .before .before .before .pre .1 .0) (c .before .before .before .before .before .before .before .args .e) (c .before .before .before .before .before .before .before .pre .1 .1 .0) (c .before .before .before .before .before .before .before .pre .1 .1 .1)) .first .within) ((formed (now (c .before .before .before .before .before .before .before .args .v)) (now (c .before .before .before .before .before .before .before .args .s)) (c .before .before .before .before .before .before .before .pre .0 .form)) .sized .most)))))
 
--- src/run.rt:61:1
 returns : tie.Need-returns
 returns c = c .find-column .ensures ∙ used-as (now (c .before .before .before .before .before .before .before .before .args .v)) (now (c .before .before .before .before .before .before .before .before .args .s)) (c .before .before .before .before .before .read-entry .result) (c .before .before .before .before .before .before .before .before .args .e .w1) (c .before .before .before .before .before .before .before .before .args .e .w2) (c .before .before .before .before .before .before .before .before .args .e .w3) (c .before .before .before .before .before .before .before .before .args .e .w4) _ _ (c .before .before .before .before .before .read-entry .ensures) (c .before .before .before .before .term-code .ensures) (c .before .before .before .second-code .ensures)
 

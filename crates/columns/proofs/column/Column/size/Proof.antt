@@ -1,23 +1,17 @@
-use Rattle.columns.proofs.Packing.{size-one, size-two, size-three}
 use borrow.Author.Needs.{needs}
+use Rattle.columns.proofs.Packing.{size-one, size-two, size-three}
 use Rattle.columns.proofs.column.Column.size.Statement.{statement}
 use Rattle.columns.proofs.column.Column.size.Tie as tie
-use Rattle.columns.proofs.column.Column.size.Reads as reads
-use Rattle.columns.proofs.column.Column.size.Lts as lts
 
--- src/column.rt:44:13
 returns : tie.Need-returns
 returns c = search needs
 
--- src/column.rt:47:13
 returns-2 : tie.Need-returns-2
 returns-2 c = size-one (c .before .before .before .before .args .self .first) _ _ (c .before .before .if1 .left) (c .if2 .taken)
 
--- src/column.rt:50:13
 returns-3 : tie.Need-returns-3
 returns-3 c = size-two (c .before .before .before .before .before .before .args .self .first) (c .before .before .before .before .before .before .args .self .second) _ (c .before .before .before .before .if1 .left) (c .before .before .if2 .left) (c .if3 .taken)
 
--- src/column.rt:40:5
 returns-4 : tie.Need-returns-4
 returns-4 c = size-three (c .before .before .before .before .before .before .args .self .first) (c .before .before .before .before .before .before .args .self .second) (c .before .before .before .before .before .before .args .self .third) (c .before .before .before .before .if1 .left) (c .before .before .if2 .left) (c .if3 .left)
 

@@ -1,124 +1,79 @@
-use native.Mathlib.Nat.{add-sub-cancel-left}
-use mathlib.Core.Logic.{⊎-elim}
-use Rattle.records.specs.Outcome.{inTurn, require, _then_}
-use Prim.Native.Nat.{ℕ, _≤_, _<_, _-_, _*_, _/_}
-use lib.ListN.{length}
-use lib.Dec.{eqb, leb, ltb}
-use mathlib.Core.Bool.{Bool, true, false, not, Bool·beq, _&&_, _||_}
-use Rattle.records.specs.Check.{anyBelow}
-use Rattle.scripts.specs.declared.entry.Entry.{Entry}
-use Rattle.scripts.specs.Form.{allZero, isNamed, functionFits, repeats, repeated, earlierTerm, isFunction, entryCheck, linkCheck, formCheck, kindFits, unusedFits, termFits, stepFits, lengthFits}
-use Rattle.scripts.specs.Format.{entryAt, kindOf, isTerm, isStep, lineOf}
-use Rattle.scripts.proofs.Lines.{words-zero, unused-none, unused-past, line-named, function-line, function-other, step-start, step-extension, step-other, repeat-same}
-use Rattle.records.proofs.Order.{stops, stopped, goes, asked, passed, fails, rests, turn-refused, turn-passed, turns-end, any-hit, any-miss}
-use denote.Ref.{now}
-use borrow.Author.Tests.{eq-eqb, ne-eqb, lt-ltb, le-ltb, lt-leb, le-leb, not-true, not-false}
-use mathlib.Core.Path.{_≡_, _∙_, sym, refl, ap}
-use native.Mathlib.Omega.{arith}
 use borrow.Author.Needs.{needs}
 use Rattle.scripts.proofs.entry.Entry.read.Statement.{statement}
 use Rattle.scripts.proofs.entry.Entry.read.Tie as tie
-use Rattle.scripts.proofs.entry.Entry.read.Reads as reads
-use Rattle.scripts.proofs.entry.Entry.read.Lts as lts
-use Rattle.records.proofs.fields.word.Reads as word-reads
 
--- src/entry.rt:32:22
 shared-slice-read-word : tie.Need-shared-slice-read-word
 shared-slice-read-word c = search needs
 
--- src/entry.rt:32:31
 shared-slice-read-word-2 : tie.Need-shared-slice-read-word-2
 shared-slice-read-word-2 c = search needs
 
--- src/entry.rt:32:17
 word-requires : tie.Need-word-requires
 word-requires c κs = search needs
 
--- src/entry.rt:33:22
 shared-slice-read-word-3 : tie.Need-shared-slice-read-word-3
 shared-slice-read-word-3 c = search needs
 
--- src/entry.rt:33:31
 shared-slice-read-word-4 : tie.Need-shared-slice-read-word-4
 shared-slice-read-word-4 c = search needs
 
--- src/entry.rt:33:17
 word-requires-2 : tie.Need-word-requires-2
 word-requires-2 c κs = search needs
 
--- src/entry.rt:34:22
 shared-slice-read-word-5 : tie.Need-shared-slice-read-word-5
 shared-slice-read-word-5 c = search needs
 
--- src/entry.rt:34:31
 shared-slice-read-word-6 : tie.Need-shared-slice-read-word-6
 shared-slice-read-word-6 c = search needs
 
--- src/entry.rt:34:17
 word-requires-3 : tie.Need-word-requires-3
 word-requires-3 c κs = search needs
 
--- src/entry.rt:35:22
 shared-slice-read-word-7 : tie.Need-shared-slice-read-word-7
 shared-slice-read-word-7 c = search needs
 
--- src/entry.rt:35:31
 shared-slice-read-word-8 : tie.Need-shared-slice-read-word-8
 shared-slice-read-word-8 c = search needs
 
--- src/entry.rt:35:17
 word-requires-4 : tie.Need-word-requires-4
 word-requires-4 c κs = search needs
 
--- src/entry.rt:36:22
 shared-slice-read-word-9 : tie.Need-shared-slice-read-word-9
 shared-slice-read-word-9 c = search needs
 
--- src/entry.rt:36:31
 shared-slice-read-word-10 : tie.Need-shared-slice-read-word-10
 shared-slice-read-word-10 c = search needs
 
--- src/entry.rt:36:17
 word-requires-5 : tie.Need-word-requires-5
 word-requires-5 c κs = search needs
 
--- src/entry.rt:37:22
 shared-slice-read-word-11 : tie.Need-shared-slice-read-word-11
 shared-slice-read-word-11 c = search needs
 
--- src/entry.rt:37:32
 shared-slice-read-word-12 : tie.Need-shared-slice-read-word-12
 shared-slice-read-word-12 c = search needs
 
--- src/entry.rt:37:17
 word-requires-6 : tie.Need-word-requires-6
 word-requires-6 c κs = search needs
 
--- src/entry.rt:38:22
 shared-slice-read-word-13 : tie.Need-shared-slice-read-word-13
 shared-slice-read-word-13 c = search needs
 
--- src/entry.rt:38:32
 shared-slice-read-word-14 : tie.Need-shared-slice-read-word-14
 shared-slice-read-word-14 c = search needs
 
--- src/entry.rt:38:17
 word-requires-7 : tie.Need-word-requires-7
 word-requires-7 c κs = search needs
 
--- src/entry.rt:39:22
 shared-slice-read-word-15 : tie.Need-shared-slice-read-word-15
 shared-slice-read-word-15 c = search needs
 
--- src/entry.rt:39:32
 shared-slice-read-word-16 : tie.Need-shared-slice-read-word-16
 shared-slice-read-word-16 c = search needs
 
--- src/entry.rt:39:17
 word-requires-8 : tie.Need-word-requires-8
 word-requires-8 c κs = search needs
 
--- src/entry.rt:27:5
 returns : tie.Need-returns
 returns c = rw (c .before .before .before .before .before .before .before .before .before .before .before .before .before .before .before .before .before .before .before .before .before .word .ensures, c .before .before .before .before .before .before .before .before .before .before .before .before .before .before .before .before .before .before .word2 .ensures, c .before .before .before .before .before .before .before .before .before .before .before .before .before .before .before .word3 .ensures, c .before .before .before .before .before .before .before .before .before .before .before .before .word4 .ensures, c .before .before .before .before .before .before .before .before .before .word5 .ensures, c .before .before .before .before .before .before .word6 .ensures, c .before .before .before .word7 .ensures, c .word8 .ensures)
 
