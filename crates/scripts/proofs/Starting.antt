@@ -2,6 +2,7 @@
 --   start-listed                  row 18: a start names one of the two query columns
 --   start-one                     which has one literal
 --   start-frames                  and is frame 0
+--   first-step                    a first step that is not 0 is a step
 --   chain-none, chain-other, chain-started   the chain's outcome: no step, another first step, a start
 -- Assumes nothing.
 use Prim.Native.Nat.{ℕ, zero, suc, _≤_, _<_}
@@ -11,7 +12,7 @@ use mathlib.Core.Bool.{Bool, true, false, not}
 use mathlib.Core.List.{List, [], _∷_}
 use lib.ListN.{length, getD}
 use lib.Dec.{leb, eqb}
-use borrow.Author.Tests.{leb-true, eqb-true, eqb-false, ne-eqb, not-false}
+use borrow.Author.Tests.{leb-true, eqb-true, eqb-false, ne-eqb, not-true, not-false}
 use Rattle.records.specs.Outcome.{Outcome, Check, accepted, refused, pass, _then_, require}
 use Rattle.records.specs.Answers.{checked}
 use Rattle.records.specs.declared.answers.Checked.{Checked}
@@ -25,7 +26,7 @@ use Rattle.scripts.specs.Ready.{IsStep}
 use Rattle.scripts.specs.declared.entry.Entry.{Entry}
 use Rattle.scripts.proofs.Lines.{by-kind, step-start}
 use Rattle.scripts.proofs.Formed.{Formed}
-use Rattle.scripts.proofs.Walking.{chain-at, chain-end}
+use Rattle.scripts.proofs.Walking.{standing, reached, chain-at, chain-end}
 
 -- a row whose check refused
 row-refused : (k : Checked) (t : Bool) (a b n p : ℕ) → checked k ≡ require t a b → k ≡ Refused n p → t ≡ false
@@ -67,6 +68,10 @@ module _ (v s : List ℕ) (f : Formed v s) where
   pub start-listed : (i : ℕ) (e : Entry) → e ≡ entryAt s i → IsStep s i → e .w0 ≡ 3 → e .w1 ≤ 1
   start-listed i e q t h = leb-true (e .w1) 1 (step-start v s i e h ∙ (rw q (f .steps i (t .positive) (t .within))))
 
+  pub first-step : (first : ℕ) → first ≡ firstStep s → not (eqb first 0) ≡ true → IsStep s first
+  first-step first e n =
+      standing s first (rw e (reached s 0 (firstStep s) (f .first))) (eqb-false first 0 (not-true (eqb first 0) n))
+
   -- the whole outcome of the chain
   abbrev outcome : Outcome ℕ
   outcome = numberChain v s (chain s) then accepted (length (chain s))
@@ -92,12 +97,11 @@ module _ (v s : List ℕ) (f : Formed v s) where
         = rw (← read) (start-other e v s first (chainFrom s (e .w7)) n) in
         a ∙ rw (h, ne-eqb (e .w0) 3 n, begun, no)
 
-    pub chain-started : e .w0 ≡ 3
-        → (numberRun v s (startNumbers v s (e .w1) ∷ []) first (chainFrom s (e .w7)) then accepted (suc (length (chainFrom s (e .w7)))))
-        ≡ outcome
+    pub chain-started : (frames : List (List ℕ)) → frames ≡ startNumbers v s (e .w1) ∷ [] → e .w0 ≡ 3
+        → (numberRun v s frames first (chainFrom s (e .w7)) then accepted (suc (length (chainFrom s (e .w7))))) ≡ outcome
     unfolding numberChain
-    chain-started h =
+    chain-started frames a h =
         let yes : lineStart v s first (chainFrom s (e .w7)) (lineAt s first)
         ≡ numberRun v s (startNumbers v s (e .w1) ∷ []) first (chainFrom s (e .w7))
         = rw (← read) (start-line e v s first (chainFrom s (e .w7)) h) in
-        rw (begun, yes)
+        rw (a, begun, yes)

@@ -1,10 +1,10 @@
 use native.Mathlib.Omega.{arith}
 use mathlib.Core.Path.{_∙_}
 use borrow.Author.Needs.{needs}
-use Rattle.columns.specs.Packed.{constantGroup}
 use Rattle.columns.specs.Literals.{concept}
-use Rattle.columns.proofs.Groups.{past-at}
+use Rattle.columns.specs.Packed.{constantGroup}
 use Rattle.columns.proofs.Packing.{lists-one}
+use Rattle.columns.proofs.Groups.{past-at}
 use Rattle.columns.proofs.column.constant_column.Statement.{statement}
 use Rattle.columns.proofs.column.constant_column.Tie as tie
 

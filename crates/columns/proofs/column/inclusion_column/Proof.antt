@@ -3,10 +3,10 @@ use mathlib.Core.Path.{_∙_}
 use mathlib.Core.Bool.{true, false}
 use borrow.Author.Needs.{needs}
 use Rattle.records.specs.Kinds.{inclusion}
-use Rattle.columns.specs.Columns.{columnsOf}
 use Rattle.columns.specs.Literals.{concept}
-use Rattle.columns.proofs.Groups.{past-at}
+use Rattle.columns.specs.Columns.{columnsOf}
 use Rattle.columns.proofs.Packing.{lists-two}
+use Rattle.columns.proofs.Groups.{past-at}
 use Rattle.columns.proofs.column.inclusion_column.Statement.{statement}
 use Rattle.columns.proofs.column.inclusion_column.Tie as tie
 

@@ -2,10 +2,10 @@ use native.Mathlib.Omega.{arith}
 use mathlib.Core.Path.{_∙_}
 use mathlib.Core.Bool.{not}
 use borrow.Author.Needs.{needs}
-use Rattle.columns.specs.Packed.{junctionGroup}
 use Rattle.columns.specs.Literals.{concept}
-use Rattle.columns.proofs.Groups.{past-at}
+use Rattle.columns.specs.Packed.{junctionGroup}
 use Rattle.columns.proofs.Packing.{lists-two, lists-three}
+use Rattle.columns.proofs.Groups.{past-at}
 use Rattle.columns.proofs.column.junction_column.Statement.{statement}
 use Rattle.columns.proofs.column.junction_column.Tie as tie
 

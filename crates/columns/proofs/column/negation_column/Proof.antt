@@ -3,10 +3,10 @@ use mathlib.Core.Path.{_∙_}
 use lib.Dec.{eqb}
 use borrow.Author.Needs.{needs}
 use Rattle.records.specs.Kinds.{negation}
-use Rattle.columns.specs.Columns.{columnsOf}
 use Rattle.columns.specs.Literals.{concept}
-use Rattle.columns.proofs.Groups.{past-at, negation-at}
+use Rattle.columns.specs.Columns.{columnsOf}
 use Rattle.columns.proofs.Packing.{lists-two}
+use Rattle.columns.proofs.Groups.{past-at, negation-at}
 use Rattle.columns.proofs.column.negation_column.Statement.{statement}
 use Rattle.columns.proofs.column.negation_column.Tie as tie
 

@@ -1,11 +1,11 @@
 use native.Mathlib.Omega.{arith}
 use mathlib.Core.Path.{_∙_}
-use mathlib.Core.Bool.{not, true, false}
+use mathlib.Core.Bool.{true, false, not}
 use borrow.Author.Needs.{needs}
-use Rattle.columns.specs.Packed.{restrictionGroup}
 use Rattle.columns.specs.Literals.{concept, role}
-use Rattle.columns.proofs.Groups.{past-at}
+use Rattle.columns.specs.Packed.{restrictionGroup}
 use Rattle.columns.proofs.Packing.{lists-two, lists-three}
+use Rattle.columns.proofs.Groups.{past-at}
 use Rattle.columns.proofs.column.restriction_column.Statement.{statement}
 use Rattle.columns.proofs.column.restriction_column.Tie as tie
 

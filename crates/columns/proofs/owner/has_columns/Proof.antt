@@ -1,4 +1,4 @@
-use mathlib.Core.Path.{_∙_, sym}
+use mathlib.Core.Path.{sym, _∙_}
 use borrow.Author.Needs.{needs}
 use Rattle.columns.proofs.Owners.{states-marked, states-term}
 use Rattle.columns.proofs.owner.has_columns.Statement.{statement}

@@ -2,10 +2,10 @@ use native.Mathlib.Omega.{arith}
 use mathlib.Core.Path.{_∙_}
 use mathlib.Core.Bool.{true, false}
 use borrow.Author.Needs.{needs}
-use Rattle.columns.specs.Columns.{queryColumns}
 use Rattle.columns.specs.Literals.{concept}
-use Rattle.columns.proofs.Groups.{past-at}
+use Rattle.columns.specs.Columns.{queryColumns}
 use Rattle.columns.proofs.Packing.{lists-one}
+use Rattle.columns.proofs.Groups.{past-at}
 use Rattle.columns.proofs.owner.query_column.Statement.{statement}
 use Rattle.columns.proofs.owner.query_column.Tie as tie
 

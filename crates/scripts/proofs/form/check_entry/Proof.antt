@@ -2,8 +2,8 @@ use native.Mathlib.Omega.{arith}
 use native.Mathlib.Nat.{add-sub-cancel-left}
 use lib.ListN.{length-take, length-drop}
 use borrow.Author.Needs.{needs}
-use Rattle.scripts.specs.Form.{entryCheck}
 use Rattle.scripts.specs.Format.{entryAt}
+use Rattle.scripts.specs.Form.{entryCheck}
 use Rattle.scripts.proofs.form.check_entry.Statement.{statement}
 use Rattle.scripts.proofs.form.check_entry.Tie as tie
 

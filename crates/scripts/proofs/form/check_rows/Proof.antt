@@ -1,9 +1,9 @@
-use mathlib.Core.Path.{_∙_, ap}
+use mathlib.Core.Path.{ap, _∙_}
 use denote.Ref.{now}
 use borrow.Author.Needs.{needs}
 use Rattle.records.proofs.Order.{stops, goes, asked}
-use Rattle.scripts.specs.Form.{kindFits, unusedFits, termFits, stepFits}
 use Rattle.scripts.specs.Format.{lineOf}
+use Rattle.scripts.specs.Form.{kindFits, unusedFits, termFits, stepFits}
 use Rattle.scripts.specs.declared.entry.Entry.{Entry}
 use Rattle.scripts.proofs.form.check_rows.Statement.{statement}
 use Rattle.scripts.proofs.form.check_rows.Tie as tie

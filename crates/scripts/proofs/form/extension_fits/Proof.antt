@@ -1,15 +1,15 @@
 use Prim.Native.Nat.{ℕ}
 use native.Mathlib.Omega.{arith}
-use mathlib.Core.Path.{_≡_, _∙_, ap}
+use mathlib.Core.Path.{_≡_, ap, _∙_}
 use mathlib.Core.Bool.{Bool}
 use mathlib.Core.List.{List}
-use lib.ListN.{length-map, length}
+use lib.ListN.{length, length-map}
 use denote.Ref.{now}
 use borrow.Author.Needs.{needs}
 use borrow.Author.Tests.{lt-ltb, le-ltb}
 use Rattle.records.proofs.Order.{fails, rests}
-use Rattle.columns.specs.Packed.{packedAt}
 use Rattle.columns.specs.Columns.{Column, columnAt}
+use Rattle.columns.specs.Packed.{packedAt}
 use Rattle.scripts.specs.Form.{yFits}
 use Rattle.scripts.proofs.form.extension_fits.Statement.{statement}
 use Rattle.scripts.proofs.form.extension_fits.Tie as tie

@@ -1,4 +1,4 @@
-use mathlib.Core.Path.{_∙_, sym, refl}
+use mathlib.Core.Path.{refl, sym, _∙_}
 use denote.Ref.{now}
 use borrow.Author.Needs.{needs}
 use Rattle.scripts.proofs.Lines.{step-start, step-extension, step-other}

@@ -1,11 +1,11 @@
 use Prim.Native.Nat.{ℕ, _<_}
 use native.Mathlib.Omega.{arith}
 use native.Mathlib.Decide.{decLt}
-use mathlib.Core.Path.{_≡_, _∙_, sym}
-use mathlib.Core.Bool.{and-true, true}
+use mathlib.Core.Path.{_≡_, sym, _∙_}
+use mathlib.Core.Bool.{true, and-true}
 use borrow.Author.Needs.{needs}
-use Rattle.scripts.specs.Form.{allZero}
 use Rattle.scripts.specs.Format.{kindOf}
+use Rattle.scripts.specs.Form.{allZero}
 use Rattle.scripts.specs.declared.entry.Entry.{Entry}
 use Rattle.scripts.proofs.Lines.{unused-none, unused-past}
 use Rattle.scripts.proofs.form.unused_fits.Statement.{statement}

@@ -1,30 +1,33 @@
-use Prim.Native.Nat.{suc, ℕ}
+-- `scripts::run::check_chain` meets its contract. Row 20 asks for a start as first step; its frame, and the steps after it, are run.
+-- Assumes nothing.
+use Prim.Native.Nat.{_<_}
 use native.Mathlib.Omega.{arith}
-use mathlib.Core.Path.{_≡_, _∙_, sym, ap}
-use mathlib.Core.Bool.{true, false, not}
-use mathlib.Core.List.{List}
-use lib.ListN.{length}
-use lib.Dec.{eqb}
+use mathlib.Core.Path.{_≡_, ap, _∙_}
 use denote.Ref.{now}
 use borrow.Author.Needs.{needs}
 use borrow.Author.Tests.{eqb-true}
-use Rattle.records.specs.Answers.{checked}
-use Rattle.records.specs.Outcome.{_then_, accepted}
-use Rattle.records.proofs.Passed.{require-passed, clash}
-use Rattle.scripts.specs.Numbered.{numberRun}
-use Rattle.scripts.specs.Format.{chainFrom}
+use Rattle.records.proofs.Passed.{require-passed}
+use Rattle.records.proofs.Order.{passed}
+use Rattle.scripts.specs.Format.{firstStep}
+use Rattle.scripts.specs.Machine.{framesOf}
+use Rattle.scripts.specs.Ready.{IsStep}
 use Rattle.scripts.specs.declared.entry.Entry.{Entry}
+use Rattle.scripts.proofs.Formed.{formed, Formed}
+use Rattle.scripts.proofs.Walking.{next-reached}
 use Rattle.scripts.proofs.Starting.{start-listed, start-one, start-frames, chain-none, chain-other, chain-started}
-use Rattle.scripts.proofs.Walking.{standing, next-reached, reached}
-use Rattle.scripts.proofs.Formed.{formed}
+use Rattle.scripts.proofs.Starting.{first-step}
 use Rattle.scripts.proofs.run.check_chain.Statement.{statement}
 use Rattle.scripts.proofs.run.check_chain.Tie as tie
 
-nonzero : (n : ℕ) → not (eqb n 0) ≡ true → n ≡ 0 → ⊥
-nonzero n e z = let no : not (eqb n 0) ≡ false = rw z in clash (cc)
+form : (c : tie.Start) → Formed (now (c .args .v)) (now (c .args .s))
+form c = formed _ _ (c .pre .form)
 
 read-entry-requires : tie.Need-read-entry-requires
-read-entry-requires c κs = omega (arith, (formed (now (c .before .before .args .v)) (now (c .before .before .args .s)) (c .before .before .pre .form)) .sized .least)
+read-entry-requires c κs = omega (arith, form (c .before .before) .sized .least)
+
+-- the number of the first step, in the header
+first-at : (c : tie.After-read-entry) → c .read-entry .result .w3 ≡ firstStep (now (c .before .before .before .args .s))
+first-at c = ap (λ (x : Entry). x .w3) (c .read-entry .ensures)
 
 cast-first : tie.Need-cast-first
 cast-first c = search needs
@@ -35,6 +38,16 @@ pass-if-requires c κs = search needs
 enum-told : tie.Need-enum-told
 enum-told c = search needs
 
+-- there is one
+first : (c : tie.After-enum-told)
+    → IsStep (now (c .before .before .before .before .before .before .before .args .s))
+    (c .before .before .before .before .read-entry .result .w3)
+first c =
+    let h = c .before .before .before .before in
+    let b = h .before .before .before in
+    first-step (now (b .args .v)) (now (b .args .s)) (form b) _ (first-at h)
+    (require-passed _ _ _ (passed _ _ (c .before .before .pass-if .ensures) (c .enum-told .given .1)))
+
 enum-told-2 : tie.Need-enum-told-2
 enum-told-2 c = search needs
 
@@ -42,16 +55,24 @@ judge-after-requires : tie.Need-judge-after-requires
 judge-after-requires c κs = search needs
 
 returns : tie.Need-returns
-returns c = chain-none (now (c .before .before .before .before .before .before .before .before .args .v)) (now (c .before .before .before .before .before .before .before .before .args .s)) (formed (now (c .before .before .before .before .before .before .before .before .args .v)) (now (c .before .before .before .before .before .before .before .before .args .s)) (c .before .before .before .before .before .before .before .before .pre .form)) _ _ _ _ _ (ap (λ (x : Entry). x .w3) (c .before .before .before .before .before .read-entry .ensures)) (c .before .enum-told2 .given .1) (c .before .before .before .pass-if .ensures) (c .judge-after .ensures)
+returns c =
+    let h = c .before .before .before .before .before in
+    let b = h .before .before .before in
+    chain-none (now (b .args .v)) (now (b .args .s)) (form b) _ _ _ _ _ (first-at h) (c .before .enum-told2 .given .1)
+    (c .before .before .before .pass-if .ensures) (c .judge-after .ensures)
 
 read-entry-requires-2 : tie.Need-read-entry-requires-2
-read-entry-requires-2 c κs = omega (arith, (standing (now (c .before .before .before .before .before .before .before .args .s)) (c .before .before .before .before .read-entry .result .w3) (rw (ap (λ (x : Entry). x .w3) (c .before .before .before .before .read-entry .ensures)) (reached (now (c .before .before .before .before .before .before .before .args .s)) 0 _ ((formed (now (c .before .before .before .before .before .before .before .args .v)) (now (c .before .before .before .before .before .before .before .args .s)) (c .before .before .before .before .before .before .before .pre .form)) .first))) (nonzero _ (require-passed _ _ _ (sym (c .before .before .pass-if .ensures) ∙ ap checked (c .enum-told .given .1))))) .within)
+read-entry-requires-2 c κs = omega (arith, first c .within)
 
 pass-if-requires-2 : tie.Need-pass-if-requires-2
 pass-if-requires-2 c κs = search needs
 
 enum-told-3 : tie.Need-enum-told-3
 enum-told-3 c = search needs
+
+-- it is a start
+started : (c : tie.After-enum-told3) → c .before .before .before .before .read-entry2 .result .w0 ≡ 3
+started c = eqb-true _ 3 (require-passed _ _ _ (passed _ _ (c .before .before .pass-if2 .ensures) (c .enum-told3 .given .1)))
 
 enum-told-4 : tie.Need-enum-told-4
 enum-told-4 c = search needs
@@ -60,7 +81,12 @@ judge-after-requires-2 : tie.Need-judge-after-requires-2
 judge-after-requires-2 c κs = search needs
 
 returns-2 : tie.Need-returns-2
-returns-2 c = chain-other (now (c .before .before .before .before .before .before .before .before .before .before .before .before .before .args .v)) (now (c .before .before .before .before .before .before .before .before .before .before .before .before .before .args .s)) (formed (now (c .before .before .before .before .before .before .before .before .before .before .before .before .before .args .v)) (now (c .before .before .before .before .before .before .before .before .before .before .before .before .before .args .s)) (c .before .before .before .before .before .before .before .before .before .before .before .before .before .pre .form)) _ (ap (λ (x : Entry). x .w3) (c .before .before .before .before .before .before .before .before .before .before .read-entry .ensures)) (standing (now (c .before .before .before .before .before .before .before .before .before .before .before .before .before .args .s)) (c .before .before .before .before .before .before .before .before .before .before .read-entry .result .w3) (rw (ap (λ (x : Entry). x .w3) (c .before .before .before .before .before .before .before .before .before .before .read-entry .ensures)) (reached (now (c .before .before .before .before .before .before .before .before .before .before .before .before .before .args .s)) 0 _ ((formed (now (c .before .before .before .before .before .before .before .before .before .before .before .before .before .args .v)) (now (c .before .before .before .before .before .before .before .before .before .before .before .before .before .args .s)) (c .before .before .before .before .before .before .before .before .before .before .before .before .before .pre .form)) .first))) (nonzero _ (require-passed _ _ _ (sym (c .before .before .before .before .before .before .before .before .pass-if .ensures) ∙ ap checked (c .before .before .before .before .before .before .enum-told .given .1))))) _ (c .before .before .before .before .before .read-entry2 .ensures) _ _ _ _ (c .before .enum-told4 .given .1) (c .before .before .before .pass-if2 .ensures) (c .judge-after2 .ensures)
+returns-2 c =
+    let e = c .before .before .before .before .before in
+    let h = e .before .before .before .before .before in
+    let b = h .before .before .before in
+    chain-other (now (b .args .v)) (now (b .args .s)) (form b) _ (first-at h) (first (e .before)) _ (e .read-entry2 .ensures)
+    _ _ _ _ (c .before .enum-told4 .given .1) (c .before .before .before .pass-if2 .ensures) (c .judge-after2 .ensures)
 
 empty-requires : tie.Need-empty-requires
 empty-requires c κs = search needs
@@ -68,17 +94,48 @@ empty-requires c κs = search needs
 query-column-requires : tie.Need-query-column-requires
 query-column-requires c κs = search needs
 
+-- its column has one literal
+single : (c : tie.After-query-column) → (0 < c .query-column .result .first) × (c .query-column .result .second ≡ 0)
+single c =
+    let g = c .before .before in
+    let e = g .before .before .before .before in
+    let h = e .before .before .before .before .before in
+    let b = h .before .before .before in
+    start-one record { a = h .read-entry .result .w1; b = h .read-entry .result .w2 } (e .read-entry2 .result .w1) _ _ _
+    (start-listed (now (b .args .v)) (now (b .args .s)) (form b) _ _ (e .read-entry2 .ensures) (first (e .before)) (started g))
+    (c .query-column .ensures 0 0 0)
+
 start-requires : tie.Need-start-requires
-start-requires c κs = (omega (arith, c .before .empty .ensures .1), ((start-one record { a = c .before .before .before .before .before .before .before .before .before .before .before .read-entry .result .w1; b = c .before .before .before .before .before .before .before .before .before .before .before .read-entry .result .w2 } (c .before .before .before .before .before .before .read-entry2 .result .w1) (c .query-column .result .first) (c .query-column .result .second) (c .query-column .result .third) (start-listed (now (c .before .before .before .before .before .before .before .before .before .before .before .before .before .before .args .v)) (now (c .before .before .before .before .before .before .before .before .before .before .before .before .before .before .args .s)) (formed (now (c .before .before .before .before .before .before .before .before .before .before .before .before .before .before .args .v)) (now (c .before .before .before .before .before .before .before .before .before .before .before .before .before .before .args .s)) (c .before .before .before .before .before .before .before .before .before .before .before .before .before .before .pre .form)) _ _ (c .before .before .before .before .before .before .read-entry2 .ensures) (standing (now (c .before .before .before .before .before .before .before .before .before .before .before .before .before .before .args .s)) (c .before .before .before .before .before .before .before .before .before .before .before .read-entry .result .w3) (rw (ap (λ (x : Entry). x .w3) (c .before .before .before .before .before .before .before .before .before .before .before .read-entry .ensures)) (reached (now (c .before .before .before .before .before .before .before .before .before .before .before .before .before .before .args .s)) 0 _ ((formed (now (c .before .before .before .before .before .before .before .before .before .before .before .before .before .before .args .v)) (now (c .before .before .before .before .before .before .before .before .before .before .before .before .before .before .args .s)) (c .before .before .before .before .before .before .before .before .before .before .before .before .before .before .pre .form)) .first))) (nonzero _ (require-passed _ _ _ (sym (c .before .before .before .before .before .before .before .before .before .pass-if .ensures) ∙ ap checked (c .before .before .before .before .before .before .before .enum-told .given .1))))) (eqb-true _ 3 (require-passed _ _ _ (sym (c .before .before .before .before .pass-if2 .ensures) ∙ ap checked (c .before .before .enum-told3 .given .1))))) (c .query-column .ensures 0 0 0)) .1, (start-one record { a = c .before .before .before .before .before .before .before .before .before .before .before .read-entry .result .w1; b = c .before .before .before .before .before .before .before .before .before .before .before .read-entry .result .w2 } (c .before .before .before .before .before .before .read-entry2 .result .w1) (c .query-column .result .first) (c .query-column .result .second) (c .query-column .result .third) (start-listed (now (c .before .before .before .before .before .before .before .before .before .before .before .before .before .before .args .v)) (now (c .before .before .before .before .before .before .before .before .before .before .before .before .before .before .args .s)) (formed (now (c .before .before .before .before .before .before .before .before .before .before .before .before .before .before .args .v)) (now (c .before .before .before .before .before .before .before .before .before .before .before .before .before .before .args .s)) (c .before .before .before .before .before .before .before .before .before .before .before .before .before .before .pre .form)) _ _ (c .before .before .before .before .before .before .read-entry2 .ensures) (standing (now (c .before .before .before .before .before .before .before .before .before .before .before .before .before .before .args .s)) (c .before .before .before .before .before .before .before .before .before .before .before .read-entry .result .w3) (rw (ap (λ (x : Entry). x .w3) (c .before .before .before .before .before .before .before .before .before .before .before .read-entry .ensures)) (reached (now (c .before .before .before .before .before .before .before .before .before .before .before .before .before .before .args .s)) 0 _ ((formed (now (c .before .before .before .before .before .before .before .before .before .before .before .before .before .before .args .v)) (now (c .before .before .before .before .before .before .before .before .before .before .before .before .before .before .args .s)) (c .before .before .before .before .before .before .before .before .before .before .before .before .before .before .pre .form)) .first))) (nonzero _ (require-passed _ _ _ (sym (c .before .before .before .before .before .before .before .before .before .pass-if .ensures) ∙ ap checked (c .before .before .before .before .before .before .before .enum-told .given .1))))) (eqb-true _ 3 (require-passed _ _ _ (sym (c .before .before .before .before .pass-if2 .ensures) ∙ ap checked (c .before .before .enum-told3 .given .1))))) (c .query-column .ensures 0 0 0)) .0))
+start-requires c κs = (omega (arith, c .before .empty .ensures .1), (single c .1, single c .0))
 
 cast-run-steps : tie.Need-cast-run-steps
 cast-run-steps c = search needs
 
 run-steps-requires : tie.Need-run-steps-requires
-run-steps-requires c κs = (c .before .before .before .before .before .before .before .before .before .before .before .before .before .before .before .before .pre, (rw (ap (λ (x : Entry). x .w7) (c .before .before .before .before .before .before .before .before .read-entry2 .ensures)) (next-reached (now (c .before .before .before .before .before .before .before .before .before .before .before .before .before .before .before .before .args .v)) (now (c .before .before .before .before .before .before .before .before .before .before .before .before .before .before .before .before .args .s)) (formed (now (c .before .before .before .before .before .before .before .before .before .before .before .before .before .before .before .before .args .v)) (now (c .before .before .before .before .before .before .before .before .before .before .before .before .before .before .before .before .args .s)) (c .before .before .before .before .before .before .before .before .before .before .before .before .before .before .before .before .pre .form)) _ (standing (now (c .before .before .before .before .before .before .before .before .before .before .before .before .before .before .before .before .args .s)) (c .before .before .before .before .before .before .before .before .before .before .before .before .before .read-entry .result .w3) (rw (ap (λ (x : Entry). x .w3) (c .before .before .before .before .before .before .before .before .before .before .before .before .before .read-entry .ensures)) (reached (now (c .before .before .before .before .before .before .before .before .before .before .before .before .before .before .before .before .args .s)) 0 _ ((formed (now (c .before .before .before .before .before .before .before .before .before .before .before .before .before .before .before .before .args .v)) (now (c .before .before .before .before .before .before .before .before .before .before .before .before .before .before .before .before .args .s)) (c .before .before .before .before .before .before .before .before .before .before .before .before .before .before .before .before .pre .form)) .first))) (nonzero _ (require-passed _ _ _ (sym (c .before .before .before .before .before .before .before .before .before .before .before .pass-if .ensures) ∙ ap checked (c .before .before .before .before .before .before .before .before .before .enum-told .given .1)))))), c .before .start .ensures .1))
+run-steps-requires c κs =
+    let e = c .before .before .before .before .before .before .before .before in
+    let b = e .before .before .before .before .before .before .before .before in (
+      b .pre,
+      (
+        rw (ap (λ (x : Entry). x .w7) (e .read-entry2 .ensures))
+            (next-reached (now (b .args .v)) (now (b .args .s)) (form b) _ (first (e .before))),
+        c .before .start .ensures .1,
+      ),
+    )
 
 returns-3 : tie.Need-returns-3
-returns-3 c = c .run-steps .ensures ∙ (ap (λ (x : List (List ℕ)). numberRun (now (c .before .before .before .before .before .before .before .before .before .before .before .before .before .before .before .before .before .args .v)) (now (c .before .before .before .before .before .before .before .before .before .before .before .before .before .before .before .before .before .args .s)) x (c .before .before .before .before .before .before .before .before .before .before .before .before .before .before .read-entry .result .w3) (chainFrom (now (c .before .before .before .before .before .before .before .before .before .before .before .before .before .before .before .before .before .args .s)) (c .before .before .before .before .before .before .before .before .before .read-entry2 .result .w7)) then accepted (suc (length (chainFrom (now (c .before .before .before .before .before .before .before .before .before .before .before .before .before .before .before .before .before .args .s)) (c .before .before .before .before .before .before .before .before .before .read-entry2 .result .w7))))) (start-frames (now (c .before .before .before .before .before .before .before .before .before .before .before .before .before .before .before .before .before .args .v)) (now (c .before .before .before .before .before .before .before .before .before .before .before .before .before .before .before .before .before .args .s)) _ (c .before .before .before .before .before .before .before .before .before .before .before .before .before .before .read-entry .ensures) (c .before .before .before .before .before .before .before .before .before .read-entry2 .result .w1) _ _ _ (c .before .before .start .ensures .0) (c .before .before .before .before .empty .ensures .0) (c .before .before .before .query-column .ensures 0 0 0)) ∙ chain-started (now (c .before .before .before .before .before .before .before .before .before .before .before .before .before .before .before .before .before .args .v)) (now (c .before .before .before .before .before .before .before .before .before .before .before .before .before .before .before .before .before .args .s)) (formed (now (c .before .before .before .before .before .before .before .before .before .before .before .before .before .before .before .before .before .args .v)) (now (c .before .before .before .before .before .before .before .before .before .before .before .before .before .before .before .before .before .args .s)) (c .before .before .before .before .before .before .before .before .before .before .before .before .before .before .before .before .before .pre .form)) _ (ap (λ (x : Entry). x .w3) (c .before .before .before .before .before .before .before .before .before .before .before .before .before .before .read-entry .ensures)) (standing (now (c .before .before .before .before .before .before .before .before .before .before .before .before .before .before .before .before .before .args .s)) (c .before .before .before .before .before .before .before .before .before .before .before .before .before .before .read-entry .result .w3) (rw (ap (λ (x : Entry). x .w3) (c .before .before .before .before .before .before .before .before .before .before .before .before .before .before .read-entry .ensures)) (reached (now (c .before .before .before .before .before .before .before .before .before .before .before .before .before .before .before .before .before .args .s)) 0 _ ((formed (now (c .before .before .before .before .before .before .before .before .before .before .before .before .before .before .before .before .before .args .v)) (now (c .before .before .before .before .before .before .before .before .before .before .before .before .before .before .before .before .before .args .s)) (c .before .before .before .before .before .before .before .before .before .before .before .before .before .before .before .before .before .pre .form)) .first))) (nonzero _ (require-passed _ _ _ (sym (c .before .before .before .before .before .before .before .before .before .before .before .before .pass-if .ensures) ∙ ap checked (c .before .before .before .before .before .before .before .before .before .before .enum-told .given .1))))) _ (c .before .before .before .before .before .before .before .before .before .read-entry2 .ensures) (eqb-true _ 3 (require-passed _ _ _ (sym (c .before .before .before .before .before .before .before .pass-if2 .ensures) ∙ ap checked (c .before .before .before .before .before .enum-told3 .given .1)))))
+returns-3 c =
+    let m = c .before .before in
+    let g = m .before .before .before in
+    let e = g .before .before .before .before in
+    let h = e .before .before .before .before .before in
+    let b = h .before .before .before in
+    c .run-steps .ensures
+    ∙ chain-started (now (b .args .v)) (now (b .args .s)) (form b) _ (first-at h) (first (e .before)) _ (e .read-entry2 .ensures)
+    (framesOf (m .start .result))
+    (start-frames (now (b .args .v)) (now (b .args .s)) _ (h .read-entry .ensures) (e .read-entry2 .result .w1) _ _ _
+    (m .start .ensures .0) (m .before .before .empty .ensures .0) (m .before .query-column .ensures 0 0 0))
+    (started g)
 
 pub check-chain-spec : {M : Type 1} → statement M
 check-chain-spec =

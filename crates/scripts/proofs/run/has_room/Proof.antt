@@ -1,4 +1,4 @@
-use Prim.Native.Nat.{zero, suc, ℕ}
+use Prim.Native.Nat.{ℕ, zero, suc}
 use mathlib.Core.Path.{_≡_, refl}
 use mathlib.Core.Bool.{Bool, _||_}
 use lib.Dec.{ltb}
