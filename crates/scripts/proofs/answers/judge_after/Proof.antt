@@ -1,3 +1,5 @@
+-- `scripts::answers::judge_after` meets its contract. A check that passed leaves what comes after it, a refusal stands.
+-- Assumes nothing.
 use borrow.Author.Needs.{needs}
 use Rattle.scripts.proofs.answers.judge_after.Statement.{statement}
 use Rattle.scripts.proofs.answers.judge_after.Tie as tie

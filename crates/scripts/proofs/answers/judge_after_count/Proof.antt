@@ -1,3 +1,5 @@
+-- `scripts::answers::judge_after_count` meets its contract. A vocabulary that was accepted leaves what comes after it, a refusal stands.
+-- Assumes nothing.
 use borrow.Author.Needs.{needs}
 use Rattle.scripts.proofs.answers.judge_after_count.Statement.{statement}
 use Rattle.scripts.proofs.answers.judge_after_count.Tie as tie

@@ -1,3 +1,5 @@
+-- `scripts::entry::is_term_entry` meets its contract. The kinds 1 and 2 are tested as a range.
+-- Assumes nothing.
 use Prim.Native.Nat.{ℕ, _≤_, _<_}
 use native.Mathlib.Omega.{arith}
 use mathlib.Core.Path.{_≡_, refl}

@@ -1,3 +1,5 @@
+-- `scripts::entry::read_entry` meets its contract. The part that is handed on is the record.
+-- Assumes nothing.
 use native.Mathlib.Nat.{add-sub-cancel-left}
 use borrow.Author.Needs.{needs}
 use Rattle.scripts.specs.Format.{entryAt}

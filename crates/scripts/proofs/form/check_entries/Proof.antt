@@ -1,3 +1,5 @@
+-- `scripts::form::check_entries` meets its contract. Record 1 is there; the loop's invariant: the records from `i` on decide.
+-- Assumes nothing.
 use Prim.Native.Nat.{_-_}
 use native.Mathlib.Omega.{arith}
 use mathlib.Core.Path.{_≡_, refl, sym, _∙_}
@@ -33,7 +35,10 @@ loop-holds : tie.Need-loop-holds Inv-loop μ-loop
 loop-holds c = refl
 
 check-entry-requires : tie.Need-check-entry-requires Inv-loop μ-loop
-check-entry-requires c κs = (c .before .before .before .before .before .before .before .before .pre .0, (c .before .before .before .before .before .before .before .before .pre .1 .0, (omega arith, c .before .before .read-entry .ensures)))
+check-entry-requires c κs =
+    let r = c .before .before in
+    let p = r .before .before .before .before .before .before .pre in
+    (p .0, (p .1 .0, (omega arith, r .read-entry .ensures)))
 
 enum-told-3 : tie.Need-enum-told-3 Inv-loop μ-loop
 enum-told-3 c = search needs
@@ -42,7 +47,12 @@ enum-told-4 : tie.Need-enum-told-4 Inv-loop μ-loop
 enum-told-4 c = search needs
 
 returns-2 : tie.Need-returns-2 Inv-loop μ-loop
-returns-2 c = goes _ _ _ _ (c .before .before .before .before .before .before .before .before .pass-if .ensures) (c .before .before .before .before .before .before .enum-told .given .1) (turn-refused _ _ _ _ _ _ (c .before .before .before .loop-test .taken) (c .before .before .check-entry .ensures) (c .enum-told4 .given .1) ∙ sym (c .before .before .before .before .loop .inv))
+returns-2 c =
+    let w = c .before .before .before in
+    let t = w .before .before .before in
+    goes _ _ _ _ (t .before .before .pass-if .ensures) (t .enum-told .given .1)
+    (turn-refused _ _ _ _ _ _ (w .loop-test .taken) (c .before .before .check-entry .ensures) (c .enum-told4 .given .1)
+    ∙ sym (w .before .loop .inv))
 
 add-i : tie.Need-add-i Inv-loop μ-loop
 add-i c = omega arith
@@ -51,10 +61,16 @@ loop-less : tie.Need-loop-less Inv-loop μ-loop
 loop-less c = omega arith
 
 loop-again : tie.Need-loop-again Inv-loop μ-loop
-loop-again c = c .before .before .before .before .loop .inv ∙ turn-passed _ _ _ _ (c .before .before .before .loop-test .taken) (c .before .before .check-entry .ensures) (c .enum-told3 .given .1)
+loop-again c =
+    let w = c .before .before .before in
+    w .before .loop .inv
+    ∙ turn-passed _ _ _ _ (w .loop-test .taken) (c .before .before .check-entry .ensures) (c .enum-told3 .given .1)
 
 returns-3 : tie.Need-returns-3 Inv-loop μ-loop
-returns-3 c = goes _ _ _ _ (c .before .before .before .before .before .pass-if .ensures) (c .before .before .before .enum-told .given .1) (sym (c .before .loop .inv ∙ turns-end _ _ _ (c .loop-test .left)))
+returns-3 c =
+    let t = c .before .before .before in
+    goes _ _ _ _ (t .before .before .pass-if .ensures) (t .enum-told .given .1)
+    (sym (c .before .loop .inv ∙ turns-end _ _ _ (c .loop-test .left)))
 
 pub check-entries-spec : {M : Type 1} → statement M
 check-entries-spec =

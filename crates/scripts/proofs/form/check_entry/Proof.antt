@@ -1,3 +1,5 @@
+-- `scripts::form::check_entry` meets its contract. The part that is handed on is the record.
+-- Assumes nothing.
 use native.Mathlib.Omega.{arith}
 use native.Mathlib.Nat.{add-sub-cancel-left}
 use lib.ListN.{length-take, length-drop}
@@ -23,7 +25,9 @@ part-check-rows-end : tie.Need-part-check-rows-end
 part-check-rows-end c = search needs
 
 check-rows-requires : tie.Need-check-rows-requires
-check-rows-requires c κs = (c .before .before .before .pre .0, (c .before .before .before .pre .1 .0, (omega arith, (c .before .before .before .pre .1 .1 .1, simp (length-take, length-drop) (omega arith)))))
+check-rows-requires c κs =
+    let p = c .before .before .before .pre in
+    (p .0, (p .1 .0, (omega arith, (p .1 .1 .1, simp (length-take, length-drop) (omega arith)))))
 
 returns : tie.Need-returns
 unfolding entryCheck entryAt

@@ -1,3 +1,5 @@
+-- `scripts::form::check_header` meets its contract. The row's test is what `header_fits` answers.
+-- Assumes nothing.
 use mathlib.Core.Path.{_∙_}
 use borrow.Author.Needs.{needs}
 use Rattle.scripts.proofs.form.check_header.Statement.{statement}

@@ -1,3 +1,5 @@
+-- `scripts::form::check_link` meets its contract. A record that is no step has no next to check.
+-- Assumes nothing.
 use mathlib.Core.Path.{_∙_}
 use denote.Ref.{now}
 use borrow.Author.Needs.{needs}
@@ -20,11 +22,20 @@ pass-if-requires c κs = search needs
 
 returns : tie.Need-returns
 unfolding linkCheck
-returns c = c .pass-if .ensures ∙ link-made (now (c .before .before .before .before .before .before .args .s)) (c .before .before .before .before .before .before .args .i) (c .before .before .before .before .read-entry .result) (c .before .before .before .before .read-entry .ensures) _ (c .before .before .before .is-step-entry .ensures) (c .before .before .if1 .taken) _ (c .before .link-fits .ensures)
+returns c =
+    let r = c .before .before .before .before in
+    let a = r .before .before .args in
+    c .pass-if .ensures
+    ∙ link-made (now (a .s)) (a .i) (r .read-entry .result) (r .read-entry .ensures) _
+    (c .before .before .before .is-step-entry .ensures) (c .before .before .if1 .taken) _ (c .before .link-fits .ensures)
 
 returns-2 : tie.Need-returns-2
 unfolding linkCheck
-returns-2 c = link-none (now (c .before .before .before .before .args .s)) (c .before .before .before .before .args .i) (c .before .before .read-entry .result) (c .before .before .read-entry .ensures) _ (c .before .is-step-entry .ensures) (c .if1 .left)
+returns-2 c =
+    let r = c .before .before in
+    let a = r .before .before .args in
+    link-none (now (a .s)) (a .i) (r .read-entry .result) (r .read-entry .ensures) _ (c .before .is-step-entry .ensures)
+    (c .if1 .left)
 
 pub check-link-spec : {M : Type 1} → statement M
 check-link-spec =

@@ -1,10 +1,14 @@
+-- `scripts::form::check_links` meets its contract. The header's link passed; the loop's invariant: the records from `i` on decide.
+-- Assumes nothing.
 use Prim.Native.Nat.{_-_}
 use native.Mathlib.Omega.{arith}
 use mathlib.Core.Path.{_≡_, refl, sym, ap, _∙_}
 use denote.Ref.{now}
 use borrow.Author.Needs.{needs}
-use Rattle.records.specs.Outcome.{inTurn}
+use Rattle.records.specs.Outcome.{require, inTurn}
+use Rattle.records.specs.Answers.{checked}
 use Rattle.records.proofs.Order.{stops, goes, asked, turn-refused, turn-passed, turns-end}
+use Rattle.scripts.specs.Format.{firstStep}
 use Rattle.scripts.specs.Form.{linkFits, linkCheck}
 use Rattle.scripts.specs.declared.entry.Entry.{Entry}
 use Rattle.scripts.proofs.form.check_links.Statement.{statement}
@@ -25,6 +29,15 @@ link-fits-requires c κs = tt
 pass-if-requires : tie.Need-pass-if-requires Inv-loop μ-loop
 pass-if-requires c κs = tt
 
+-- row 19 at the header
+first : (c : tie.After-pass-if Inv-loop μ-loop)
+    → let s = now (c .before .before .before .before .args .s) in
+    checked (c .pass-if .result) ≡ require (linkFits s 0 (firstStep s)) 19 0
+first c =
+    let r = c .before .before in
+    asked _ _ _ _ _ (c .pass-if .ensures)
+    (c .before .link-fits .ensures ∙ ap (λ (x : Entry). linkFits (now (r .before .before .args .s)) 0 (x .w3)) (r .read-entry .ensures))
+
 enum-told : tie.Need-enum-told Inv-loop μ-loop
 enum-told c = search needs
 
@@ -32,7 +45,8 @@ enum-told-2 : tie.Need-enum-told-2 Inv-loop μ-loop
 enum-told-2 c = search needs
 
 returns : tie.Need-returns Inv-loop μ-loop
-returns c = stops _ _ _ _ _ (asked _ _ _ _ _ (c .before .before .pass-if .ensures) (c .before .before .before .link-fits .ensures ∙ ap (λ (x : Entry). linkFits (now (c .before .before .before .before .before .before .args .s)) 0 (x .w3)) (c .before .before .before .before .read-entry .ensures))) (c .enum-told2 .given .1)
+returns c =
+    stops _ _ _ _ _ (first (c .before .before)) (c .enum-told2 .given .1)
 
 loop-holds : tie.Need-loop-holds Inv-loop μ-loop
 loop-holds c = refl
@@ -47,7 +61,12 @@ enum-told-4 : tie.Need-enum-told-4 Inv-loop μ-loop
 enum-told-4 c = search needs
 
 returns-2 : tie.Need-returns-2 Inv-loop μ-loop
-returns-2 c = goes _ _ _ _ (asked _ _ _ _ _ (c .before .before .before .before .before .before .before .pass-if .ensures) (c .before .before .before .before .before .before .before .before .link-fits .ensures ∙ ap (λ (x : Entry). linkFits (now (c .before .before .before .before .before .before .before .before .before .before .before .args .s)) 0 (x .w3)) (c .before .before .before .before .before .before .before .before .before .read-entry .ensures))) (c .before .before .before .before .before .enum-told .given .1) (turn-refused _ _ _ _ _ _ (c .before .before .before .loop-test .taken) (c .before .before .check-link .ensures) (c .enum-told4 .given .1) ∙ sym (c .before .before .before .before .loop .inv))
+returns-2 c =
+    let w = c .before .before .before in
+    let t = w .before .before in
+    goes _ _ _ _ (first (t .before .before)) (t .enum-told .given .1)
+    (turn-refused _ _ _ _ _ _ (w .loop-test .taken) (c .before .before .check-link .ensures) (c .enum-told4 .given .1)
+    ∙ sym (w .before .loop .inv))
 
 add-i : tie.Need-add-i Inv-loop μ-loop
 add-i c = omega arith
@@ -56,10 +75,16 @@ loop-less : tie.Need-loop-less Inv-loop μ-loop
 loop-less c = omega arith
 
 loop-again : tie.Need-loop-again Inv-loop μ-loop
-loop-again c = c .before .before .before .before .loop .inv ∙ turn-passed _ _ _ _ (c .before .before .before .loop-test .taken) (c .before .before .check-link .ensures) (c .enum-told3 .given .1)
+loop-again c =
+    let w = c .before .before .before in
+    w .before .loop .inv
+    ∙ turn-passed _ _ _ _ (w .loop-test .taken) (c .before .before .check-link .ensures) (c .enum-told3 .given .1)
 
 returns-3 : tie.Need-returns-3 Inv-loop μ-loop
-returns-3 c = goes _ _ _ _ (asked _ _ _ _ _ (c .before .before .before .before .pass-if .ensures) (c .before .before .before .before .before .link-fits .ensures ∙ ap (λ (x : Entry). linkFits (now (c .before .before .before .before .before .before .before .before .args .s)) 0 (x .w3)) (c .before .before .before .before .before .before .read-entry .ensures))) (c .before .before .enum-told .given .1) (sym (c .before .loop .inv ∙ turns-end _ _ _ (c .loop-test .left)))
+returns-3 c =
+    let t = c .before .before in
+    goes _ _ _ _ (first (t .before .before)) (t .enum-told .given .1)
+    (sym (c .before .loop .inv ∙ turns-end _ _ _ (c .loop-test .left)))
 
 pub check-links-spec : {M : Type 1} → statement M
 check-links-spec =

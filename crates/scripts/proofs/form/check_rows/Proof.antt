@@ -1,12 +1,40 @@
-use mathlib.Core.Path.{ap, _∙_}
+-- `scripts::form::check_rows` meets its contract. Each row that passed hands on to the next: what is left decides.
+-- Assumes nothing.
+use mathlib.Core.Path.{_≡_, ap, _∙_}
 use denote.Ref.{now}
 use borrow.Author.Needs.{needs}
+use Rattle.records.specs.Outcome.{Check, _then_, require}
 use Rattle.records.proofs.Order.{stops, goes, asked}
-use Rattle.scripts.specs.Format.{lineOf}
-use Rattle.scripts.specs.Form.{kindFits, unusedFits, termFits, stepFits}
+use Rattle.scripts.specs.Format.{entryOf, lineOf}
+use Rattle.scripts.specs.Form.{kindFits, unusedFits, termFits, stepFits, rowsCheck}
 use Rattle.scripts.specs.declared.entry.Entry.{Entry}
 use Rattle.scripts.proofs.form.check_rows.Statement.{statement}
 use Rattle.scripts.proofs.form.check_rows.Tie as tie
+
+-- rows 16 to 18, at the record that was read
+abbrev row16 : tie.After-read → Check
+row16 c = require (unusedFits (c .read .result)) 16 (c .before .before .before .before .args .i)
+
+abbrev row17 : tie.After-read → Check
+row17 c =
+    let a = c .before .before .before .before .args in
+    require (termFits (now (a .v)) (now (a .s)) (a .i) (lineOf (c .read .result))) 17 (a .i)
+
+abbrev row18 : tie.After-read → Check
+row18 c =
+    let a = c .before .before .before .before .args in
+    require (stepFits (now (a .v)) (now (a .s)) (a .i) (lineOf (c .read .result))) 18 (a .i)
+
+-- rows 15 to 18, at the record
+abbrev whole : tie.After-read → Check
+whole c = let a = c .before .before .before .before .args in rowsCheck (now (a .v)) (now (a .s)) (a .i) (entryOf (now (a .part)))
+
+read-rows : (c : tie.After-read)
+    → (require (kindFits (c .read .result)) 15 (c .before .before .before .before .args .i) then row16 c then row17 c then row18 c)
+    ≡ whole c
+read-rows c =
+    let a = c .before .before .before .before .args in
+    ap (λ (e : Entry). rowsCheck (now (a .v)) (now (a .s)) (a .i) e) (c .read .ensures)
 
 read-requires : tie.Need-read-requires
 read-requires c κs = search needs
@@ -20,11 +48,29 @@ pass-if-requires c κs = search needs
 enum-told : tie.Need-enum-told
 enum-told c = search needs
 
+-- What is left once the rows so far passed.
+past-kind : (c : tie.After-enum-told) (o : Check)
+    → let r = c .before .before .before .before in o ≡ (row16 r then row17 r then row18 r) → o ≡ whole r
+past-kind c o h =
+    let p = c .before .before in
+    goes _ _ _ _ (asked _ _ _ _ _ (p .pass-if .ensures) (p .before .kind-fits .ensures)) (c .enum-told .given .1) h
+    ∙ read-rows (p .before .before)
+
+past-unused : (c : tie.After-enum-told3) (o : Check)
+    → let r = c .before .before .before .before .before .before .before .before in o ≡ (row17 r then row18 r) → o ≡ whole r
+past-unused c o h =
+    let p = c .before .before in
+    past-kind (p .before .before) o
+    (goes _ _ _ _ (asked _ _ _ _ _ (p .pass-if2 .ensures) (p .before .unused-fits .ensures)) (c .enum-told3 .given .1) h)
+
 enum-told-2 : tie.Need-enum-told-2
 enum-told-2 c = search needs
 
 returns : tie.Need-returns
-returns c = stops _ _ _ _ _ (asked _ _ _ _ _ (c .before .before .pass-if .ensures) (c .before .before .before .kind-fits .ensures ∙ ap (λ (x : Entry). kindFits x) (c .before .before .before .before .read .ensures))) (c .enum-told2 .given .1)
+returns c =
+    let p = c .before .before in
+    stops _ _ _ _ _ (asked _ _ _ _ _ (p .pass-if .ensures) (p .before .kind-fits .ensures)) (c .enum-told2 .given .1)
+    ∙ read-rows (p .before .before)
 
 unused-fits-requires : tie.Need-unused-fits-requires
 unused-fits-requires c κs = search needs
@@ -39,7 +85,10 @@ enum-told-4 : tie.Need-enum-told-4
 enum-told-4 c = search needs
 
 returns-2 : tie.Need-returns-2
-returns-2 c = goes _ _ _ _ (asked _ _ _ _ _ (c .before .before .before .before .before .before .pass-if .ensures) (c .before .before .before .before .before .before .before .kind-fits .ensures ∙ ap (λ (x : Entry). kindFits x) (c .before .before .before .before .before .before .before .before .read .ensures))) (c .before .before .before .before .enum-told .given .1) (stops _ _ _ _ _ (asked _ _ _ _ _ (c .before .before .pass-if2 .ensures) (c .before .before .before .unused-fits .ensures ∙ ap (λ (x : Entry). unusedFits x) (c .before .before .before .before .before .before .before .before .read .ensures))) (c .enum-told4 .given .1))
+returns-2 c =
+    let p = c .before .before in
+    past-kind (p .before .before) _
+    (stops _ _ _ _ _ (asked _ _ _ _ _ (p .pass-if2 .ensures) (p .before .unused-fits .ensures)) (c .enum-told4 .given .1))
 
 term-fits-requires : tie.Need-term-fits-requires
 term-fits-requires c κs = search needs
@@ -54,7 +103,10 @@ enum-told-6 : tie.Need-enum-told-6
 enum-told-6 c = search needs
 
 returns-3 : tie.Need-returns-3
-returns-3 c = goes _ _ _ _ (asked _ _ _ _ _ (c .before .before .before .before .before .before .before .before .before .before .pass-if .ensures) (c .before .before .before .before .before .before .before .before .before .before .before .kind-fits .ensures ∙ ap (λ (x : Entry). kindFits x) (c .before .before .before .before .before .before .before .before .before .before .before .before .read .ensures))) (c .before .before .before .before .before .before .before .before .enum-told .given .1) (goes _ _ _ _ (asked _ _ _ _ _ (c .before .before .before .before .before .before .pass-if2 .ensures) (c .before .before .before .before .before .before .before .unused-fits .ensures ∙ ap (λ (x : Entry). unusedFits x) (c .before .before .before .before .before .before .before .before .before .before .before .before .read .ensures))) (c .before .before .before .before .enum-told3 .given .1) (stops _ _ _ _ _ (asked _ _ _ _ _ (c .before .before .pass-if3 .ensures) (c .before .before .before .term-fits .ensures ∙ ap (λ (x : Entry). termFits (now (c .before .before .before .before .before .before .before .before .before .before .before .before .before .before .before .before .args .v)) (now (c .before .before .before .before .before .before .before .before .before .before .before .before .before .before .before .before .args .s)) (c .before .before .before .before .before .before .before .before .before .before .before .before .before .before .before .before .args .i) (lineOf x)) (c .before .before .before .before .before .before .before .before .before .before .before .before .read .ensures))) (c .enum-told6 .given .1)))
+returns-3 c =
+    let p = c .before .before in
+    past-unused (p .before .before) _
+    (stops _ _ _ _ _ (asked _ _ _ _ _ (p .pass-if3 .ensures) (p .before .term-fits .ensures)) (c .enum-told6 .given .1))
 
 step-fits-requires : tie.Need-step-fits-requires
 step-fits-requires c κs = search needs
@@ -63,7 +115,12 @@ pass-if-requires-4 : tie.Need-pass-if-requires-4
 pass-if-requires-4 c κs = search needs
 
 returns-4 : tie.Need-returns-4
-returns-4 c = goes _ _ _ _ (asked _ _ _ _ _ (c .before .before .before .before .before .before .before .before .before .before .before .before .pass-if .ensures) (c .before .before .before .before .before .before .before .before .before .before .before .before .before .kind-fits .ensures ∙ ap (λ (x : Entry). kindFits x) (c .before .before .before .before .before .before .before .before .before .before .before .before .before .before .read .ensures))) (c .before .before .before .before .before .before .before .before .before .before .enum-told .given .1) (goes _ _ _ _ (asked _ _ _ _ _ (c .before .before .before .before .before .before .before .before .pass-if2 .ensures) (c .before .before .before .before .before .before .before .before .before .unused-fits .ensures ∙ ap (λ (x : Entry). unusedFits x) (c .before .before .before .before .before .before .before .before .before .before .before .before .before .before .read .ensures))) (c .before .before .before .before .before .before .enum-told3 .given .1) (goes _ _ _ _ (asked _ _ _ _ _ (c .before .before .before .before .pass-if3 .ensures) (c .before .before .before .before .before .term-fits .ensures ∙ ap (λ (x : Entry). termFits (now (c .before .before .before .before .before .before .before .before .before .before .before .before .before .before .before .before .before .before .args .v)) (now (c .before .before .before .before .before .before .before .before .before .before .before .before .before .before .before .before .before .before .args .s)) (c .before .before .before .before .before .before .before .before .before .before .before .before .before .before .before .before .before .before .args .i) (lineOf x)) (c .before .before .before .before .before .before .before .before .before .before .before .before .before .before .read .ensures))) (c .before .before .enum-told5 .given .1) (asked _ _ _ _ _ (c .pass-if4 .ensures) (c .before .step-fits .ensures ∙ ap (λ (x : Entry). stepFits (now (c .before .before .before .before .before .before .before .before .before .before .before .before .before .before .before .before .before .before .args .v)) (now (c .before .before .before .before .before .before .before .before .before .before .before .before .before .before .before .before .before .before .args .s)) (c .before .before .before .before .before .before .before .before .before .before .before .before .before .before .before .before .before .before .args .i) (lineOf x)) (c .before .before .before .before .before .before .before .before .before .before .before .before .before .before .read .ensures)))))
+returns-4 c =
+    let t = c .before .before in
+    let p = t .before .before in
+    past-unused (p .before .before) _
+    (goes _ _ _ _ (asked _ _ _ _ _ (p .pass-if3 .ensures) (p .before .term-fits .ensures)) (t .enum-told5 .given .1)
+    (asked _ _ _ _ _ (c .pass-if4 .ensures) (c .before .step-fits .ensures)))
 
 pub check-rows-spec : {M : Type 1} → statement M
 check-rows-spec =

@@ -1,3 +1,5 @@
+-- `scripts::form::extension_fits` meets its contract. The column that is found has as many literals as the one that is named.
+-- Assumes nothing.
 use Prim.Native.Nat.{ℕ}
 use native.Mathlib.Omega.{arith}
 use mathlib.Core.Path.{_≡_, ap, _∙_}
@@ -19,7 +21,8 @@ size-at : (l : List ℕ) (c : Column) (n : ℕ) → n ≡ length l → l ≡ pac
 size-at l c n p q = p ∙ (ap length q ∙ length-map c _)
 
 find-column-requires : tie.Need-find-column-requires
-find-column-requires c κs = (c .before .before .pre .0, (c .before .before .pre .1 .0, (omega arith, (omega arith, omega arith))))
+find-column-requires c κs =
+    let p = c .before .before .pre in (p .0, (p .1 .0, (omega arith, (omega arith, omega arith))))
 
 cast-if1 : tie.Need-cast-if1
 cast-if1 c = search needs
@@ -27,14 +30,27 @@ cast-if1 c = search needs
 size-requires : tie.Need-size-requires
 size-requires c κs = search needs
 
+-- the column that is named
+abbrev named : tie.Start → Column
+named c =
+    let a = c .args in
+    columnAt (now (a .v)) record { a = a .header .w1; b = a .header .w2 } (a .e .w1) (a .e .w2)
+
+sized : (c : tie.After-size) → c .size .result ≡ length (named (c .before .before .before .before .before))
+sized c =
+    size-at _ (named (c .before .before .before .before .before)) _ (c .size .ensures) (c .before .before .find-column .ensures)
+
 returns : tie.Need-returns
-returns c = rw (← (size-at _ (columnAt (now (c .before .before .before .before .before .before .args .v)) record { a = c .before .before .before .before .before .before .args .header .w1; b = c .before .before .before .before .before .before .args .header .w2 } (c .before .before .before .before .before .before .args .e .w1) (c .before .before .before .before .before .before .args .e .w2)) _ (c .before .size .ensures) (c .before .before .before .find-column .ensures)), le-ltb _ _ (c .if1 .taken))
+returns c =
+    rw (← sized (c .before), le-ltb _ _ (c .if1 .taken))
 
 x-fits-requires : tie.Need-x-fits-requires
 x-fits-requires c κs = search needs
 
 returns-2 : tie.Need-returns-2
-returns-2 c = rw (← (size-at _ (columnAt (now (c .before .before .before .before .before .before .before .before .args .v)) record { a = c .before .before .before .before .before .before .before .before .args .header .w1; b = c .before .before .before .before .before .before .before .before .args .header .w2 } (c .before .before .before .before .before .before .before .before .args .e .w1) (c .before .before .before .before .before .before .before .before .args .e .w2)) _ (c .before .before .before .size .ensures) (c .before .before .before .before .before .find-column .ensures)), lt-ltb _ _ (c .before .before .if1 .left)) (fails _ _ _ (c .before .x-fits .ensures) (c .if2 .taken))
+returns-2 c =
+    let w = c .before .before in
+    rw (← sized (w .before), lt-ltb _ _ (w .if1 .left)) (fails _ _ _ (c .before .x-fits .ensures) (c .if2 .taken))
 
 takes-y-requires : tie.Need-takes-y-requires
 takes-y-requires c κs = search needs
@@ -43,7 +59,14 @@ y-fits-requires : tie.Need-y-fits-requires
 y-fits-requires c κs = search needs
 
 returns-3 : tie.Need-returns-3
-returns-3 c = rw (← (size-at _ (columnAt (now (c .before .before .before .before .before .before .before .before .before .before .args .v)) record { a = c .before .before .before .before .before .before .before .before .before .before .args .header .w1; b = c .before .before .before .before .before .before .before .before .before .before .args .header .w2 } (c .before .before .before .before .before .before .before .before .before .before .args .e .w1) (c .before .before .before .before .before .before .before .before .before .before .args .e .w2)) _ (c .before .before .before .before .before .size .ensures) (c .before .before .before .before .before .before .before .find-column .ensures)), lt-ltb _ _ (c .before .before .before .before .if1 .left)) (rests _ _ _ _ (c .before .before .before .x-fits .ensures) (c .before .before .if2 .left) (c .y-fits .ensures ∙ ap (λ (b : Bool). yFits (now (c .before .before .before .before .before .before .before .before .before .before .args .s)) (c .before .before .before .before .before .before .before .before .before .before .args .i) b (c .before .before .before .before .before .before .before .before .before .before .args .e .w4)) (c .before .takes-y .ensures record { a = c .before .before .before .before .before .before .before .before .before .before .args .header .w1; b = c .before .before .before .before .before .before .before .before .before .before .args .header .w2 })))
+returns-3 c =
+    let w = c .before .before .before .before in
+    let a = w .before .before .before .before .before .before .args in
+    let y = c .y-fits .ensures
+    ∙ ap (λ (b : Bool). yFits (now (a .s)) (a .i) b (a .e .w4))
+    (c .before .takes-y .ensures record { a = a .header .w1; b = a .header .w2 }) in
+    rw (← sized (w .before), lt-ltb _ _ (w .if1 .left))
+    (rests _ _ _ _ (c .before .before .before .x-fits .ensures) (c .before .before .if2 .left) y)
 
 pub extension-fits-spec : {M : Type 1} → statement M
 extension-fits-spec =

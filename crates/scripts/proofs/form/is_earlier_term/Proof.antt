@@ -1,3 +1,5 @@
+-- `scripts::form::is_earlier_term` meets its contract. At each return the tests that led there say what the conjunction is.
+-- Assumes nothing.
 use mathlib.Core.Path.{_∙_}
 use borrow.Author.Needs.{needs}
 use borrow.Author.Tests.{lt-ltb, le-ltb}

@@ -1,3 +1,5 @@
+-- `scripts::form::is_repeat` meets its contract. Two keys are equal where kind, function and inner term are.
+-- Assumes nothing.
 use native.Mathlib.Omega.{arith}
 use mathlib.Core.Path.{ap, _∙_}
 use mathlib.Core.Bool.{_&&_}
@@ -18,7 +20,13 @@ key-of-requires-2 : tie.Need-key-of-requires-2
 key-of-requires-2 c κs = search needs
 
 returns : tie.Need-returns
-returns c = repeat-same (c .before .before .read-entry .result .w0) (c .before .before .read-entry .result .w1) (c .before .before .read-entry .result .w2) (c .before .before .before .before .args .f) (c .before .before .before .before .args .t) _ _ (omega (arith, c .before .before .read-entry .ok)) (omega (arith, c .before .before .read-entry .ok)) (omega arith) (c .before .key-of .ensures) (c .key-of2 .ensures) ∙ ap (λ (e : Entry). eqb (e .w0) 2 && (eqb (e .w1) (c .before .before .before .before .args .f) && eqb (e .w2) (c .before .before .before .before .args .t))) (c .before .before .read-entry .ensures)
+returns c =
+    let r = c .before .before in
+    let a = r .before .before .args in
+    let e = r .read-entry .result in
+    repeat-same (e .w0) (e .w1) (e .w2) (a .f) (a .t) _ _ (omega (arith, r .read-entry .ok)) (omega (arith, r .read-entry .ok))
+    (omega arith) (c .before .key-of .ensures) (c .key-of2 .ensures)
+    ∙ ap (λ (e : Entry). eqb (e .w0) 2 && (eqb (e .w1) (a .f) && eqb (e .w2) (a .t))) (r .read-entry .ensures)
 
 pub is-repeat-spec : {M : Type 1} → statement M
 is-repeat-spec = tie.close (tie.spec read-entry-requires key-of-requires key-of-requires-2 returns)

@@ -1,3 +1,5 @@
+-- `scripts::form::is_repeated` meets its contract. The loop's invariant: `found` says whether a record below `j` is a repeat.
+-- Assumes nothing.
 use Prim.Native.Nat.{_-_, _≤_}
 use native.Mathlib.Omega.{arith}
 use mathlib.Core.Path.{_≡_, refl, sym, ap, _∙_}
@@ -29,16 +31,21 @@ loop-less : tie.Need-loop-less Inv-loop μ-loop
 loop-less c = omega arith
 
 loop-again : tie.Need-loop-again Inv-loop μ-loop
-loop-again c = (
-  omega arith,
-  ⊎-elim
-      (λ w. w .1 ∙ any-hit (repeats (now (c .before .before .before .before .before .args .s)) (c .before .before .before .before .before .args .f) (c .before .before .before .before .before .args .t)) (c .before .before .before .loop .j) (sym (c .before .is-repeat .ensures) ∙ w .0 .taken))
-      (λ w. w .1 ∙ any-miss (repeats (now (c .before .before .before .before .before .args .s)) (c .before .before .before .before .before .args .f) (c .before .before .before .before .before .args .t)) (c .before .before .before .loop .j) _ (c .before .before .before .loop .inv .1) (sym (c .before .is-repeat .ensures) ∙ w .0 .left))
-      (c .if1 .came),
-)
+loop-again c =
+    let w = c .before .before .before in
+    let a = w .before .before .args in
+    let test = repeats (now (a .s)) (a .f) (a .t) in (
+      omega arith,
+      ⊎-elim (λ h. h .1 ∙ any-hit test (w .loop .j) (sym (c .before .is-repeat .ensures) ∙ h .0 .taken))
+          (λ h. h .1 ∙ any-miss test (w .loop .j) _ (w .loop .inv .1) (sym (c .before .is-repeat .ensures) ∙ h .0 .left))
+          (c .if1 .came),
+    )
 
 returns : tie.Need-returns Inv-loop μ-loop
-returns c = let e : c .before .loop .j ≡ c .before .before .before .args .i = omega arith in c .before .loop .inv .1 ∙ ap (anyBelow (repeats (now (c .before .before .before .args .s)) (c .before .before .before .args .f) (c .before .before .before .args .t))) e
+returns c =
+    let a = c .before .before .before .args in
+    let e : c .before .loop .j ≡ a .i = omega arith in
+    c .before .loop .inv .1 ∙ ap (anyBelow (repeats (now (a .s)) (a .f) (a .t))) e
 
 pub is-repeated-spec : {M : Type 1} → statement M
 is-repeated-spec =

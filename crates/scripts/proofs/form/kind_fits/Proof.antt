@@ -1,3 +1,5 @@
+-- `scripts::form::kind_fits` meets its contract. At each return the tests that led there say what the conjunction is.
+-- Assumes nothing.
 use borrow.Author.Tests.{lt-leb, le-leb}
 use Rattle.scripts.proofs.form.kind_fits.Statement.{statement}
 use Rattle.scripts.proofs.form.kind_fits.Tie as tie

@@ -1,3 +1,5 @@
+-- `scripts::form::length_fits` meets its contract. At each return the tests that led there say what the conjunction is.
+-- Assumes nothing.
 use borrow.Author.Needs.{needs}
 use borrow.Author.Tests.{lt-leb, le-leb}
 use Rattle.scripts.proofs.form.length_fits.Statement.{statement}

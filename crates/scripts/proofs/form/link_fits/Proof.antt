@@ -1,3 +1,5 @@
+-- `scripts::form::link_fits` meets its contract. At each return the tests that led there say what the disjunction is.
+-- Assumes nothing.
 use mathlib.Core.Path.{_∙_}
 use borrow.Author.Needs.{needs}
 use borrow.Author.Tests.{eq-eqb, ne-eqb, lt-ltb, le-ltb}
@@ -17,7 +19,14 @@ is-step-entry-requires : tie.Need-is-step-entry-requires
 is-step-entry-requires c κs = search needs
 
 returns-3 : tie.Need-returns-3
-returns-3 c = c .is-step-entry .ensures ∙ rw (c .before .read-entry .ensures, ne-eqb _ _ (c .before .before .before .before .if1 .left), lt-ltb _ _ (c .before .before .before .if2 .left), lt-ltb _ _ (c .before .before .if3 .taken))
+returns-3 c =
+    c .is-step-entry .ensures
+    ∙ rw (
+      c .before .read-entry .ensures,
+      ne-eqb _ _ (c .before .before .before .before .if1 .left),
+      lt-ltb _ _ (c .before .before .before .if2 .left),
+      lt-ltb _ _ (c .before .before .if3 .taken),
+    )
 
 returns-4 : tie.Need-returns-4
 returns-4 c = rw (ne-eqb _ _ (c .before .before .if1 .left), lt-ltb _ _ (c .before .if2 .left), le-ltb _ _ (c .if3 .left))

@@ -1,3 +1,5 @@
+-- `scripts::form::step_fits` meets its contract. The kind of the record says which rule it is under.
+-- Assumes nothing.
 use mathlib.Core.Path.{refl, sym, _∙_}
 use denote.Ref.{now}
 use borrow.Author.Needs.{needs}
@@ -9,13 +11,21 @@ extension-fits-requires : tie.Need-extension-fits-requires
 extension-fits-requires c κs = search needs
 
 returns : tie.Need-returns
-returns c = rw (sym (step-start (now (c .before .before .before .before .args .v)) (now (c .before .before .before .before .args .s)) (c .before .before .before .before .args .i) (c .before .before .before .before .args .e) (c .before .match .keys1)))
+returns c =
+    let a = c .before .before .before .before .args in
+    rw (sym (step-start (now (a .v)) (now (a .s)) (a .i) (a .e) (c .before .match .keys1)))
 
 returns-2 : tie.Need-returns-2
-returns-2 c = c .extension-fits .ensures ∙ (rw (c .before .before .before .before .pre .1 .1 .1) refl ∙ step-extension (now (c .before .before .before .before .args .v)) (now (c .before .before .before .before .args .s)) (c .before .before .before .before .args .i) (c .before .before .before .before .args .e) (c .before .match .keys2))
+returns-2 c =
+    let b = c .before .before .before .before in
+    let a = b .args in
+    c .extension-fits .ensures
+    ∙ (rw (b .pre .1 .1 .1) refl ∙ step-extension (now (a .v)) (now (a .s)) (a .i) (a .e) (c .before .match .keys2))
 
 returns-3 : tie.Need-returns-3
-returns-3 c = step-other (now (c .before .before .before .args .v)) (now (c .before .before .before .args .s)) (c .before .before .before .args .i) (c .before .before .before .args .e) (c .match .rest .0 .1) (c .match .rest .1)
+returns-3 c =
+    let a = c .before .before .before .args in
+    step-other (now (a .v)) (now (a .s)) (a .i) (a .e) (c .match .rest .0 .1) (c .match .rest .1)
 
 pub step-fits-spec : {M : Type 1} → statement M
 step-fits-spec = tie.close (tie.spec extension-fits-requires returns returns-2 returns-3)

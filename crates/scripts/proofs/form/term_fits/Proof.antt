@@ -1,3 +1,5 @@
+-- `scripts::form::term_fits` meets its contract. Kind 1 is the constant; whether record 1, and no other, is decides before the rule for functions.
+-- Assumes nothing.
 use mathlib.Core.Path.{_∙_}
 use mathlib.Core.Bool.{Bool·beq}
 use lib.Dec.{eqb}
@@ -8,13 +10,18 @@ use Rattle.scripts.proofs.form.term_fits.Statement.{statement}
 use Rattle.scripts.proofs.form.term_fits.Tie as tie
 
 returns : tie.Need-returns
-returns c = rw (line-named (c .before .before .before .before .args .e), not-true (Bool·beq (eqb (c .before .before .before .before .args .e .w0) 1) (eqb (c .before .before .before .before .args .i) 1)) (c .if1 .taken))
+returns c =
+    let a = c .before .before .before .before .args in
+    rw (line-named (a .e), not-true (Bool·beq (eqb (a .e .w0) 1) (eqb (a .i) 1)) (c .if1 .taken))
 
 function-fits-requires : tie.Need-function-fits-requires
 function-fits-requires c κs = search needs
 
 returns-2 : tie.Need-returns-2
-returns-2 c = c .function-fits .ensures ∙ rw (line-named (c .before .before .before .before .before .args .e), not-false (Bool·beq (eqb (c .before .before .before .before .before .args .e .w0) 1) (eqb (c .before .before .before .before .before .args .i) 1)) (c .before .if1 .left))
+returns-2 c =
+    let a = c .before .before .before .before .before .args in
+    c .function-fits .ensures
+    ∙ rw (line-named (a .e), not-false (Bool·beq (eqb (a .e .w0) 1) (eqb (a .i) 1)) (c .before .if1 .left))
 
 pub term-fits-spec : {M : Type 1} → statement M
 term-fits-spec = tie.close (tie.spec returns function-fits-requires returns-2)

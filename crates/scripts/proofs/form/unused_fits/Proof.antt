@@ -1,3 +1,5 @@
+-- `scripts::form::unused_fits` meets its contract. The kind of the record says which of its words are unused.
+-- Assumes nothing.
 use Prim.Native.Nat.{ℕ, _<_}
 use native.Mathlib.Omega.{arith}
 use native.Mathlib.Decide.{decLt}
@@ -11,6 +13,7 @@ use Rattle.scripts.proofs.Lines.{unused-none, unused-past}
 use Rattle.scripts.proofs.form.unused_fits.Statement.{statement}
 use Rattle.scripts.proofs.form.unused_fits.Tie as tie
 
+-- a kind that is none of the five
 unused-default : (e : Entry) (k : ℕ) → (k ≡ 1 → ⊥) → (k ≡ 2 → ⊥) → (k ≡ 3 → ⊥) → (k ≡ 4 → ⊥) → (k ≡ 5 → ⊥)
     → true ≡ allZero (kindOf k .unused e)
 unused-default e k a b c d f = at (decLt k 1)
@@ -52,8 +55,10 @@ unfolding kindOf allZero
 returns-5 c = c .are-zero3 .ensures ∙ rw (c .before .match .keys5)
 
 returns-6 : tie.Need-returns-6
-unfolding kindOf allZero
-returns-6 c = unused-default (c .before .args .e) (c .before .args .e .w0) (c .match .rest .0 .0 .0 .0 .1) (c .match .rest .0 .0 .0 .1) (c .match .rest .0 .0 .1) (c .match .rest .0 .1) (c .match .rest .1)
+returns-6 c =
+    let e = c .before .args .e in
+    let r = c .match .rest in
+    unused-default e (e .w0) (r .0 .0 .0 .0 .1) (r .0 .0 .0 .1) (r .0 .0 .1) (r .0 .1) (r .1)
 
 pub unused-fits-spec : {M : Type 1} → statement M
 unused-fits-spec =

@@ -1,3 +1,5 @@
+-- `scripts::form::x_fits` meets its contract. At each return the tests that led there say what the conjunction is.
+-- Assumes nothing.
 use borrow.Author.Needs.{needs}
 use borrow.Author.Tests.{eq-eqb, ne-eqb}
 use Rattle.records.proofs.Order.{fails, rests}

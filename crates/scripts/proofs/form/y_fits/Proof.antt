@@ -1,3 +1,5 @@
+-- `scripts::form::y_fits` meets its contract. The test says whether the column takes a y.
+-- Assumes nothing.
 use mathlib.Core.Path.{_∙_}
 use borrow.Author.Needs.{needs}
 use Rattle.scripts.proofs.form.y_fits.Statement.{statement}

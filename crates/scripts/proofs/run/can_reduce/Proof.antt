@@ -1,3 +1,5 @@
+-- `scripts::run::can_reduce` meets its contract. Row 22: a frame below the last, and the two goals are complements.
+-- Assumes nothing.
 use Prim.Native.Nat.{suc}
 use native.Mathlib.Omega.{arith}
 use mathlib.Core.Path.{_∙_}
@@ -28,7 +30,10 @@ is-opposed-requires : tie.Need-is-opposed-requires
 is-opposed-requires c κs = search needs
 
 returns : tie.Need-returns
-returns c = c .is-opposed .ensures ∙ rw (lt-ltb (suc (c .before .before .before .before .args .frame)) (c .before .before .before .before .args .depth) (omega (arith, c .before .before .before .if1 .taken)))
+returns c =
+    let a = c .before .before .before .before .args in
+    c .is-opposed .ensures
+    ∙ rw (lt-ltb (suc (a .frame)) (a .depth) (omega (arith, c .before .before .before .if1 .taken)))
 
 returns-2 : tie.Need-returns-2
 returns-2 c = rw (le-ltb (suc (c .before .args .frame)) (c .before .args .depth) (omega (arith, c .if1 .left)))

@@ -1,3 +1,5 @@
+-- `scripts::run::has_room` meets its contract. A column of no other literal needs no room.
+-- Assumes nothing.
 use Prim.Native.Nat.{ℕ, zero, suc}
 use mathlib.Core.Path.{_≡_, refl}
 use mathlib.Core.Bool.{Bool, _||_}

@@ -1,3 +1,5 @@
+-- `scripts::run::is_opposed` meets its contract. At each return the tests that led there say what the conjunction is.
+-- Assumes nothing.
 use borrow.Author.Tests.{eq-eqb, ne-eqb}
 use Rattle.scripts.proofs.run.is_opposed.Statement.{statement}
 use Rattle.scripts.proofs.run.is_opposed.Tie as tie

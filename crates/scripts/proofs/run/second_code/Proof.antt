@@ -1,3 +1,5 @@
+-- `scripts::run::second_code` meets its contract. Where no y stands the code is 0.
+-- Assumes nothing.
 use Prim.Native.Nat.{ℕ, zero, suc}
 use mathlib.Core.Path.{_≡_, refl, _∙_}
 use mathlib.Core.List.{List}
@@ -19,7 +21,9 @@ term-code-requires : tie.Need-term-code-requires
 term-code-requires c κs = search needs
 
 returns-2 : tie.Need-returns-2
-returns-2 c = c .term-code .ensures ∙ second-at (now (c .before .before .before .args .s)) (c .before .before .before .args .n) (c .before .if1 .left)
+returns-2 c =
+    let a = c .before .before .before .args in
+    c .term-code .ensures ∙ second-at (now (a .s)) (a .n) (c .before .if1 .left)
 
 pub second-code-spec : {M : Type 1} → statement M
 second-code-spec = tie.close (tie.spec returns term-code-requires returns-2)

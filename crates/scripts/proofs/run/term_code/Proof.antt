@@ -1,3 +1,5 @@
+-- `scripts::run::term_code` meets its contract. The record that was read has the function and the inner term.
+-- Assumes nothing.
 use Prim.Native.Nat.{_+_, _*_}
 use mathlib.Core.Path.{ap}
 use borrow.Author.Needs.{needs}
