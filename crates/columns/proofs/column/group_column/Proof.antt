@@ -1,3 +1,6 @@
+-- `columns::column::group_column` meets its contract. The kind of the record says which columns it has; kinds that are not listed have none.
+-- Assumes nothing.
+use Prim.Native.Nat.{_≤_}
 use native.Mathlib.Omega.{arith}
 use mathlib.Core.Path.{sym, _∙_}
 use mathlib.Core.Logic.{⊎-elim}
@@ -26,22 +29,49 @@ none-requires : tie.Need-none-requires
 none-requires c κs = search needs
 
 returns : tie.Need-returns
-returns c = c .negation-column .ensures ∙ same-at _ _ _ _ _ _ (sym (group-negation (c .before .before .args .fields) (c .before .before .args .i) (c .before .before .args .fields .kind) (c .before .match .keys1)))
+returns c =
+    let a = c .before .before .args in
+    c .negation-column .ensures
+    ∙ same-at _ _ _ _ _ _ (sym (group-negation (a .fields) (a .i) (a .fields .kind) (c .before .match .keys1)))
 
 returns-2 : tie.Need-returns-2
-returns-2 c = c .inclusion-column .ensures ∙ same-at _ _ _ _ _ _ (sym (group-inclusion (c .before .before .args .fields) (c .before .before .args .i) (c .before .before .args .fields .kind) (c .before .match .keys2)))
+returns-2 c =
+    let a = c .before .before .args in
+    c .inclusion-column .ensures
+    ∙ same-at _ _ _ _ _ _ (sym (group-inclusion (a .fields) (a .i) (a .fields .kind) (c .before .match .keys2)))
 
 returns-3 : tie.Need-returns-3
-returns-3 c = c .constant-column .ensures ∙ same-at _ _ _ _ _ _ (sym (group-constant (c .before .before .before .before .args .fields) (c .before .before .before .before .args .i) (c .before .before .before .before .args .fields .kind) (c .before .before .if1 .left) (c .before .if2 .taken)))
+returns-3 c =
+    let a = c .before .before .before .before .args in
+    c .constant-column .ensures
+    ∙ same-at _ _ _ _ _ _
+    (sym (group-constant (a .fields) (a .i) (a .fields .kind) (c .before .before .if1 .left) (c .before .if2 .taken)))
 
 returns-4 : tie.Need-returns-4
-returns-4 c = c .junction-column .ensures ∙ same-at _ _ _ _ _ _ (sym (group-junction (c .before .before .before .before .before .before .args .fields) (c .before .before .before .before .before .before .args .i) (c .before .before .before .before .before .before .args .fields .kind) (omega (arith, c .before .before .if3 .left, c .before .before .before .before .before .match .rest .0 .1)) (c .before .if4 .taken)))
+returns-4 c =
+    let m = c .before .before .before .before .before in
+    let a = m .before .args in
+    let least : 5 ≤ a .fields .kind = omega (arith, c .before .before .if3 .left, m .match .rest .0 .1) in
+    c .junction-column .ensures
+    ∙ same-at _ _ _ _ _ _ (sym (group-junction (a .fields) (a .i) (a .fields .kind) least (c .before .if4 .taken)))
 
 returns-5 : tie.Need-returns-5
-returns-5 c = c .restriction-column .ensures ∙ same-at _ _ _ _ _ _ (sym (group-restriction (c .before .before .before .before .before .before .before .args .fields) (c .before .before .before .before .before .before .before .args .i) (c .before .before .before .before .before .before .before .args .fields .kind) (c .before .before .if4 .left) (c .before .if5 .taken)))
+returns-5 c =
+    let a = c .before .before .before .before .before .before .before .args in
+    c .restriction-column .ensures
+    ∙ same-at _ _ _ _ _ _
+    (sym (group-restriction (a .fields) (a .i) (a .fields .kind) (c .before .before .if4 .left) (c .before .if5 .taken)))
 
 returns-6 : tie.Need-returns-6
-returns-6 c = c .none .ensures ∙ none-at _ _ _ _ _ (⊎-elim (λ h. group-low (c .before .before .before .args .fields) (c .before .before .before .args .i) (c .before .before .before .args .fields .kind) (h .taken)) (⊎-elim (λ h. group-name (c .before .before .before .args .fields) (c .before .before .before .args .i) (c .before .before .before .args .fields .kind) (h .1 .left) (h .2 .taken)) (λ h. group-high (c .before .before .before .args .fields) (c .before .before .before .args .i) (c .before .before .before .args .fields .kind) (omega (arith, h .4 .left, c .before .before .match .rest .1)))) (c .before .if1 .came))
+returns-6 c =
+    let a = c .before .before .before .args in
+    let k = a .fields .kind in
+    c .none .ensures
+    ∙ none-at _ _ _ _ _
+    (⊎-elim (λ h. group-low (a .fields) (a .i) k (h .taken))
+    (⊎-elim (λ h. group-name (a .fields) (a .i) k (h .1 .left) (h .2 .taken))
+    (λ h. group-high (a .fields) (a .i) k (omega (arith, h .4 .left, c .before .before .match .rest .1))))
+    (c .before .if1 .came))
 
 pub group-column-spec : {M : Type 1} → statement M
 group-column-spec =

@@ -1,3 +1,5 @@
+-- `columns::column::inclusion_column` meets its contract. One column, of two literals.
+-- Assumes nothing.
 use native.Mathlib.Omega.{arith}
 use mathlib.Core.Path.{_∙_}
 use mathlib.Core.Bool.{true, false}
@@ -17,13 +19,19 @@ pack-concept-requires-2 : tie.Need-pack-concept-requires-2
 pack-concept-requires-2 c κs = search needs
 
 returns : tie.Need-returns
-returns c = rw (c .before .before .if1 .taken) (lists-two (concept true (c .before .before .before .args .j) (c .before .before .before .args .at .x)) (concept false (c .before .before .before .args .k) (c .before .before .before .args .at .x)) _ _ (c .before .pack-concept .ensures) (c .pack-concept2 .ensures))
+returns c =
+    let a = c .before .before .before .args in
+    rw (c .before .before .if1 .taken)
+    (lists-two (concept true (a .j) (a .at .x)) (concept false (a .k) (a .at .x)) _ _ (c .before .pack-concept .ensures)
+    (c .pack-concept2 .ensures))
 
 none-requires : tie.Need-none-requires
 none-requires c κs = search needs
 
 returns-2 : tie.Need-returns-2
-returns-2 c = c .none .ensures ∙ past-at (columnsOf 0 (inclusion (c .before .before .args .j) (c .before .before .args .k))) _ _ _ (c .before .before .args .n) (omega (arith, c .before .if1 .left))
+returns-2 c =
+    let a = c .before .before .args in
+    c .none .ensures ∙ past-at (columnsOf 0 (inclusion (a .j) (a .k))) _ _ _ (a .n) (omega (arith, c .before .if1 .left))
 
 pub inclusion-column-spec : {M : Type 1} → statement M
 inclusion-column-spec =

@@ -1,3 +1,5 @@
+-- `columns::column::negation_column` meets its contract. Two columns, of two literals each, that differ in signs.
+-- Assumes nothing.
 use native.Mathlib.Omega.{arith}
 use mathlib.Core.Path.{_∙_}
 use lib.Dec.{eqb}
@@ -17,13 +19,19 @@ pack-concept-requires-2 : tie.Need-pack-concept-requires-2
 pack-concept-requires-2 c κs = search needs
 
 returns : tie.Need-returns
-returns c = lists-two (concept (eqb (c .before .before .before .args .n) 0) (c .before .before .before .args .i) (c .before .before .before .args .at .x)) (concept (eqb (c .before .before .before .args .n) 0) (c .before .before .before .args .j) (c .before .before .before .args .at .x)) _ _ (c .before .pack-concept .ensures) (c .pack-concept2 .ensures) ∙ negation-at _ _ _ _ _ _ (c .before .before .if1 .taken)
+returns c =
+    let a = c .before .before .before .args in
+    lists-two (concept (eqb (a .n) 0) (a .i) (a .at .x)) (concept (eqb (a .n) 0) (a .j) (a .at .x)) _ _
+    (c .before .pack-concept .ensures) (c .pack-concept2 .ensures)
+    ∙ negation-at _ _ _ _ _ _ (c .before .before .if1 .taken)
 
 none-requires : tie.Need-none-requires
 none-requires c κs = search needs
 
 returns-2 : tie.Need-returns-2
-returns-2 c = c .none .ensures ∙ past-at (columnsOf (c .before .before .args .i) (negation (c .before .before .args .j))) _ _ _ (c .before .before .args .n) (omega (arith, c .before .if1 .left))
+returns-2 c =
+    let a = c .before .before .args in
+    c .none .ensures ∙ past-at (columnsOf (a .i) (negation (a .j))) _ _ _ (a .n) (omega (arith, c .before .if1 .left))
 
 pub negation-column-spec : {M : Type 1} → statement M
 negation-column-spec =

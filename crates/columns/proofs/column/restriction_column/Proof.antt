@@ -1,3 +1,5 @@
+-- `columns::column::restriction_column` meets its contract. Three columns; there is none past them.
+-- Assumes nothing.
 use native.Mathlib.Omega.{arith}
 use mathlib.Core.Path.{_∙_}
 use mathlib.Core.Bool.{true, false, not}
@@ -34,16 +36,33 @@ none-requires : tie.Need-none-requires
 none-requires c κs = search needs
 
 returns : tie.Need-returns
-returns c = rw (c .before .before .match .keys1) (lists-two (concept (c .before .before .before .args .sign) (c .before .before .before .args .i) (c .before .before .before .args .at .x)) (role false (c .before .before .before .args .r) (c .before .before .before .args .at .x) (c .before .before .before .args .at .fx)) _ _ (c .before .pack-concept .ensures) (c .pack-role .ensures))
+returns c =
+    let a = c .before .before .before .args in
+    rw (c .before .before .match .keys1)
+    (lists-two (concept (a .sign) (a .i) (a .at .x)) (role false (a .r) (a .at .x) (a .at .fx)) _ _
+    (c .before .pack-concept .ensures) (c .pack-role .ensures))
 
 returns-2 : tie.Need-returns-2
-returns-2 c = rw (c .before .before .match .keys2) (lists-two (concept (c .before .before .before .args .sign) (c .before .before .before .args .i) (c .before .before .before .args .at .x)) (concept (not (c .before .before .before .args .sign)) (c .before .before .before .args .j) (c .before .before .before .args .at .fx)) _ _ (c .before .pack-concept2 .ensures) (c .pack-concept3 .ensures))
+returns-2 c =
+    let a = c .before .before .before .args in
+    rw (c .before .before .match .keys2)
+    (lists-two (concept (a .sign) (a .i) (a .at .x)) (concept (not (a .sign)) (a .j) (a .at .fx)) _ _
+    (c .before .pack-concept2 .ensures) (c .pack-concept3 .ensures))
 
 returns-3 : tie.Need-returns-3
-returns-3 c = rw (c .before .before .before .match .keys3) (lists-three (concept (not (c .before .before .before .before .args .sign)) (c .before .before .before .before .args .i) (c .before .before .before .before .args .at .x)) (role true (c .before .before .before .before .args .r) (c .before .before .before .before .args .at .x) (c .before .before .before .before .args .at .y)) (concept (c .before .before .before .before .args .sign) (c .before .before .before .before .args .j) (c .before .before .before .before .args .at .y)) _ _ _ (c .before .before .pack-concept4 .ensures) (c .before .pack-role2 .ensures) (c .pack-concept5 .ensures))
+returns-3 c =
+    let a = c .before .before .before .before .args in
+    let y = a .at .y in
+    rw (c .before .before .before .match .keys3)
+    (lists-three (concept (not (a .sign)) (a .i) (a .at .x)) (role true (a .r) (a .at .x) y) (concept (a .sign) (a .j) y) _ _ _
+    (c .before .before .pack-concept4 .ensures) (c .before .pack-role2 .ensures) (c .pack-concept5 .ensures))
 
 returns-4 : tie.Need-returns-4
-returns-4 c = c .none .ensures ∙ past-at (restrictionGroup (c .before .before .args .sign) (c .before .before .args .i) (c .before .before .args .r) (c .before .before .args .j)) _ _ _ (c .before .before .args .n) (omega (arith, c .before .match .rest .1, c .before .match .rest .0 .1, c .before .match .rest .0 .0 .1))
+returns-4 c =
+    let a = c .before .before .args in
+    let r = c .before .match .rest in
+    c .none .ensures
+    ∙ past-at (restrictionGroup (a .sign) (a .i) (a .r) (a .j)) _ _ _ (a .n) (omega (arith, r .1, r .0 .1, r .0 .0 .1))
 
 pub restriction-column-spec : {M : Type 1} → statement M
 restriction-column-spec =

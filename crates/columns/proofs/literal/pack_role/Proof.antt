@@ -1,3 +1,5 @@
+-- `columns::literal::pack_role` meets its contract. The sign has one bit; the sum is that of the packed literal.
+-- Assumes nothing.
 use native.Mathlib.Omega.{arith}
 use borrow.Author.Needs.{needs}
 use Rattle.types.proofs.Bits.{digit-small}

@@ -1,14 +1,19 @@
+-- `columns::owner::find_column` meets its contract. Owner 0 is the query; a record past the end, or that states nothing, has no column.
+-- Assumes nothing.
 use native.Mathlib.Omega.{arith}
-use mathlib.Core.Path.{sym, _∙_}
+use mathlib.Core.Path.{_≡_, sym, _∙_}
 use denote.Ref.{now}
 use borrow.Author.Needs.{needs}
 use borrow.Author.Tests.{not-true, not-false}
-use Rattle.records.proofs.Accepted.{accepted-vocabulary}
-use Rattle.columns.specs.Columns.{columnsAt}
+use Rattle.records.proofs.Accepted.{Accepted, accepted-vocabulary}
+use Rattle.columns.specs.Columns.{states, columnsAt}
 use Rattle.columns.proofs.Groups.{none-at, same-at}
 use Rattle.columns.proofs.Owners.{columns-record, columns-silent, columns-past}
 use Rattle.columns.proofs.owner.find_column.Statement.{statement}
 use Rattle.columns.proofs.owner.find_column.Tie as tie
+
+good : (c : tie.Start) → Accepted (now (c .args .v))
+good c = accepted-vocabulary _ _ (c .pre .0)
 
 query-column-requires : tie.Need-query-column-requires
 query-column-requires c κs = search needs
@@ -21,28 +26,57 @@ none-requires : tie.Need-none-requires
 none-requires c κs = search needs
 
 returns-2 : tie.Need-returns-2
-returns-2 c = c .none .ensures ∙ none-at _ _ _ _ _ (columns-past (now (c .before .before .before .before .args .v)) record { a = c .before .before .before .before .args .a; b = c .before .before .before .before .args .b } (accepted-vocabulary (now (c .before .before .before .before .args .v)) _ (c .before .before .before .before .pre .0)) (c .before .before .before .before .args .owner) (c .before .before .if1 .left) (c .before .if2 .taken))
+returns-2 c =
+    let e = c .before .before in
+    let b = e .before .before in
+    let a = b .args in
+    c .none .ensures
+    ∙ none-at _ _ _ _ _
+    (columns-past (now (a .v)) record { a = a .a; b = a .b } (good b) (a .owner) (e .if1 .left) (c .before .if2 .taken))
 
 read-at-requires : tie.Need-read-at-requires
 read-at-requires c κs = search needs
 
 element-copy-out-has-columns : tie.Need-element-copy-out-has-columns
-element-copy-out-has-columns c = omega (arith, (accepted-vocabulary (now (c .before .before .before .before .args .v)) _ (c .before .before .before .before .pre .0)) .sized .most)
+element-copy-out-has-columns c = omega (arith, good (c .before .before .before .before) .sized .most)
 
 has-columns-requires : tie.Need-has-columns-requires
 has-columns-requires c κs = search needs
+
+-- whether the record states something
+stated : (c : tie.After-has-columns)
+    → let a = c .before .before .before .before .before .before .args in c .has-columns .result ≡ states (now (a .v)) (a .owner)
+stated c =
+    let b = c .before .before .before .before .before .before in
+    let a = b .args in
+    c .has-columns .ensures (now (a .v)) (a .owner) (c .before .before .read-at .ensures) (b .pre .1 .0 (a .owner))
 
 none-requires-2 : tie.Need-none-requires-2
 none-requires-2 c κs = search needs
 
 returns-3 : tie.Need-returns-3
-returns-3 c = c .none2 .ensures ∙ none-at _ _ _ _ _ (columns-silent (now (c .before .before .before .before .before .before .before .before .args .v)) record { a = c .before .before .before .before .before .before .before .before .args .a; b = c .before .before .before .before .before .before .before .before .args .b } (c .before .before .before .before .before .before .before .before .args .owner) (c .before .before .before .before .before .before .if1 .left) (sym (c .before .before .has-columns .ensures (now (c .before .before .before .before .before .before .before .before .args .v)) (c .before .before .before .before .before .before .before .before .args .owner) (c .before .before .before .before .read-at .ensures) (c .before .before .before .before .before .before .before .before .pre .1 .0 (c .before .before .before .before .before .before .before .before .args .owner))) ∙ not-true _ (c .before .if3 .taken)))
+returns-3 c =
+    let h = c .before .before in
+    let e = h .before .before .before .before in
+    let a = e .before .before .args in
+    c .none2 .ensures
+    ∙ none-at _ _ _ _ _
+    (columns-silent (now (a .v)) record { a = a .a; b = a .b } (a .owner) (e .if1 .left)
+    (sym (stated h) ∙ not-true _ (c .before .if3 .taken)))
 
 group-column-requires : tie.Need-group-column-requires
 group-column-requires c κs = search needs
 
 returns-4 : tie.Need-returns-4
-returns-4 c = c .group-column .ensures ∙ rw (c .before .before .before .before .read-at .ensures) (same-at _ _ _ _ _ _ (sym (columns-record (now (c .before .before .before .before .before .before .before .before .args .v)) record { a = c .before .before .before .before .before .before .before .before .args .a; b = c .before .before .before .before .before .before .before .before .args .b } (c .before .before .before .before .before .before .before .before .args .owner) (c .before .before .before .before .before .before .if1 .left) (sym (c .before .before .has-columns .ensures (now (c .before .before .before .before .before .before .before .before .args .v)) (c .before .before .before .before .before .before .before .before .args .owner) (c .before .before .before .before .read-at .ensures) (c .before .before .before .before .before .before .before .before .pre .1 .0 (c .before .before .before .before .before .before .before .before .args .owner))) ∙ not-false _ (c .before .if3 .left)))))
+returns-4 c =
+    let h = c .before .before in
+    let e = h .before .before .before .before in
+    let a = e .before .before .args in
+    c .group-column .ensures
+    ∙ rw (h .before .before .read-at .ensures)
+    (same-at _ _ _ _ _ _
+    (sym (columns-record (now (a .v)) record { a = a .a; b = a .b } (a .owner) (e .if1 .left)
+    (sym (stated h) ∙ not-false _ (c .before .if3 .left)))))
 
 pub find-column-spec : {M : Type 1} → statement M
 find-column-spec =

@@ -1,3 +1,5 @@
+-- `columns::owner::query_column` meets its contract. Two columns, of one literal about the constant each; there is none past them.
+-- Assumes nothing.
 use native.Mathlib.Omega.{arith}
 use mathlib.Core.Path.{_∙_}
 use mathlib.Core.Bool.{true, false}
@@ -19,13 +21,21 @@ none-requires : tie.Need-none-requires
 none-requires c κs = search needs
 
 returns : tie.Need-returns
-returns c = λ nx ny nf. rw (c .before .match .keys1) (lists-one (concept false (c .before .before .args .a) 0) _ (c .pack-concept .ensures))
+returns c =
+    λ nx ny nf.
+    rw (c .before .match .keys1) (lists-one (concept false (c .before .before .args .a) 0) _ (c .pack-concept .ensures))
 
 returns-2 : tie.Need-returns-2
-returns-2 c = λ nx ny nf. rw (c .before .match .keys2) (lists-one (concept true (c .before .before .args .b) 0) _ (c .pack-concept2 .ensures))
+returns-2 c =
+    λ nx ny nf.
+    rw (c .before .match .keys2) (lists-one (concept true (c .before .before .args .b) 0) _ (c .pack-concept2 .ensures))
 
 returns-3 : tie.Need-returns-3
-returns-3 c = λ nx ny nf. c .none .ensures ∙ past-at (queryColumns record { a = c .before .before .args .a; b = c .before .before .args .b }) _ _ _ (c .before .before .args .n) (omega (arith, c .before .match .rest .1, c .before .match .rest .0 .1))
+returns-3 c =
+    let a = c .before .before .args in
+    let r = c .before .match .rest in
+    λ nx ny nf.
+    c .none .ensures ∙ past-at (queryColumns record { a = a .a; b = a .b }) _ _ _ (a .n) (omega (arith, r .1, r .0 .1))
 
 pub query-column-spec : {M : Type 1} → statement M
 query-column-spec =
