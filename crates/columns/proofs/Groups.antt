@@ -9,13 +9,13 @@ use Prim.Native.Nat.{ℕ, zero, suc, _≤_, _<_}
 use native.Mathlib.Omega.{arith}
 use native.Mathlib.Decide.{ℕ-discrete, decLt}
 use mathlib.Core.Path.{_≡_, refl, sym, ap}
-use mathlib.Core.Bool.{Bool, true, false}
+use mathlib.Core.Bool.{false}
 use mathlib.Core.List.{List, [], _∷_}
 use lib.ListN.{length, getD, List·getD-eq-default}
 use lib.Dec.{eqb}
 use borrow.Author.Tests.{ne-eqb}
-use Rattle.records.specs.Kinds.{Construct, none, top, bottom, name, negation, conjunction, disjunction, existential}
-use Rattle.records.specs.Kinds.{universal, inclusion, Kind, kindOf, constructOf}
+use Rattle.records.specs.Kinds.{Construct, negation}
+use Rattle.records.specs.Kinds.{inclusion, Kind, kindOf}
 use Rattle.records.specs.declared.fields.Record.{Record}
 use Rattle.records.proofs.Ranges.{between}
 use Rattle.records.proofs.Constructs.{kind-past}

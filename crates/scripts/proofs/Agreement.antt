@@ -1,13 +1,12 @@
 -- The run over numbers, which the code computes, is the run of the paper, over literals about terms written out.
 --   row-pass, then-same                       a row before nothing else; a check, and another where it passed
 --   not-start                                 a step that passed is no start
---   all-occurring                             what holds of every number that occurs in a list
 --   StepLine, kind-step                       what steps say; a step record says it
 --   Fit, used                                 what row 18 allows record i to say; the column of an extension that it allows
 --   moved                                     the frames at codes after what a record says
 --   moved-numbers, moved-meant, moved-state   their numbers and what they mean are the frames after the step; they are a State
 --   line-same, step-same                      rows 20 to 23 and 25, at what a record says; at a record
---   OnChain, fit-at, chain-ahead              a step ahead of the header; row 18 passed there; the chain has no other records
+--   fit-at                                    row 18 passed at a record of the chain
 --   run-same                                  the run from given frames
 --   start-state, start-same, list-same        the frame of a start; a chain, by what its first record says; a chain as a list
 --   numbers-agree                             the check of a chain
@@ -15,19 +14,17 @@
 use Prim.Native.Nat.{ℕ, _≤_}
 use native.Mathlib.Omega.{arith}
 use mathlib.Core.Path.{_≡_, refl, sym, ap}
-use mathlib.Core.Bool.{Bool, true, false, not, or-true}
+use mathlib.Core.Bool.{Bool, true, false, not}
 use mathlib.Core.List.{List, [], _∷_}
-use lib.Dec.{leb, eqb}
-use borrow.Author.Tests.{leb-true, eq-eqb, not-true}
+use lib.Dec.{leb}
+use borrow.Author.Tests.{leb-true, not-true}
 use Rattle.records.specs.Outcome.{Check, accepted, refused, pass, _then_, require}
-use Rattle.records.specs.Chain.{occurs}
 use Rattle.records.proofs.Passed.{clash, both-right, require-passed, then-passed}
-use Rattle.records.proofs.Following.{Ahead, follow-target}
 use Rattle.records.proofs.Accepted.{Accepted, All}
 use Rattle.columns.specs.Columns.{Query}
 use Rattle.columns.specs.Packed.{packed}
-use Rattle.scripts.specs.Format.{entryAt, entries, queryOf, firstStep, Line, blank, named, applied, starting, extending}
-use Rattle.scripts.specs.Format.{reducing, kindOf, lineOf, lineAt, isStep, nextStep, chain}
+use Rattle.scripts.specs.Format.{entryAt, entries, queryOf, Line, blank, named, applied, starting, extending}
+use Rattle.scripts.specs.Format.{reducing, kindOf, lineOf, lineAt, isStep, chain}
 use Rattle.scripts.specs.Form.{stepFits}
 use Rattle.scripts.specs.Calculus.{without, Step}
 use Rattle.scripts.specs.Run.{Frames, stepOf, stepAt, isNil, isStart, connects, reduces, hasRoom, close, open', stepCheck}
@@ -36,7 +33,7 @@ use Rattle.scripts.specs.Numbered.{reducesNumber, lineCheck, numberCheck
 use Rattle.scripts.specs.Numbered.{lineStart, numberChain}
 use Rattle.scripts.specs.declared.entry.Entry.{Entry}
 use Rattle.scripts.proofs.Lines.{by-kind}
-use Rattle.scripts.proofs.Formed.{Formed, IsStepAt}
+use Rattle.scripts.proofs.Formed.{Formed, OnChain, chain-ahead}
 use Rattle.scripts.proofs.Numbers.{ValidLiteral, close-map, open-map, without-map, without-all}
 use Rattle.scripts.proofs.Meant.{CodeFrames, numbers, meaning, meant, State, state-close, state-open, frames-nil}
 use Rattle.scripts.proofs.Meant.{reduces-same, extends-same}
@@ -61,14 +58,6 @@ not-start v q i frames step e =
     let rest = require (connects v q frames step) 21 i then require (reduces frames step) 22 i then last in
     let both = then-passed first rest tt (then-passed (require (not (isNil frames)) 25 i) (first then rest) tt e .1) in
     not-true (isStart step) (require-passed (not (isStart step)) 20 i (both .0))
-
-all-occurring : (P : ℕ → Type 0) (is : List ℕ) → ((i : ℕ) → occurs i is ≡ true → P i) → All P is
-unfolding occurs
-all-occurring P [] h = tt
-all-occurring P (i ∷ is) h = (
-  h i (rw (eq-eqb i i refl)),
-  all-occurring P is (λ j o. h j (rw o (or-true (eqb j i)))),
-)
 
 -- What a record says that is a step.
 abbrev StepLine : Line → Type 0
@@ -159,14 +148,10 @@ module _ (v s : List ℕ) (good : Accepted v) (f : Formed v s) where
   unfolding numberCheck
   step-same i frames g h = line-same i frames (lineAt s i) g h
 
-  -- The records of the chain.
-  abbrev OnChain : ℕ → Type 0
-  OnChain i = Ahead (IsStepAt s) (entries s) 0 i
-
-  fit-at : (i : ℕ) → OnChain i → Fit i (lineAt s i)
+  fit-at : (i : ℕ) → OnChain s i → Fit i (lineAt s i)
   fit-at i a = (omega (arith, a .within), f .steps i (a .later) (a .within))
 
-  run-same : (is : List ℕ) (frames : CodeFrames) (last : ℕ) → All OnChain is → State s frames
+  run-same : (is : List ℕ) (frames : CodeFrames) (last : ℕ) → All (OnChain s) is → State s frames
       → numberRun v s (numbers frames) last is ≡ run v s (meant s frames) last is
   unfolding numberRun numberStepped run
   run-same [] frames last a h = ap (λ (b : Bool). require b 24 last) (frames-nil s frames)
@@ -181,7 +166,7 @@ module _ (v s : List ℕ) (good : Accepted v) (f : Formed v s) where
   start-state : (n : ℕ) → n ≤ 1 → State s (startCodes v s n ∷ [])
   start-state n h = record { valid = (start-valid v s good f n, tt); filled = (start-filled v s n h, tt) }
 
-  start-same : (i : ℕ) (rest : List ℕ) (l : Line) → StepLine l → Fit i l → All OnChain rest
+  start-same : (i : ℕ) (rest : List ℕ) (l : Line) → StepLine l → Fit i l → All (OnChain s) rest
       → lineStart v s i rest l
       ≡ (require (isStart (stepOf s l)) 20 i then run v s (stepped v (queryOf s) [] (stepOf s l)) i rest)
   unfolding stepped
@@ -194,16 +179,11 @@ module _ (v s : List ℕ) (good : Accepted v) (f : Formed v s) where
   start-same i rest (extending owner n x y p) t g a = refl
   start-same i rest (reducing k) t g a = refl
 
-  list-same : (is : List ℕ) → All OnChain is → numberChain v s is ≡ chainCheck v s is
+  list-same : (is : List ℕ) → All (OnChain s) is → numberChain v s is ≡ chainCheck v s is
   unfolding numberChain chainCheck
   list-same [] a = refl
   list-same (i ∷ is) a =
       start-same i is (lineAt s i) (kind-step (entryAt s i) (a .0 .target)) (fit-at i (a .0)) (a .1)
 
-  chain-ahead : All OnChain (chain s)
-  chain-ahead =
-      all-occurring OnChain (chain s)
-      (λ i o. follow-target (nextStep s) (IsStepAt s) (entries s) (f .links) (entries s) 0 (firstStep s) i (f .first) o)
-
 pub numbers-agree : (v s : List ℕ) → Accepted v → Formed v s → numberChain v s (chain s) ≡ chainCheck v s (chain s)
-numbers-agree v s good f = list-same v s good f (chain s) (chain-ahead v s good f)
+numbers-agree v s good f = list-same v s good f (chain s) (chain-ahead v s f)

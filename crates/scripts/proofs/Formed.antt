@@ -6,23 +6,25 @@
 --   link-onward, next-onward                 row 19: a link, and a step's next, lead onward
 --   formed                                   a script whose form passes is Formed
 --   step-listed                              row 18: a step uses what is listed
---   follow-listed, chain-listed              so does each step on the way from one, and each of the chain
+--   all-occurring, OnChain, chain-ahead      what holds of every number that occurs in a list; the chain has steps alone
+--   steps-listed, chain-listed               each of these uses what is listed
 -- Assumes nothing.
-use Prim.Native.Nat.{ℕ, zero, suc, _-_, _%_, _≤_, _<_}
+use Prim.Native.Nat.{ℕ, _-_, _%_, _≤_, _<_}
 use native.Mathlib.Omega.{arith}
 use mathlib.Core.Path.{_≡_, refl}
-use mathlib.Core.Bool.{Bool, true, false, _&&_, _||_}
+use mathlib.Core.Bool.{Bool, true, false, _&&_, _||_, or-true}
 use mathlib.Core.List.{List, [], _∷_, map}
 use mathlib.Core.Logic.{inl, inr}
 use lib.ListN.{length}
 use lib.Dec.{ltb, leb, eqb}
-use borrow.Author.Tests.{ltb-true, leb-true, eqb-true}
+use borrow.Author.Tests.{ltb-true, leb-true, eqb-true, eq-eqb}
 use Rattle.records.specs.Outcome.{pass, _then_, require, inTurn}
 use Rattle.records.specs.Format.{recordAt, count}
 use Rattle.records.specs.Kinds.{isTerm}
-use Rattle.records.specs.Chain.{follow}
+use Rattle.records.specs.Chain.{occurs}
 use Rattle.records.proofs.Passed.{both-left, both-right, require-passed, then-passed, turn-at}
-use Rattle.records.proofs.Following.{Onward}
+use Rattle.records.proofs.Following.{Ahead, Onward, follow-target}
+use Rattle.records.proofs.Accepted.{All}
 use Rattle.types.specs.Compare.{termCheck}
 use Rattle.types.proofs.Tests.{implies-rest}
 use Rattle.columns.specs.Columns.{columnAt, takesY}
@@ -166,6 +168,18 @@ formed v s e =
       links = λ i p h. next-onward s i (turn-at (linkCheck s) (entries s - 1) 1 (link .1) i p (omega arith));
     }
 
+all-occurring : (P : ℕ → Type 0) (is : List ℕ) → ((i : ℕ) → occurs i is ≡ true → P i) → All P is
+unfolding occurs
+all-occurring P [] h = tt
+all-occurring P (i ∷ is) h = (
+  h i (rw (eq-eqb i i refl)),
+  all-occurring P is (λ j o. h j (rw o (or-true (eqb j i)))),
+)
+
+-- A step ahead of the header.
+abbrev pub OnChain : List ℕ → ℕ → Type 0
+OnChain s i = Ahead (IsStepAt s) (entries s) 0 i
+
 module _ (v s : List ℕ) where
   step-listed : (i : ℕ) (l : Line) → stepFits v s i l ≡ true → StepListed v (queryOf s) (stepOf s l)
   step-listed i blank e = omega arith
@@ -178,16 +192,17 @@ module _ (v s : List ℕ) where
   step-listed i (reducing f) e = tt
 
   module _ (f : Formed v s) where
-    follow-listed : (n i x : ℕ) → Onward (IsStepAt s) (entries s) i x
-        → AllListed v (queryOf s) (map (stepAt s) (follow (nextStep s) n x))
-    unfolding follow
-    follow-listed zero i x l = tt
-    follow-listed (suc n) i x (inl e) = rw e tt
-    follow-listed (suc n) i zero (inr a) = tt
-    follow-listed (suc n) i (suc x) (inr a) = (
-      step-listed (suc x) (lineAt s (suc x)) (f .steps (suc x) (omega arith) (a .within)),
-      follow-listed n (suc x) (nextStep s (suc x)) (f .links (suc x) (omega arith) (a .within) (a .target)),
+    pub chain-ahead : All (OnChain s) (chain s)
+    chain-ahead =
+        all-occurring (OnChain s) (chain s)
+        (λ i o. follow-target (nextStep s) (IsStepAt s) (entries s) (f .links) (entries s) 0 (firstStep s) i (f .first) o)
+
+    steps-listed : (is : List ℕ) → All (OnChain s) is → AllListed v (queryOf s) (map (stepAt s) is)
+    steps-listed [] a = tt
+    steps-listed (i ∷ is) a = (
+      step-listed i (lineAt s i) (f .steps i (a .0 .later) (a .0 .within)),
+      steps-listed is (a .1),
     )
 
     pub chain-listed : AllListed v (queryOf s) (map (stepAt s) (chain s))
-    chain-listed = follow-listed (entries s) 0 (firstStep s) (f .first)
+    chain-listed = steps-listed (chain s) chain-ahead

@@ -1,6 +1,6 @@
 -- What a script record says, by its kind, as the tests of the code tell it.
 --   words-zero                                  the sum of words that are all zero
---   by-kind                                     what holds of each kind of the table, and of none
+--   kind-past, by-kind                          kinds past the table say nothing; what holds of each kind of the table, and of none
 --   unused-none                                 a kind that is not in the table has no words
 --   line-named, function-line, function-other   which records are the constant; the rule for function terms
 --   step-start, step-extension, step-other      the rule for steps
@@ -48,7 +48,7 @@ words-zero a b c d e =
     let same : a + b + c + d + e ≡ total (a ∷ b ∷ c ∷ d ∷ e ∷ []) = omega arith in
     rw same (total-zero (a ∷ b ∷ c ∷ d ∷ e ∷ []))
 
-kind-past : (k : ℕ) → 6 ≤ k → kindOf k ≡ noKind
+pub kind-past : (k : ℕ) → 6 ≤ k → kindOf k ≡ noKind
 unfolding kindOf
 kind-past k h = List·getD-eq-default kinds noKind h
 

@@ -11,16 +11,16 @@ use mathlib.Core.Path.{_≡_, refl, sym, ap, _∙_}
 use mathlib.Core.Bool.{Bool, true, false, not}
 use mathlib.Core.List.{List, [], _∷_}
 use lib.ListN.{length, getD}
-use lib.Dec.{leb, eqb}
+use lib.Dec.{eqb}
 use borrow.Author.Tests.{leb-true, eqb-true, eqb-false, ne-eqb, not-true, not-false}
-use Rattle.records.specs.Outcome.{Outcome, Check, accepted, refused, pass, _then_, require}
+use Rattle.records.specs.Outcome.{Outcome, accepted, refused, pass, _then_, require}
 use Rattle.records.specs.Answers.{checked}
 use Rattle.records.specs.declared.answers.Checked.{Checked}
 use Rattle.records.specs.declared.answers.Checked.the-variants.{Refused}
 use Rattle.records.proofs.Passed.{clash}
 use Rattle.columns.specs.Columns.{Query, queryColumns, columnsAt}
 use Rattle.columns.specs.Packed.{packedAt, listed}
-use Rattle.scripts.specs.Format.{entryAt, entries, queryOf, firstStep, kindOf, lineOf, lineAt, nextStep, chainFrom, chain}
+use Rattle.scripts.specs.Format.{entryAt, firstStep, kindOf, lineOf, lineAt, chainFrom, chain}
 use Rattle.scripts.specs.Numbered.{startNumbers, lineStart, numberRun, numberChain}
 use Rattle.scripts.specs.Ready.{IsStep}
 use Rattle.scripts.specs.declared.entry.Entry.{Entry}

@@ -3,7 +3,7 @@
 --   First, Applied                           what is told of the constant's record; of a record of kind 2
 --   Valid, code-zero                         codes: 0, or a function above 0 with a term record; 0 is the constant's
 --   Inner, inner-local, line-inner           the inner term of what a record says comes before it
---   kind-past, entry-past, past-line         kinds past the table, and records past the end, say nothing
+--   entry-past, past-line                    records past the end say nothing
 --   term-eq, header-line, header-term        a record's term from those of earlier records; the header counts as the constant
 --   term-kind, line-first, line-applied      the kinds of term records, and what these say
 --   term-positive, function-positive         the header is no term record, and no function
@@ -22,7 +22,7 @@ use mathlib.Core.Path.{_≡_, refl, sym, ap, subst, _∙_}
 use mathlib.Core.Bool.{Bool, true, false, Bool·beq, not, _&&_, _||_}
 use mathlib.Core.List.{List, [], _∷_}
 use mathlib.Core.Logic.{_⊎_, inl, inr}
-use lib.ListN.{length, take, drop-of-length-le, List·getD-eq-default}
+use lib.ListN.{length, take, drop-of-length-le}
 use lib.Dec.{ltb, eqb}
 use borrow.Author.Tests.{ltb-true, eqb-true, eq-eqb, ne-eqb, not-true}
 use Rattle.records.specs.Format.{recordAt, count, wordAt}
@@ -33,12 +33,13 @@ use Rattle.types.proofs.InOrder.{in-order}
 use Rattle.types.proofs.Tests.{same-truth}
 use Rattle.columns.specs.Literals.{SkolemTerm, constant, apply, sameTerm}
 use Rattle.columns.proofs.Literals.{sameTerm-true, sameTerm-refl}
-use Rattle.scripts.specs.Format.{entryAt, entries, Line, blank, named, applied, starting, extending, reducing, kinds}
-use Rattle.scripts.specs.Format.{Kind, noKind, kindOf, lineAt, isTerm, termOf, termAt}
+use Rattle.scripts.specs.Format.{entryAt, entries, Line, blank, named, applied, starting, extending, reducing}
+use Rattle.scripts.specs.Format.{Kind, kindOf, lineAt, isTerm, termOf, termAt}
 use Rattle.scripts.specs.Form.{allZero, unusedFits, earlierTerm, isFunction, repeats, repeated, isNamed, functionFits}
 use Rattle.scripts.specs.Form.{termFits}
 use Rattle.scripts.specs.Codes.{codeAt, codeTerm}
 use Rattle.scripts.specs.declared.entry.Entry.{Entry}
+use Rattle.scripts.proofs.Lines.{kind-past}
 use Rattle.scripts.proofs.Formed.{Formed}
 
 pub record TermRecord (s : List ℕ) (n : ℕ) : Type 0 where
@@ -94,11 +95,7 @@ inner-local i (starting n) h f g e = refl
 inner-local i (extending owner n x y p) h f g e = refl
 inner-local i (reducing k) h f g e = refl
 
--- kinds past the table say nothing, and there is nothing past the end
-kind-past : (k : ℕ) → 6 ≤ k → kindOf k ≡ noKind
-unfolding kindOf
-kind-past k h = List·getD-eq-default kinds noKind h
-
+-- there is nothing past the end
 entry-past : (s : List ℕ) (i : ℕ) → length s % 16 ≡ 0 → entries s ≤ i → entryAt s i .w0 ≡ 0
 unfolding entryAt
 entry-past s i w h = ap (λ (l : List ℕ). wordAt (take 16 l) 0) (drop-of-length-le s {i = 16 * i} (omega arith))

@@ -8,7 +8,6 @@
 use Prim.Native.Nat.{ℕ, zero, suc, _+_, _≤_, _<_}
 use native.Mathlib.Omega.{arith}
 use mathlib.Core.Path.{_≡_, refl, sym, ap, subst, _∙_}
-use mathlib.Core.Bool.{Bool, true, false}
 use mathlib.Core.List.{List, [], _∷_}
 use mathlib.Core.Logic.{inl, inr}
 use lib.ListN.{length}
@@ -19,13 +18,13 @@ use Rattle.records.specs.Answers.{checked}
 use Rattle.records.specs.Chain.{follow}
 use Rattle.records.specs.declared.answers.Checked.{Checked}
 use Rattle.records.specs.declared.answers.Checked.the-variants.{Refused}
-use Rattle.records.proofs.Following.{Ahead, Onward, follow-nil, follow-step, left, left-falls}
+use Rattle.records.proofs.Following.{Onward, follow-nil, follow-step, left, left-falls}
 use Rattle.scripts.specs.Format.{entries, nextStep, chainFrom}
 use Rattle.scripts.specs.Run.{isNil}
 use Rattle.scripts.specs.Machine.{framesFrom}
 use Rattle.scripts.specs.Numbered.{numberCheck, numberStepped, numberRun}
 use Rattle.scripts.specs.Ready.{IsStep, Reached}
-use Rattle.scripts.proofs.Formed.{Formed, IsStepAt}
+use Rattle.scripts.proofs.Formed.{Formed, IsStepAt, OnChain}
 
 pub standing : (s : List ℕ) (i : ℕ) → Reached s i → (i ≡ 0 → ⊥) → IsStep s i
 standing s i (inl e) n = absurd (n e)
@@ -35,7 +34,7 @@ pub reached : (s : List ℕ) (i x : ℕ) → Onward (IsStepAt s) (entries s) i x
 reached s i x (inl e) = inl e
 reached s i x (inr t) = inr record { positive = omega (arith, t .later); within = t .within; step = t .target }
 
-step-ahead : (s : List ℕ) (i : ℕ) → IsStep s i → Ahead (IsStepAt s) (entries s) 0 i
+step-ahead : (s : List ℕ) (i : ℕ) → IsStep s i → OnChain s i
 step-ahead s i t = record { later = t .positive; within = t .within; target = t .step }
 
 pub chain-end : (s : List ℕ) → chainFrom s 0 ≡ []
