@@ -1,6 +1,6 @@
 -- What a script record says, by its kind, as the tests of the code tell it.
 --   words-zero                                  the sum of words that are all zero
---   kind-past, by-kind                          kinds past the table say nothing; what holds of each kind of the table, and of none
+--   kind-past, by-kind                          a kind past the table; what holds of each kind of it, and of none
 --   unused-none                                 a kind that is not in the table has no words
 --   line-named, function-line, function-other   which records are the constant; the rule for function terms
 --   step-start, step-extension, step-other      the rule for steps

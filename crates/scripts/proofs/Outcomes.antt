@@ -25,7 +25,8 @@ use Rattle.scripts.proofs.Formed.{formed}
 use Rattle.scripts.proofs.Agreement.{numbers-agree}
 
 module _ (v : List ℕ) where
-  pub vocabulary-at : (c : Counted) (m : ℕ) → counted c ≡ vocabularyCheck v → c ≡ count.Records m → vocabularyCheck v ≡ accepted (format.count v)
+  pub vocabulary-at : (c : Counted) (m : ℕ) → counted c ≡ vocabularyCheck v → c ≡ count.Records m
+      → vocabularyCheck v ≡ accepted (format.count v)
   vocabulary-at c m e r =
       let taken : vocabularyCheck v ≡ accepted m = sym e ∙ ap counted r in
       taken ∙ ap (λ (n : ℕ). accepted n) (vocabulary-count v m taken)

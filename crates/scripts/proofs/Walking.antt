@@ -74,7 +74,8 @@ module _ (v s : List ℕ) (f : Formed v s) where
       (subst (Onward (IsStepAt s) (entries s) i) (sym e) (onward i t))
 
   pub walk-start : (frames : List (List ℕ)) (first next : ℕ) → Reached s next
-      → Walk v s (numberRun v s frames first (chainFrom s next) then accepted (suc (length (chainFrom s next)))) frames first next 1
+      → Walk v s (numberRun v s frames first (chainFrom s next) then accepted (suc (length (chainFrom s next))))
+      frames first next 1
   walk-start frames first next r =
       record {
         reached = r;
@@ -90,7 +91,8 @@ module _ (v s : List ℕ) (f : Formed v s) where
         then accepted (suc steps + length (chainFrom s (nextStep s at))))
     unfolding numberRun
     further t =
-        let n : steps + suc (length (chainFrom s (nextStep s at))) ≡ suc steps + length (chainFrom s (nextStep s at)) = omega arith in
+        let rest = length (chainFrom s (nextStep s at)) in
+        let n : steps + suc rest ≡ suc steps + rest = omega arith in
         rw (chain-at at t, n)
 
     pub walk-next : (k : Check) (after : List (List ℕ)) (x : ℕ) → IsStep s at → k ≡ numberCheck v s at frames → k ≡ pass

@@ -1,4 +1,4 @@
--- `columns::column::group_column` meets its contract. The kind of the record says which columns it has; kinds that are not listed have none.
+-- `columns::column::group_column` meets its contract. The kind of the record says which columns it has, if any.
 -- Assumes nothing.
 use Prim.Native.Nat.{_≤_}
 use native.Mathlib.Omega.{arith}

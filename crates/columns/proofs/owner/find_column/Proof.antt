@@ -1,4 +1,5 @@
--- `columns::owner::find_column` meets its contract. Owner 0 is the query; a record past the end, or that states nothing, has no column.
+-- `columns::owner::find_column` meets its contract. Owner 0 is the query; a record that is past the end, or
+-- states nothing, has no column.
 -- Assumes nothing.
 use native.Mathlib.Omega.{arith}
 use mathlib.Core.Path.{_≡_, sym, _∙_}

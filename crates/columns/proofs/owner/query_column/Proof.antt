@@ -1,4 +1,4 @@
--- `columns::owner::query_column` meets its contract. Two columns, of one literal about the constant each; there is none past them.
+-- `columns::owner::query_column` meets its contract. Two columns, of one literal each; there is none past them.
 -- Assumes nothing.
 use native.Mathlib.Omega.{arith}
 use mathlib.Core.Path.{_∙_}

@@ -1,4 +1,4 @@
--- `scripts::answers::judge_after` meets its contract. A check that passed leaves what comes after it, a refusal stands.
+-- `scripts::answers::judge_after` meets its contract. A refusal stands; otherwise what comes after decides.
 -- Assumes nothing.
 use borrow.Author.Needs.{needs}
 use Rattle.scripts.proofs.answers.judge_after.Statement.{statement}

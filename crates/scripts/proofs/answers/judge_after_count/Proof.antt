@@ -1,4 +1,4 @@
--- `scripts::answers::judge_after_count` meets its contract. A vocabulary that was accepted leaves what comes after it, a refusal stands.
+-- `scripts::answers::judge_after_count` meets its contract. A refusal stands; otherwise what comes after decides.
 -- Assumes nothing.
 use borrow.Author.Needs.{needs}
 use Rattle.scripts.proofs.answers.judge_after_count.Statement.{statement}

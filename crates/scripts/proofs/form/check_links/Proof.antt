@@ -1,4 +1,5 @@
--- `scripts::form::check_links` meets its contract. The header's link passed; the loop's invariant: the records from `i` on decide.
+-- `scripts::form::check_links` meets its contract. The header's link passed; the loop's invariant: the records
+-- from `i` on decide.
 -- Assumes nothing.
 use Prim.Native.Nat.{_-_}
 use native.Mathlib.Omega.{arith}
@@ -35,8 +36,9 @@ first : (c : tie.After-pass-if Inv-loop μ-loop)
     checked (c .pass-if .result) ≡ require (linkFits s 0 (firstStep s)) 19 0
 first c =
     let r = c .before .before in
+    let a = r .before .before .args in
     asked _ _ _ _ _ (c .pass-if .ensures)
-    (c .before .link-fits .ensures ∙ ap (λ (x : Entry). linkFits (now (r .before .before .args .s)) 0 (x .w3)) (r .read-entry .ensures))
+    (c .before .link-fits .ensures ∙ ap (λ (x : Entry). linkFits (now (a .s)) 0 (x .w3)) (r .read-entry .ensures))
 
 enum-told : tie.Need-enum-told Inv-loop μ-loop
 enum-told c = search needs

@@ -26,7 +26,8 @@ first : (c : tie.After-check-term)
     checked (c .check-term .result) ≡ termCheck (now (a .v)) (queryOf (now (a .s)) .a)
 first c =
     let r = c .before .before in
-    c .check-term .ensures ∙ ap (λ (x : Entry). termCheck (now (r .before .before .before .args .v)) (x .w1)) (r .read-entry .ensures)
+    let a = r .before .before .before .args in
+    c .check-term .ensures ∙ ap (λ (x : Entry). termCheck (now (a .v)) (x .w1)) (r .read-entry .ensures)
 
 enum-told : tie.Need-enum-told
 enum-told c = search needs
@@ -48,8 +49,9 @@ returns-2 : tie.Need-returns-2
 returns-2 c =
     let k = c .before .before .before .before in
     let r = k .before .before in
+    let a = r .before .before .before .args in
     goes _ _ _ _ (first k) (c .before .before .enum-told .given .1)
-    (c .check-term2 .ensures ∙ ap (λ (x : Entry). termCheck (now (r .before .before .before .args .v)) (x .w2)) (r .read-entry .ensures))
+    (c .check-term2 .ensures ∙ ap (λ (x : Entry). termCheck (now (a .v)) (x .w2)) (r .read-entry .ensures))
 
 pub check-query-spec : {M : Type 1} → statement M
 check-query-spec =

@@ -11,7 +11,10 @@ use Rattle.scripts.specs.declared.entry.Entry.{Entry}
 use Rattle.scripts.proofs.form.check_rows.Statement.{statement}
 use Rattle.scripts.proofs.form.check_rows.Tie as tie
 
--- rows 16 to 18, at the record that was read
+-- rows 15 to 18, at the record that was read
+abbrev row15 : tie.After-read → Check
+row15 c = require (kindFits (c .read .result)) 15 (c .before .before .before .before .args .i)
+
 abbrev row16 : tie.After-read → Check
 row16 c = require (unusedFits (c .read .result)) 16 (c .before .before .before .before .args .i)
 
@@ -25,13 +28,12 @@ row18 c =
     let a = c .before .before .before .before .args in
     require (stepFits (now (a .v)) (now (a .s)) (a .i) (lineOf (c .read .result))) 18 (a .i)
 
--- rows 15 to 18, at the record
+-- the same, at the record
 abbrev whole : tie.After-read → Check
 whole c = let a = c .before .before .before .before .args in rowsCheck (now (a .v)) (now (a .s)) (a .i) (entryOf (now (a .part)))
 
 read-rows : (c : tie.After-read)
-    → (require (kindFits (c .read .result)) 15 (c .before .before .before .before .args .i) then row16 c then row17 c then row18 c)
-    ≡ whole c
+    → (row15 c then row16 c then row17 c then row18 c) ≡ whole c
 read-rows c =
     let a = c .before .before .before .before .args in
     ap (λ (e : Entry). rowsCheck (now (a .v)) (now (a .s)) (a .i) e) (c .read .ensures)

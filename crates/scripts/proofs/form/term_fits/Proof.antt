@@ -1,4 +1,5 @@
--- `scripts::form::term_fits` meets its contract. Kind 1 is the constant; whether record 1, and no other, is decides before the rule for functions.
+-- `scripts::form::term_fits` meets its contract. Record 1, and no other, is the constant, of kind 1; then the rule
+-- for functions decides.
 -- Assumes nothing.
 use mathlib.Core.Path.{_∙_}
 use mathlib.Core.Bool.{Bool·beq}

@@ -1,4 +1,5 @@
--- `scripts::run::check_chain` meets its contract. Row 20 asks for a start as first step; its frame, and the steps after it, are run.
+-- `scripts::run::check_chain` meets its contract. The first step is a start, as row 20 asks; from its frame the
+-- other steps are run.
 -- Assumes nothing.
 use Prim.Native.Nat.{_<_}
 use native.Mathlib.Omega.{arith}

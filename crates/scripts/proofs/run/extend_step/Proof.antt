@@ -144,7 +144,8 @@ extend-requires c κs =
     let l = r .before .before .leave-out .result in (
       b .pre .1 .1 .1 .1 .1,
       room-left (l .first) (l .second) (b .args .t6 .depth)
-          (sym (r .before .has-room .ensures) ∙ require-passed _ _ _ (passed _ _ (r .pass-if2 .ensures) (c .enum-told3 .given .1))),
+          (sym (r .before .has-room .ensures)
+          ∙ require-passed _ _ _ (passed _ _ (r .pass-if2 .ensures) (c .enum-told3 .given .1))),
     )
 
 returns-3 : tie.Need-returns-3
@@ -155,7 +156,10 @@ returns-3 c =
     let b = u .before .before .before .before in (
       goes _ (row21 b) (row23 b) _ (connected p) (r .before .before .before .enum-told .given .1)
           (sym (passed _ (row23 b) (roomy r) (c .before .enum-told3 .given .1))),
-      (λ q. c .extend .ensures .0 ∙ rw (r .before .before .leave-out .ensures .0, u .used-column .ensures), c .extend .ensures .1),
+      (
+        λ q. c .extend .ensures .0 ∙ rw (r .before .before .leave-out .ensures .0, u .used-column .ensures),
+        c .extend .ensures .1,
+      ),
     )
 
 pub extend-step-spec : {M : Type 1} → statement M

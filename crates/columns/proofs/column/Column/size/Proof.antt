@@ -10,12 +10,14 @@ returns c = search needs
 
 returns-2 : tie.Need-returns-2
 returns-2 c =
-    let l = c .before .before .before .before .args .self in size-one (l .first) _ _ (c .before .before .if1 .left) (c .if2 .taken)
+    let l = c .before .before .before .before .args .self in
+    size-one (l .first) _ _ (c .before .before .if1 .left) (c .if2 .taken)
 
 returns-3 : tie.Need-returns-3
 returns-3 c =
     let l = c .before .before .before .before .before .before .args .self in
-    size-two (l .first) (l .second) _ (c .before .before .before .before .if1 .left) (c .before .before .if2 .left) (c .if3 .taken)
+    size-two (l .first) (l .second) _ (c .before .before .before .before .if1 .left) (c .before .before .if2 .left)
+    (c .if3 .taken)
 
 returns-4 : tie.Need-returns-4
 returns-4 c =
