@@ -10,6 +10,7 @@ use Rattle.scripts.specs.Format.{isTerm}
 use Rattle.scripts.proofs.entry.is_term_entry.Statement.{statement}
 use Rattle.scripts.proofs.entry.is_term_entry.Tie as tie
 
+-- the range, as the two kinds
 one-or-two : (k : ℕ) → 1 ≤ k → k < 3 → true ≡ isTerm k
 one-or-two = between (λ k. true ≡ isTerm k) 2 1 (refl, (refl, tt))
 

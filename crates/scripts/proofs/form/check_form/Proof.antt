@@ -66,8 +66,7 @@ enum-told-2 c = search needs
 
 returns : tie.Need-returns
 unfolding formCheck
-returns c =
-    stops _ _ _ _ _ (long (c .before .before)) (c .enum-told2 .given .1)
+returns c = stops _ _ _ _ _ (long (c .before .before)) (c .enum-told2 .given .1)
 
 check-header-requires : tie.Need-check-header-requires
 check-header-requires c κs = omega (arith, least c)

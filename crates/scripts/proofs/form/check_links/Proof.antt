@@ -47,8 +47,7 @@ enum-told-2 : tie.Need-enum-told-2 Inv-loop μ-loop
 enum-told-2 c = search needs
 
 returns : tie.Need-returns Inv-loop μ-loop
-returns c =
-    stops _ _ _ _ _ (first (c .before .before)) (c .enum-told2 .given .1)
+returns c = stops _ _ _ _ _ (first (c .before .before)) (c .enum-told2 .given .1)
 
 loop-holds : tie.Need-loop-holds Inv-loop μ-loop
 loop-holds c = refl

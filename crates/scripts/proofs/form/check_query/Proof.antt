@@ -36,8 +36,7 @@ enum-told-2 : tie.Need-enum-told-2
 enum-told-2 c = search needs
 
 returns : tie.Need-returns
-returns c =
-    stops _ _ _ _ _ (first (c .before .before)) (c .enum-told2 .given .1)
+returns c = stops _ _ _ _ _ (first (c .before .before)) (c .enum-told2 .given .1)
 
 cast-check-term-2 : tie.Need-cast-check-term-2
 cast-check-term-2 c = search needs

@@ -32,8 +32,7 @@ row18 c =
 abbrev whole : tie.After-read → Check
 whole c = let a = c .before .before .before .before .args in rowsCheck (now (a .v)) (now (a .s)) (a .i) (entryOf (now (a .part)))
 
-read-rows : (c : tie.After-read)
-    → (row15 c then row16 c then row17 c then row18 c) ≡ whole c
+read-rows : (c : tie.After-read) → (row15 c then row16 c then row17 c then row18 c) ≡ whole c
 read-rows c =
     let a = c .before .before .before .before .args in
     ap (λ (e : Entry). rowsCheck (now (a .v)) (now (a .s)) (a .i) e) (c .read .ensures)

@@ -41,8 +41,7 @@ sized c =
     size-at _ (named (c .before .before .before .before .before)) _ (c .size .ensures) (c .before .before .find-column .ensures)
 
 returns : tie.Need-returns
-returns c =
-    rw (← sized (c .before), le-ltb _ _ (c .if1 .taken))
+returns c = rw (← sized (c .before), le-ltb _ _ (c .if1 .taken))
 
 x-fits-requires : tie.Need-x-fits-requires
 x-fits-requires c κs = search needs

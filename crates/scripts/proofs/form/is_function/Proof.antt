@@ -14,6 +14,7 @@ use Rattle.records.proofs.Ranges.{between}
 use Rattle.scripts.proofs.form.is_function.Statement.{statement}
 use Rattle.scripts.proofs.form.is_function.Tie as tie
 
+-- the range, as the two kinds
 seven-eight : (b : Bool) (k : ℕ) → b ≡ true → (r : ℕ) → r ≡ k → 7 ≤ r → r < 9 → true ≡ (b && (eqb k 7 || eqb k 8))
 seven-eight b k e r p l h = rw (e, ← p) (between (λ k. true ≡ (eqb k 7 || eqb k 8)) 2 7 (refl, (refl, tt)) r l h)
 

@@ -13,13 +13,14 @@ use Rattle.scripts.specs.Format.{firstStep}
 use Rattle.scripts.specs.Machine.{framesOf}
 use Rattle.scripts.specs.Ready.{IsStep}
 use Rattle.scripts.specs.declared.entry.Entry.{Entry}
-use Rattle.scripts.proofs.Formed.{formed, Formed}
+use Rattle.scripts.proofs.Formed.{Formed, formed}
 use Rattle.scripts.proofs.Walking.{next-reached}
 use Rattle.scripts.proofs.Starting.{start-listed, start-one, start-frames, chain-none, chain-other, chain-started}
 use Rattle.scripts.proofs.Starting.{first-step}
 use Rattle.scripts.proofs.run.check_chain.Statement.{statement}
 use Rattle.scripts.proofs.run.check_chain.Tie as tie
 
+-- Places: b is the start, h after the header was read, e after the first step was read, g where it is a start.
 form : (c : tie.Start) → Formed (now (c .args .v)) (now (c .args .s))
 form c = formed _ _ (c .pre .form)
 

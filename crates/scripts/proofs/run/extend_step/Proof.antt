@@ -55,6 +55,7 @@ cast-position c = search needs
 abbrev found : tie.After-used-column → List ℕ
 found c = listed (c .used-column .result .first) (c .used-column .result .second) (c .used-column .result .third)
 
+-- it has the position
 placed : (c : tie.After-used-column) → c .before .before .before .before .args .e .w5 < length (found c)
 placed c =
     let b = c .before .before .before .before in
@@ -78,11 +79,15 @@ enum-told c = search needs
 enum-told-2 : tie.Need-enum-told-2
 enum-told-2 c = search needs
 
-connected : (c : tie.After-pass-if)
-    → checked (c .pass-if .result) ≡ row21 (c .before .before .before .before .before .before .before .before)
+-- the place before the test of row 21
+abbrev start : tie.After-pass-if → tie.Start
+start c = c .before .before .before .before .before .before .before .before
+
+-- row 21, from the call that tests it
+connected : (c : tie.After-pass-if) → checked (c .pass-if .result) ≡ row21 (start c)
 connected c =
     let u = c .before .before .before .before in
-    let b = u .before .before .before .before in
+    let b = start c in
     let m = b .args .t6 in
     asked _ _ _ _ _ (c .pass-if .ensures)
     (connect-told (found u) (named b) (u .used-column .ensures) (b .args .e .w5) _ _ _ (framesOf m)
@@ -93,7 +98,7 @@ connected c =
 returns : tie.Need-returns
 returns c =
     let p = c .before .before in
-    let b = p .before .before .before .before .before .before .before .before in (
+    let b = start p in (
       stops _ (row21 b) (row23 b) _ _ (connected p) (c .enum-told2 .given .1),
       (λ q. absurd (not-passed _ _ _ (c .enum-told2 .given .1) q), b .pre .1 .1 .1 .1 .1),
     )
@@ -113,15 +118,15 @@ enum-told-3 c = search needs
 enum-told-4 : tie.Need-enum-told-4
 enum-told-4 c = search needs
 
--- the place where the test of row 21 was made
+-- the place after the test of row 21
 abbrev opened : tie.After-pass-if2 → tie.After-pass-if
 opened c = c .before .before .before .before .before
 
-roomy : (c : tie.After-pass-if2)
-    → checked (c .pass-if2 .result) ≡ row23 (opened c .before .before .before .before .before .before .before .before)
+-- row 23, from the call that tests it
+roomy : (c : tie.After-pass-if2) → checked (c .pass-if2 .result) ≡ row23 (start (opened c))
 roomy c =
     let u = opened c .before .before .before .before in
-    let b = u .before .before .before .before in
+    let b = start (opened c) in
     let l = c .before .before .leave-out in
     let m = b .args .t6 in
     asked _ _ _ _ _ (c .pass-if2 .ensures)
@@ -132,7 +137,7 @@ returns-2 : tie.Need-returns-2
 returns-2 c =
     let r = c .before .before in
     let p = opened r in
-    let b = p .before .before .before .before .before .before .before .before in (
+    let b = start p in (
       goes _ (row21 b) (row23 b) _ (connected p) (r .before .before .before .enum-told .given .1) (roomy r),
       (λ q. absurd (not-passed _ _ _ (c .enum-told4 .given .1) q), b .pre .1 .1 .1 .1 .1),
     )
@@ -140,7 +145,7 @@ returns-2 c =
 extend-requires : tie.Need-extend-requires
 extend-requires c κs =
     let r = c .before .before in
-    let b = opened r .before .before .before .before .before .before .before .before in
+    let b = start (opened r) in
     let l = r .before .before .leave-out .result in (
       b .pre .1 .1 .1 .1 .1,
       room-left (l .first) (l .second) (b .args .t6 .depth)
@@ -153,7 +158,7 @@ returns-3 c =
     let r = c .before .before .before in
     let p = opened r in
     let u = p .before .before .before .before in
-    let b = u .before .before .before .before in (
+    let b = start p in (
       goes _ (row21 b) (row23 b) _ (connected p) (r .before .before .before .enum-told .given .1)
           (sym (passed _ (row23 b) (roomy r) (c .before .enum-told3 .given .1))),
       (

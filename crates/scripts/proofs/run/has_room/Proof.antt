@@ -10,6 +10,7 @@ use Rattle.scripts.specs.Run.{isNil}
 use Rattle.scripts.proofs.run.has_room.Statement.{statement}
 use Rattle.scripts.proofs.run.has_room.Tie as tie
 
+-- where there is another literal, room is needed
 room-for : (a b : ℕ) (r : Bool) → (a ≡ 0 → ⊥) → r ≡ (isNil (listed a b 0) || r)
 room-for zero b r h = absurd (h refl)
 room-for (suc a) zero r h = refl

@@ -16,7 +16,7 @@ use Rattle.scripts.specs.Machine.{framesOf}
 use Rattle.scripts.specs.Numbered.{numberRun}
 use Rattle.scripts.specs.Ready.{IsStep}
 use Rattle.scripts.specs.declared.entry.Entry.{Entry}
-use Rattle.scripts.proofs.Formed.{formed, Formed}
+use Rattle.scripts.proofs.Formed.{Formed, formed}
 use Rattle.scripts.proofs.Walking.{Walk, standing, walk-start, walk-next, walk-refused, walk-done, walk-falls}
 use Rattle.scripts.proofs.run.run_steps.Statement.{statement}
 use Rattle.scripts.proofs.run.run_steps.Tie as tie

@@ -10,6 +10,7 @@ use Rattle.scripts.specs.Numbered.{secondCode}
 use Rattle.scripts.proofs.run.second_code.Statement.{statement}
 use Rattle.scripts.proofs.run.second_code.Tie as tie
 
+-- where a y stands
 second-at : (s : List ℕ) (n : ℕ) → (n ≡ 0 → ⊥) → codeAt s n ≡ secondCode s n
 second-at s zero h = absurd (h refl)
 second-at s (suc n) h = refl

@@ -8,14 +8,14 @@ use mathlib.Core.Logic.{_⊎_, inl, inr}
 use lib.ListN.{length}
 use denote.Ref.{now}
 use borrow.Author.Needs.{needs}
-use Rattle.records.proofs.Accepted.{accepted-vocabulary, Accepted}
+use Rattle.records.proofs.Accepted.{Accepted, accepted-vocabulary}
 use Rattle.columns.specs.Columns.{columnAt}
 use Rattle.columns.specs.Packed.{packedAt}
 use Rattle.scripts.specs.Format.{entryAt}
 use Rattle.scripts.specs.Codes.{codeAt}
 use Rattle.scripts.specs.Numbered.{secondCode, usedNumbers}
 use Rattle.scripts.specs.declared.entry.Entry.{Entry}
-use Rattle.scripts.proofs.Formed.{formed, Formed}
+use Rattle.scripts.proofs.Formed.{Formed, formed}
 use Rattle.scripts.proofs.Terms.{TermRecord}
 use Rattle.scripts.proofs.Extending.{Extends, read-extends, term-coded, second-coded}
 use Rattle.scripts.proofs.run.used_column.Statement.{statement}
@@ -26,6 +26,7 @@ second-within : (s : List ℕ) (n : ℕ) → (n ≡ 0) ⊎ TermRecord s n → 16
 second-within s n (inl z) h = rw z h
 second-within s n (inr t) h = omega (arith, t .within)
 
+-- the column at the codes that were found
 used-as : (v s : List ℕ) (h : Entry) (owner n x y cx cy : ℕ) → h ≡ entryAt s 0 → cx ≡ codeAt s x → cy ≡ secondCode s y
     → packedAt cx cy (owner + 512 * x) (columnAt v record { a = h .w1; b = h .w2 } owner n) ≡ usedNumbers v s owner n x y
 used-as v s h owner n x y cx cy e p q = rw (e, p, q)
