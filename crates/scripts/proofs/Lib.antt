@@ -16,6 +16,7 @@ pub mod Numbers
 pub mod Extending
 pub mod Stepping
 pub mod Walking
+pub mod Running
 pub mod Starting
 pub mod Meant
 pub mod Used

@@ -20,7 +20,7 @@ use Rattle.records.specs.declared.answers.Checked.the-variants.{Refused}
 use Rattle.records.proofs.Passed.{clash}
 use Rattle.columns.specs.Columns.{Query, queryColumns, columnsAt}
 use Rattle.columns.specs.Packed.{packedAt, listed}
-use Rattle.scripts.specs.Format.{entryAt, firstStep, kindOf, lineOf, lineAt, chainFrom, chain}
+use Rattle.scripts.specs.Format.{nextStep, entryAt, firstStep, kindOf, lineOf, lineAt, chainFrom, chain}
 use Rattle.scripts.specs.Numbered.{startNumbers, lineStart, numberRun, numberChain}
 use Rattle.scripts.specs.Ready.{IsStep}
 use Rattle.scripts.specs.declared.entry.Entry.{Entry}
@@ -45,12 +45,19 @@ start-one q zero a b c h e = one-listed a b c _ e
 start-one q (suc zero) a b c h e = one-listed a b c _ e
 start-one q (suc (suc n)) a b c h e = absurd (omega arith)
 
-pub start-frames : (v s : List ℕ) (h : Entry) → h ≡ entryAt s 0 → (n : ℕ) (l : List ℕ) (frames none : List (List ℕ))
-    → frames ≡ l ∷ none → none ≡ [] → l ≡ packedAt 0 0 0 (getD (queryColumns record { a = h .w1; b = h .w2 }) n [])
-    → frames ≡ startNumbers v s n ∷ []
+-- a list of one number is its first
+listed-alone : (a b c : ℕ) → 0 < a → b ≡ 0 → listed a b c ≡ a ∷ []
+listed-alone zero b c h e = absurd (omega arith)
+listed-alone (suc a) b c h e = rw e
+
+pub start-frames : (v s : List ℕ) (h : Entry) → h ≡ entryAt s 0 → (n a b c : ℕ) → n ≤ 1
+    → listed a b c ≡ packedAt 0 0 0 (getD (queryColumns record { a = h .w1; b = h .w2 }) n [])
+    → (a ∷ []) ∷ [] ≡ startNumbers v s n ∷ []
 unfolding columnsAt
-start-frames v s h q n l frames none e z p =
-    e ∙ (rw (z, p) (ap (λ (x : Entry). packedAt 0 0 0 (getD (queryColumns record { a = x .w1; b = x .w2 }) n []) ∷ []) q))
+start-frames v s h q n a b c l e =
+    let one = start-one record { a = h .w1; b = h .w2 } n a b c l e in
+    ap (λ (x : List ℕ). x ∷ []) (sym (listed-alone a b c (one .0) (one .1)) ∙ e)
+    ∙ ap (λ (x : Entry). packedAt 0 0 0 (getD (queryColumns record { a = x .w1; b = x .w2 }) n []) ∷ []) q
 
 module _ (e : Entry) (v s : List ℕ) (i : ℕ) (rest : List ℕ) where
   start-line : e .w0 ≡ 3 → lineStart v s i rest (lineOf e) ≡ numberRun v s (startNumbers v s (e .w1) ∷ []) i rest
@@ -85,23 +92,23 @@ module _ (v s : List ℕ) (f : Formed v s) where
       a ∙ rw (h, zero', none)
 
   module _ (first : ℕ) (same : first ≡ firstStep s) (t : IsStep s first) (e : Entry) (read : e ≡ entryAt s first) where
-    begun : chain s ≡ first ∷ chainFrom s (e .w7)
-    begun = ap (chainFrom s) (sym same) ∙ (chain-at v s f first t ∙ ap (λ (x : Entry). first ∷ chainFrom s (x .w7)) (sym read))
+    begun : chain s ≡ first ∷ chainFrom s (nextStep s first)
+    begun = ap (chainFrom s) (sym same) ∙ chain-at v s f first t
 
     pub chain-other : (answer : Outcome ℕ) (k : Checked) (m p : ℕ) → k ≡ Refused m p
         → checked k ≡ require (eqb (e .w0) 3) 20 first → answer ≡ (checked k then accepted 0) → answer ≡ outcome
     unfolding numberChain
     chain-other answer k m p r h a =
         let n : e .w0 ≡ 3 → ⊥ = eqb-false (e .w0) 3 (row-refused k (eqb (e .w0) 3) 20 first m p h r) in
-        let no : lineStart v s first (chainFrom s (e .w7)) (lineAt s first) ≡ refused 20 first
-        = rw (← read) (start-other e v s first (chainFrom s (e .w7)) n) in
+        let no : lineStart v s first (chainFrom s (nextStep s first)) (lineAt s first) ≡ refused 20 first
+        = rw (← read) (start-other e v s first (chainFrom s (nextStep s first)) n) in
         a ∙ rw (h, ne-eqb (e .w0) 3 n, begun, no)
 
     pub chain-started : (frames : List (List ℕ)) → frames ≡ startNumbers v s (e .w1) ∷ [] → e .w0 ≡ 3
-        → (numberRun v s frames first (chainFrom s (e .w7)) then accepted (suc (length (chainFrom s (e .w7))))) ≡ outcome
+        → (numberRun v s frames first (chainFrom s (nextStep s first)) then accepted (suc (length (chainFrom s (nextStep s first))))) ≡ outcome
     unfolding numberChain
     chain-started frames a h =
-        let yes : lineStart v s first (chainFrom s (e .w7)) (lineAt s first)
-        ≡ numberRun v s (startNumbers v s (e .w1) ∷ []) first (chainFrom s (e .w7))
-        = rw (← read) (start-line e v s first (chainFrom s (e .w7)) h) in
+        let yes : lineStart v s first (chainFrom s (nextStep s first)) (lineAt s first)
+        ≡ numberRun v s (startNumbers v s (e .w1) ∷ []) first (chainFrom s (nextStep s first))
+        = rw (← read) (start-line e v s first (chainFrom s (nextStep s first)) h) in
         rw (a, begun, yes)

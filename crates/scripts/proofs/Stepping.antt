@@ -2,20 +2,19 @@
 --   not-passed                            a refusal is no pass
 --   goal-told, open-told                  the goal, and whether a frame is open
 --   connect-told, room-told, room-left    rows 21 and 23
---   reduce-told                           row 22
+--   reduce-told, reduce-never             row 22
 --   line-extending, line-reducing, line-neither   what the record says
 --   check-.., step-..                     the rows at it, and the frames after it
 --   open-positive                         there is a frame
 -- Assumes nothing.
-use Prim.Native.Nat.{ℕ, zero, suc, _-_, _<_}
+use Prim.Native.Nat.{ℕ, zero, suc, _-_, _≤_, _<_}
 use native.Mathlib.Omega.{arith}
-use native.Mathlib.Decide.{decLt}
-use mathlib.Core.Path.{_≡_, refl, sym, ap, _∙_}
-use mathlib.Core.Bool.{Bool, true, not, _&&_, _||_}
-use mathlib.Core.List.{List}
+use mathlib.Core.Path.{_≡_, refl, sym, ap, subst, _∙_}
+use mathlib.Core.Bool.{Bool, true, false, not, _||_}
+use mathlib.Core.List.{List, []}
 use lib.ListN.{length, getD}
 use lib.Dec.{ltb, eqb}
-use borrow.Author.Tests.{ltb-true, le-ltb, ne-eqb}
+use borrow.Author.Tests.{ltb-true, lt-ltb, le-ltb, ne-eqb}
 use Rattle.records.specs.Outcome.{pass, refused, require}
 use Rattle.records.specs.Answers.{checked}
 use Rattle.records.specs.declared.answers.Checked.{Checked}
@@ -26,37 +25,36 @@ use Rattle.scripts.specs.Format.{entryAt, extending, reducing, kindOf, l
 use Rattle.scripts.specs.Calculus.{without, frameLimit}
 use Rattle.scripts.specs.Run.{isNil, close, open'}
 use Rattle.scripts.specs.Codes.{opposed}
-use Rattle.scripts.specs.Machine.{framesFrom}
+use Rattle.scripts.specs.Machine.{framesFrom, Placed}
 use Rattle.scripts.specs.Numbered.{usedNumbers, goalNumber, extendsCheck, reducesNumber, lineCheck, lineStepped}
 use Rattle.scripts.specs.declared.entry.Entry.{Entry}
-use Rattle.scripts.proofs.Frames.{frame-first, frames-length, frame-goal}
+use Rattle.scripts.proofs.Frames.{frames-length, frame-goal}
 use Rattle.scripts.proofs.Lines.{by-kind}
 
 pub not-passed : (k : Checked) (n p : ℕ) → k ≡ Refused n p → checked k ≡ pass → ⊥
 not-passed k n p r e = let no : refused n p ≡ pass = sym (ap checked r) ∙ e in clash (cc)
 
-module _ (goals seconds : List ℕ) where
-  pub goal-told : (n : ℕ) → 0 < n → getD goals (n - 1) 0 ≡ goalNumber (framesFrom goals seconds n)
-  unfolding framesFrom
-  goal-told zero h = absurd (omega arith)
-  goal-told (suc n) h =
-      let e : suc n - 1 ≡ n = omega arith in
-      rw e (sym (frame-first (getD goals n 0) (getD seconds n 0)))
-
-  pub open-told : (n : ℕ) → not (eqb n 0) ≡ not (isNil (framesFrom goals seconds n))
+module _ (table goals : List ℕ) where
+  pub open-told : (n : ℕ) → not (eqb n 0) ≡ not (isNil (framesFrom table goals n))
   unfolding framesFrom
   open-told zero = refl
   open-told (suc n) = rw (ne-eqb (suc n) 0 (λ z. absurd (omega arith)))
 
-  pub reduce-told : (n f : ℕ) → 0 < n
-      → (ltb (suc f) n && opposed (getD goals f 0) (getD goals (n - 1) 0)) ≡ reducesNumber (framesFrom goals seconds n) f
-  reduce-told n f h = at (decLt (suc f) n)
-    where
-      at : Dec (suc f < n)
-          → (ltb (suc f) n && opposed (getD goals f 0) (getD goals (n - 1) 0)) ≡ reducesNumber (framesFrom goals seconds n) f
-      at (yes l) =
-          rw (frames-length goals seconds n, frame-goal goals seconds n f (omega arith), goal-told n h)
-      at (no l) = rw (frames-length goals seconds n, le-ltb (suc f) n (omega arith))
+  module _ (n k : ℕ) (p : Placed table k goals n) (h : 0 < n) where
+    pub goal-told : getD table (getD goals (n - 1) 0) 0 ≡ goalNumber (framesFrom table goals n)
+    goal-told =
+        let e : n - suc (n - 1) ≡ 0 = omega arith in
+        sym (subst (λ (j : ℕ). getD (getD (framesFrom table goals n) j []) 0 0 ≡ getD table (getD goals (n - 1) 0) 0) e
+        (frame-goal table goals n (n - 1) k p (omega arith)))
+
+    pub reduce-told : (f : ℕ) (r : Bool) → suc f < n
+        → r ≡ opposed (getD table (getD goals f 0) 0) (getD table (getD goals (n - 1) 0) 0)
+        → r ≡ reducesNumber (framesFrom table goals n) f
+    reduce-told f r l e =
+        e ∙ rw (frames-length table goals n, lt-ltb (suc f) n l, frame-goal table goals n f k p (omega arith), goal-told)
+
+  pub reduce-never : (n f : ℕ) → n ≤ suc f → false ≡ reducesNumber (framesFrom table goals n) f
+  reduce-never n f l = rw (frames-length table goals n, le-ltb (suc f) n l)
 
 -- the column that was found is the one that is named
 module _ (found named : List ℕ) (same : found ≡ named) (p : ℕ) where
@@ -64,10 +62,10 @@ module _ (found named : List ℕ) (same : found ≡ named) (p : ℕ) where
       → g ≡ goalNumber frames → r ≡ opposed (getD named p 0) (goalNumber frames)
   connect-told r l g frames h e q = h ∙ rw (e, q, same)
 
-  pub room-told : (r : Bool) (a b : ℕ) (goals seconds : List ℕ) (n : ℕ) → r ≡ (isNil (listed a b 0) || ltb n frameLimit)
-      → listed a b 0 ≡ without p found
-      → r ≡ (isNil (without p named) || ltb (length (framesFrom goals seconds n)) frameLimit)
-  room-told r a b goals seconds n h e = h ∙ rw (e, same, frames-length goals seconds n)
+  pub room-told : (r : Bool) (a b : ℕ) (frames : List (List ℕ)) (n : ℕ) → r ≡ (isNil (listed a b 0) || ltb n frameLimit)
+      → listed a b 0 ≡ without p found → length frames ≡ n
+      → r ≡ (isNil (without p named) || ltb (length frames) frameLimit)
+  room-told r a b frames n h e q = h ∙ rw (e, same, q)
 
 pub room-left : (a b n : ℕ) → (isNil (listed a b 0) || ltb n frameLimit) ≡ true → 0 < a → n < 64
 room-left zero b n e h = absurd (omega arith)

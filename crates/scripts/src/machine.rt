@@ -1,19 +1,21 @@
 // The machine: the open frames, handed on by value.
 use columns::column::Column;
 ghost use mathlib.Core.Path.{_≡_};
-ghost use mathlib.Core.List.{[], _∷_};
-ghost use Prim.Native.Nat.{_≤_, _<_};
+ghost use mathlib.Core.Bool.{not, _&&_};
+ghost use mathlib.Core.List.{List, [], _∷_};
+ghost use Prim.Native.Nat.{ℕ, _+_, _*_, _%_, _≤_, _<_};
 ghost use lib.ListN.{length, getD};
+ghost use lib.Dec.{eqb};
 ghost use Rattle.columns.specs.Packed.{listed};
 ghost use Rattle.scripts.specs.Calculus.{without};
 ghost use Rattle.scripts.specs.Run.{close, open'};
-ghost use Rattle.scripts.specs.Machine.{frameOf, framesOf};
+ghost use Rattle.scripts.specs.Machine.{framesOf, Placed};
 
-// Frame f has the goal `goals[f]` and, if it is not 0, the open literal `seconds[f]`: no column less one literal has more.
+// `goals[f]` is the place of frame f's goal in a table of literals (specs/Machine.antt), so that handing the machine on
+// copies few bytes.
 pub struct Machine {
     pub depth: usize,
-    pub goals: [u64; Machine::FRAMES],
-    pub seconds: [u64; Machine::FRAMES],
+    pub goals: [u16; Machine::FRAMES],
 }
 
 // The literal at a position of a column.
@@ -53,58 +55,69 @@ pub fn leave_out(column: Column, position: usize) -> Column
     }
 }
 
+// Whether the frame whose goal stands at a place has another open literal.
+fn has_next(table: &[u64; Machine::PLACES], place: u16) -> bool
+    requires { ⌜ place < 4096 ⌝ }
+    ensures { λ r. ⌜ r ≡ (eqb (place % 2) 0 && not (eqb (getD (now (table .entry)) (place + 1) 0) 0)) ⌝ }
+{
+    if place % 2 != 0 {
+        return false;
+    }
+    table[place as usize + 1] != 0
+}
+
 impl Machine {
     // Frames open together.
     pub const FRAMES: usize = 64;
+    // Places of literals: two for each record of a script.
+    pub const PLACES: usize = 4096;
 
     // No frame is open.
     pub fn empty() -> Self
-        ensures { λ r. ⌜ framesOf r ≡ [] ⌝ }
         ensures { λ r. ⌜ r .depth ≡ 0 ⌝ }
     {
         Machine {
             depth: 0,
             goals: [0; Machine::FRAMES],
-            seconds: [0; Machine::FRAMES],
         }
     }
 
-    // Opens a frame.
-    fn open_frame(mut self, goal: u64, second: u64) -> Self
+    // Opens the frame whose literals stand at a place.
+    fn open_frame(mut self, place: u16) -> Self
         requires { ⌜ self .depth < 64 ⌝ }
-        ensures { λ r. ⌜ framesOf r ≡ frameOf goal second ∷ framesOf self ⌝ }
+        ensures { λ r. ⌜ ((table : List ℕ) → 0 < getD table place 0 → place % 2 ≡ 0 → framesOf table r ≡ listed (getD table place 0) (getD table (place + 1) 0) 0 ∷ framesOf table self) ⌝ }
+        ensures { λ r. ⌜ ((table : List ℕ) (k : ℕ) → place < 2 * k → 0 < getD table place 0 → Placed table k (self .goals) (self .depth) → Placed table k (r .goals) (r .depth)) ⌝ }
         ensures { λ r. ⌜ r .depth ≤ 64 ⌝ }
     {
         let at = self.depth;
-        self.goals[at] = goal;
-        self.seconds[at] = second;
+        self.goals[at] = place;
         self.depth = at + 1;
         self
     }
 
-    // Frame 0, with the start's column, which has one literal.
-    pub fn start(self, column: Column) -> Self
+    // Frame 0.
+    pub fn start(self, place: u16) -> Self
         requires { ⌜ self .depth < 64 ⌝ }
-        requires { ⌜ column .second ≡ 0 ⌝ }
-        requires { ⌜ 0 < column .first ⌝ }
-        ensures { λ r. ⌜ framesOf r ≡ listed (column .first) (column .second) (column .third) ∷ framesOf self ⌝ }
+        ensures { λ r. ⌜ ((table : List ℕ) → 0 < getD table place 0 → place % 2 ≡ 0 → framesOf table r ≡ listed (getD table place 0) (getD table (place + 1) 0) 0 ∷ framesOf table self) ⌝ }
+        ensures { λ r. ⌜ ((table : List ℕ) (k : ℕ) → place < 2 * k → 0 < getD table place 0 → Placed table k (self .goals) (self .depth) → Placed table k (r .goals) (r .depth)) ⌝ }
         ensures { λ r. ⌜ r .depth ≤ 64 ⌝ }
     {
-        self.open_frame(column.first, 0)
+        self.open_frame(place)
     }
 
     // The goal is closed: a frame whose literals are all closed goes, and closes the goal under it.
-    pub fn close(mut self) -> Self
+    pub fn close(mut self, table: &[u64; Machine::PLACES]) -> Self
         requires { ⌜ self .depth ≤ 64 ⌝ }
-        ensures { λ r. ⌜ framesOf r ≡ close (framesOf self) ⌝ }
+        requires { ⌜ Placed (now table) 2048 (self .goals) (self .depth) ⌝ }
+        ensures { λ r. ⌜ framesOf (now (table .entry)) r ≡ close (framesOf (now (table .entry)) self) ⌝ }
+        ensures { λ r. ⌜ ((k : ℕ) → Placed (now (table .entry)) k (self .goals) (self .depth) → Placed (now (table .entry)) k (r .goals) (r .depth)) ⌝ }
         ensures { λ r. ⌜ r .depth ≤ 64 ⌝ }
     {
         let mut at = self.depth;
         while at > 0 {
-            let second = self.seconds[at - 1];
-            if second != 0 {
-                self.goals[at - 1] = second;
-                self.seconds[at - 1] = 0;
+            let place = self.goals[at - 1];
+            if has_next(table, place) {
+                self.goals[at - 1] = place + 1;
                 self.depth = at;
                 return self;
             }
@@ -114,25 +127,31 @@ impl Machine {
         self
     }
 
-    // The goal is connected with a column, whose other literals are the next frame; with none it is closed.
-    pub fn extend(self, others: Column) -> Self
+    // The goal is connected with a column, whose other literals, at a place, are the next frame; with none it is closed.
+    pub fn extend(self, table: &[u64; Machine::PLACES], place: u16) -> Self
         requires { ⌜ self .depth ≤ 64 ⌝ }
-        requires { ⌜ (0 < others .first → self .depth < 64) ⌝ }
-        ensures { λ r. ⌜ framesOf r ≡ open' (listed (others .first) (others .second) 0) (framesOf self) ⌝ }
+        requires { ⌜ place < 4096 ⌝ }
+        requires { ⌜ place % 2 ≡ 0 ⌝ }
+        requires { ⌜ (0 < getD (now table) place 0 → self .depth < 64) ⌝ }
+        requires { ⌜ Placed (now table) 2048 (self .goals) (self .depth) ⌝ }
+        ensures { λ r. ⌜ framesOf (now (table .entry)) r ≡ open' (listed (getD (now (table .entry)) place 0) (getD (now (table .entry)) (place + 1) 0) 0) (framesOf (now (table .entry)) self) ⌝ }
+        ensures { λ r. ⌜ ((k : ℕ) → place < 2 * k → Placed (now (table .entry)) k (self .goals) (self .depth) → Placed (now (table .entry)) k (r .goals) (r .depth)) ⌝ }
         ensures { λ r. ⌜ r .depth ≤ 64 ⌝ }
     {
-        if others.first == 0 {
-            return self.close();
+        if table[place as usize] == 0 {
+            return self.close(table);
         }
-        self.open_frame(others.first, others.second)
+        self.open_frame(place)
     }
 
     // The goal is connected with the goal of a lower frame.
-    pub fn reduce(self) -> Self
+    pub fn reduce(self, table: &[u64; Machine::PLACES]) -> Self
         requires { ⌜ self .depth ≤ 64 ⌝ }
-        ensures { λ r. ⌜ framesOf r ≡ close (framesOf self) ⌝ }
+        requires { ⌜ Placed (now table) 2048 (self .goals) (self .depth) ⌝ }
+        ensures { λ r. ⌜ framesOf (now (table .entry)) r ≡ close (framesOf (now (table .entry)) self) ⌝ }
+        ensures { λ r. ⌜ ((k : ℕ) → Placed (now (table .entry)) k (self .goals) (self .depth) → Placed (now (table .entry)) k (r .goals) (r .depth)) ⌝ }
         ensures { λ r. ⌜ r .depth ≤ 64 ⌝ }
     {
-        self.close()
+        self.close(table)
     }
 }

@@ -14,28 +14,30 @@ use records::answers::Checked;
 use records::answers::pass_if;
 use records::fields::Record;
 ghost use mathlib.Core.Path.{_≡_};
-ghost use mathlib.Core.Bool.{not, _&&_, _||_};
-ghost use mathlib.Core.List.{[], _∷_};
-ghost use Prim.Native.Nat.{suc, _+_, _*_, _-_, _≤_, _<_};
+ghost use mathlib.Core.Bool.{true, not, _&&_, _||_};
+ghost use mathlib.Core.List.{List, [], _∷_};
+ghost use Prim.Native.Nat.{ℕ, suc, _+_, _*_, _%_, _≤_, _<_};
 ghost use lib.ListN.{length, getD};
 ghost use lib.Dec.{eqb, ltb};
-ghost use Rattle.records.specs.Outcome.{accepted, pass, _then_, require};
+ghost use Rattle.records.specs.Outcome.{accepted, pass, _then_};
 ghost use Rattle.records.specs.Answers.{checked};
 ghost use Rattle.columns.specs.Packed.{listed};
-ghost use Rattle.scripts.specs.Format.{entryAt, entries, chainFrom, chain};
+ghost use Rattle.scripts.specs.Format.{entryAt, nextStep, chainFrom, chain};
 ghost use Rattle.scripts.specs.Calculus.{without, frameLimit};
-ghost use Rattle.scripts.specs.Run.{isNil, close, open'};
+ghost use Rattle.scripts.specs.Run.{isNil, open'};
 ghost use Rattle.scripts.specs.Codes.{codeAt, opposed};
-ghost use Rattle.scripts.specs.Machine.{framesOf};
-ghost use Rattle.scripts.specs.Numbered.{secondCode, usedNumbers, extendsCheck, reducesNumber, numberCheck};
-ghost use Rattle.scripts.specs.Numbered.{numberStepped, numberRun, numberChain};
+ghost use Rattle.scripts.specs.Machine.{framesFrom, framesOf, Placed};
+ghost use Rattle.scripts.specs.Numbered.{secondCode, usedNumbers, goalNumber, extendsCheck, reducesNumber};
+ghost use Rattle.scripts.specs.Numbered.{numberCheck, numberStepped, numberRun, numberChain};
 ghost use Rattle.scripts.specs.Answers.{judged};
-ghost use Rattle.scripts.specs.Ready.{Ready, IsStep, Reached};
+ghost use Rattle.scripts.specs.Ready.{Ready, IsStep};
 
-// A step's answer, and the machine after it.
-pub struct Stepped {
+// A step's answer and, if it passed, the literals of the frame that it opens: the other literals of an extension's column.
+// A step that closes the goal has none: 0.
+pub struct Tested {
     pub answer: Checked,
-    pub machine: Machine,
+    pub first: u64,
+    pub second: u64,
 }
 
 // The term of a record as a number (specs/Codes.antt).
@@ -100,134 +102,157 @@ fn has_room(first: u64, second: u64, depth: usize) -> bool
     depth < Machine::FRAMES
 }
 
-// An extension, where a frame is open.
-fn extend_step(
+// Rows 21 and 23: an extension against a goal, where `depth` frames are open.
+fn test_extension(
     v: &[u8],
     marks: &[bool; Record::LIMIT],
     s: &[u8],
     i: usize,
     e: Entry,
-    machine: Machine,
-) -> Stepped
+    goal: u64,
+    depth: usize,
+) -> Tested
     requires { ⌜ Ready (now v) (now s) (now marks) ⌝ }
     requires { ⌜ IsStep (now s) i ⌝ }
     requires { ⌜ e ≡ entryAt (now s) i ⌝ }
     requires { ⌜ e .w0 ≡ 4 ⌝ }
-    requires { ⌜ 0 < machine .depth ⌝ }
-    requires { ⌜ machine .depth ≤ 64 ⌝ }
-    ensures { λ r. ⌜ checked (r .answer) ≡ extendsCheck i (framesOf machine) (usedNumbers (now (v .entry)) (now (s .entry)) (e .w1) (e .w2) (e .w3) (e .w4)) (e .w5) ⌝ }
-    ensures { λ r. ⌜ (checked (r .answer) ≡ pass → framesOf (r .machine) ≡ open' (without (e .w5) (usedNumbers (now (v .entry)) (now (s .entry)) (e .w1) (e .w2) (e .w3) (e .w4))) (framesOf machine)) ⌝ }
-    ensures { λ r. ⌜ r .machine .depth ≤ 64 ⌝ }
+    ensures { λ r. ⌜ ((frames : List (List ℕ)) → goal ≡ goalNumber frames → length frames ≡ depth → checked (r .answer) ≡ extendsCheck i frames (usedNumbers (now (v .entry)) (now (s .entry)) (e .w1) (e .w2) (e .w3) (e .w4)) (e .w5)) ⌝ }
+    ensures { λ r. ⌜ (checked (r .answer) ≡ pass → listed (r .first) (r .second) 0 ≡ without (e .w5) (usedNumbers (now (v .entry)) (now (s .entry)) (e .w1) (e .w2) (e .w3) (e .w4))) ⌝ }
+    ensures { λ r. ⌜ (checked (r .answer) ≡ pass → 0 < r .first → depth < 64) ⌝ }
 {
-    let last = machine.depth - 1;
-    let goal = machine.goals[last];
     let column = used_column(v, marks, s, i, e);
     let position = e.w5 as usize;
     let answer = pass_if(is_opposed(literal_at(column, position), goal), 21, i);
     let Checked::Fine = answer else {
-        return Stepped { answer, machine };
-    };
-    let others = leave_out(column, position);
-    let room = pass_if(has_room(others.first, others.second, machine.depth), 23, i);
-    let Checked::Fine = room else {
-        return Stepped {
-            answer: room,
-            machine,
+        return Tested {
+            answer,
+            first: 0,
+            second: 0,
         };
     };
-    Stepped {
-        answer: Checked::Fine,
-        machine: machine.extend(others),
+    let others = leave_out(column, position);
+    let room = pass_if(has_room(others.first, others.second, depth), 23, i);
+    Tested {
+        answer: room,
+        first: others.first,
+        second: others.second,
     }
 }
 
 // Row 22: whether the goal's complement is the goal of a frame below the last.
-fn can_reduce(goals: &[u64; Machine::FRAMES], depth: usize, frame: u16) -> bool
+fn can_reduce(
+    table: &[u64; Machine::PLACES],
+    goals: &[u16; Machine::FRAMES],
+    depth: usize,
+    frame: u16,
+) -> bool
     requires { ⌜ 0 < depth ⌝ }
     requires { ⌜ depth ≤ 64 ⌝ }
-    ensures { λ r. ⌜ r ≡ (ltb (suc frame) depth && opposed (getD (now (goals .entry)) frame 0) (getD (now (goals .entry)) (depth - 1) 0)) ⌝ }
+    requires { ⌜ Placed (now table) 2048 (now goals) depth ⌝ }
+    ensures { λ r. ⌜ r ≡ reducesNumber (framesFrom (now (table .entry)) (now (goals .entry)) depth) frame ⌝ }
 {
     let f = frame as usize;
     if f + 1 < depth {
-        return is_opposed(goals[f], goals[depth - 1]);
+        let lower = goals[f] as usize;
+        let last = goals[depth - 1] as usize;
+        return is_opposed(table[lower], table[last]);
     }
     false
 }
 
-// A reduction, where a frame is open.
-fn reduce_step(i: usize, frame: u16, machine: Machine) -> Stepped
-    requires { ⌜ 0 < machine .depth ⌝ }
-    requires { ⌜ machine .depth ≤ 64 ⌝ }
-    ensures { λ r. ⌜ checked (r .answer) ≡ require (reducesNumber (framesOf machine) frame) 22 i ⌝ }
-    ensures { λ r. ⌜ (checked (r .answer) ≡ pass → framesOf (r .machine) ≡ close (framesOf machine)) ⌝ }
-    ensures { λ r. ⌜ r .machine .depth ≤ 64 ⌝ }
-{
-    let answer = pass_if(can_reduce(&machine.goals, machine.depth, frame), 22, i);
-    let Checked::Fine = answer else {
-        return Stepped { answer, machine };
-    };
-    Stepped {
-        answer: Checked::Fine,
-        machine: machine.reduce(),
-    }
-}
-
 // One step of the chain, after the first: rows 25, 20, 21, 22, 23.
-fn step(v: &[u8], marks: &[bool; Record::LIMIT], s: &[u8], i: usize, machine: Machine) -> Stepped
+fn test_step(
+    v: &[u8],
+    marks: &[bool; Record::LIMIT],
+    s: &[u8],
+    i: usize,
+    table: &[u64; Machine::PLACES],
+    goals: &[u16; Machine::FRAMES],
+    depth: usize,
+) -> Tested
     requires { ⌜ Ready (now v) (now s) (now marks) ⌝ }
     requires { ⌜ IsStep (now s) i ⌝ }
-    requires { ⌜ machine .depth ≤ 64 ⌝ }
-    ensures { λ r. ⌜ checked (r .answer) ≡ numberCheck (now (v .entry)) (now (s .entry)) i (framesOf machine) ⌝ }
-    ensures { λ r. ⌜ (checked (r .answer) ≡ pass → framesOf (r .machine) ≡ numberStepped (now (v .entry)) (now (s .entry)) i (framesOf machine)) ⌝ }
-    ensures { λ r. ⌜ r .machine .depth ≤ 64 ⌝ }
+    requires { ⌜ depth ≤ 64 ⌝ }
+    requires { ⌜ Placed (now table) 2048 (now goals) depth ⌝ }
+    ensures { λ r. ⌜ checked (r .answer) ≡ numberCheck (now (v .entry)) (now (s .entry)) i (framesFrom (now (table .entry)) (now (goals .entry)) depth) ⌝ }
+    ensures { λ r. ⌜ (checked (r .answer) ≡ pass → open' (listed (r .first) (r .second) 0) (framesFrom (now (table .entry)) (now (goals .entry)) depth) ≡ numberStepped (now (v .entry)) (now (s .entry)) i (framesFrom (now (table .entry)) (now (goals .entry)) depth)) ⌝ }
+    ensures { λ r. ⌜ (checked (r .answer) ≡ pass → 0 < r .first → depth < 64) ⌝ }
+    ensures { λ r. ⌜ (entryAt (now (s .entry)) i .w0 ≡ 5 → r .first ≡ 0) ⌝ }
 {
-    let answer = pass_if(machine.depth != 0, 25, i);
+    let answer = pass_if(depth != 0, 25, i);
     let Checked::Fine = answer else {
-        return Stepped { answer, machine };
+        return Tested {
+            answer,
+            first: 0,
+            second: 0,
+        };
     };
     let e = read_entry(s, i);
+    let last = goals[depth - 1] as usize;
+    let goal = table[last];
     let kind = e.w0;
     match kind {
-        4 => extend_step(v, marks, s, i, e, machine),
-        5 => reduce_step(i, e.w1, machine),
-        _ => Stepped {
+        4 => test_extension(v, marks, s, i, e, goal, depth),
+        5 => Tested {
+            answer: pass_if(can_reduce(table, goals, depth, e.w1), 22, i),
+            first: 0,
+            second: 0,
+        },
+        _ => Tested {
             answer: Checked::Refused {
                 number: 20,
                 place: i,
             },
-            machine,
+            first: 0,
+            second: 0,
         },
     }
 }
 
-// The steps after `first`, from record `next` on.
-fn run_steps(
-    v: &[u8],
-    marks: &[bool; Record::LIMIT],
-    s: &[u8],
-    first: usize,
-    next: usize,
-    machine: Machine,
-) -> Judged
-    requires { ⌜ Ready (now v) (now s) (now marks) ⌝ }
-    requires { ⌜ Reached (now s) next ⌝ }
+// The machine after a step that passed, whose literals stand at a place.
+fn advance(machine: Machine, table: &[u64; Machine::PLACES], reduces: bool, place: u16) -> Machine
     requires { ⌜ machine .depth ≤ 64 ⌝ }
-    ensures { λ r. ⌜ judged r ≡ (numberRun (now (v .entry)) (now (s .entry)) (framesOf machine) first (chainFrom (now (s .entry)) next) then accepted (suc (length (chainFrom (now (s .entry)) next)))) ⌝ }
+    requires { ⌜ place < 4096 ⌝ }
+    requires { ⌜ place % 2 ≡ 0 ⌝ }
+    requires { ⌜ (0 < getD (now table) place 0 → machine .depth < 64) ⌝ }
+    requires { ⌜ Placed (now table) 2048 (machine .goals) (machine .depth) ⌝ }
+    requires { ⌜ (reduces ≡ true → getD (now table) place 0 ≡ 0) ⌝ }
+    ensures { λ r. ⌜ framesOf (now (table .entry)) r ≡ open' (listed (getD (now (table .entry)) place 0) (getD (now (table .entry)) (place + 1) 0) 0) (framesOf (now (table .entry)) machine) ⌝ }
+    ensures { λ r. ⌜ ((k : ℕ) → place < 2 * k → Placed (now (table .entry)) k (machine .goals) (machine .depth) → Placed (now (table .entry)) k (r .goals) (r .depth)) ⌝ }
+    ensures { λ r. ⌜ r .depth ≤ 64 ⌝ }
 {
-    let mut state = machine;
+    if reduces {
+        return machine.reduce(table);
+    }
+    machine.extend(table, place)
+}
+
+// The steps after a start, record `first`, whose column is one literal.
+fn run_steps(v: &[u8], marks: &[bool; Record::LIMIT], s: &[u8], first: usize, goal: u64) -> Judged
+    requires { ⌜ Ready (now v) (now s) (now marks) ⌝ }
+    requires { ⌜ IsStep (now s) first ⌝ }
+    requires { ⌜ 0 < goal ⌝ }
+    ensures { λ r. ⌜ judged r ≡ (numberRun (now (v .entry)) (now (s .entry)) ((goal ∷ []) ∷ []) first (chainFrom (now (s .entry)) (nextStep (now (s .entry)) first)) then accepted (suc (length (chainFrom (now (s .entry)) (nextStep (now (s .entry)) first))))) ⌝ }
+{
+    let mut table = [0; Machine::PLACES];
+    table[2 * first] = goal;
+    let mut state = Machine::empty().start((2 * first) as u16);
     let mut last = first;
-    let mut at = next;
+    let mut at = read_entry(s, first).w7 as usize;
     let mut steps = 1;
     while at != 0 {
-        let stepped = step(v, marks, s, at, state);
-        let answer = stepped.answer;
+        let tested = test_step(v, marks, s, at, &table, &state.goals, state.depth);
+        let answer = tested.answer;
         let Checked::Fine = answer else {
             return judge_after(answer, 0);
         };
-        state = stepped.machine;
+        table[2 * at] = tested.first;
+        table[2 * at + 1] = tested.second;
+        let e = read_entry(s, at);
+        state = advance(state, &table, e.w0 == 5, (2 * at) as u16);
         last = at;
         steps += 1;
-        at = read_entry(s, at).w7 as usize;
+        at = e.w7 as usize;
     }
     judge_after(pass_if(state.depth == 0, 24, last), steps)
 }
@@ -248,6 +273,11 @@ pub fn check_chain(v: &[u8], marks: &[bool; Record::LIMIT], s: &[u8]) -> Judged
     let Checked::Fine = begun else {
         return judge_after(begun, 0);
     };
-    let machine = Machine::empty().start(query_column(header.w1, header.w2, e.w1));
-    run_steps(v, marks, s, first, e.w7 as usize, machine)
+    run_steps(
+        v,
+        marks,
+        s,
+        first,
+        query_column(header.w1, header.w2, e.w1).first,
+    )
 }
