@@ -23,7 +23,7 @@ abbrev pub substitute : {A B : Type 0} → (A → B) → Literal A → Literal B
 substitute σ (concept s i t) = concept s i (σ t)
 substitute σ (role s r t u) = role s r (σ t) (σ u)
 
--- "equal terms": "all the way to the constant"
+-- "equal terms": written out, they are the same all the way to the constant.
 unfoldable pub sameTerm : SkolemTerm → SkolemTerm → Bool
 sameTerm constant constant = true
 sameTerm constant (apply j u) = false

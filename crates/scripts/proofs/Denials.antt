@@ -18,8 +18,8 @@ use Rattle.scripts.specs.Format.{queryOf}
 use Rattle.scripts.specs.Demands.{Unproved, Shown, Right}
 use Rattle.scripts.proofs.Scripts.{accepted-within}
 
-denied : (I : Interpretation) (v : List ℕ) (a b t : ℕ) → Model I v → Element I t → belongs I v a t ≡ true → belongs I v b t ≡ false
-    → Unproved v a b
+denied : (I : Interpretation) (v : List ℕ) (a b t : ℕ) → Model I v → Element I t → belongs I v a t ≡ true
+    → belongs I v b t ≡ false → Unproved v a b
 denied I v a b t m i x y s n p q e =
     let first = subst (λ (k : ℕ). AlwaysWithin v k (queryOf s .b)) p (accepted-within v s n e) in
     let both = subst (λ (k : ℕ). AlwaysWithin v a k) q first in
@@ -41,7 +41,8 @@ shown I v a b t m i e =
     other true h = h
     other false h = refl
 
-pub right-verdict : (v : List ℕ) (a b : ℕ) (out : List ℕ) (x : Verdict) → comparison v a b (length out) ≡ accepted x → Right v a b out x
+pub right-verdict : (v : List ℕ) (a b : ℕ) (out : List ℕ) (x : Verdict) → comparison v a b (length out) ≡ accepted x
+    → Right v a b out x
 right-verdict v a b out (equal s n) e = equal-exactly v a b (length out) (equal s n) e .0 s n refl
 right-verdict v a b out (different t s n) e =
     let w = different-shown v a b (length out) t s n e out in (

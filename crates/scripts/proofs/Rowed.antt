@@ -91,7 +91,9 @@ unfolding recordCall occurs
 record-rows v number =
     let own : List ℕ = 1 ∷ 9 ∷ [] in
     then-rows own (lengthCheck v) _ (require-rows own (lengthFits v) 1 0 refl)
-    (then-rows own (require (ltb number (count v)) 9 number) (accepted (8 * number)) (require-rows own (ltb number (count v)) 9 number refl) tt)
+    (then-rows own (require (ltb number (count v)) 9 number) (accepted (8 * number))
+    (require-rows own (ltb number (count v)) 9 number refl)
+    tt)
 
 pub comparison-rows : (v : List ℕ) (a b lent : ℕ) → OfRows comparisonRows (comparison v a b lent)
 unfolding comparison occurs
@@ -134,7 +136,9 @@ module _ (v s : List ℕ) where
       (then-rows scriptRows (termCheck v (q .a)) _ (term-rows scriptRows refl v (q .a)) (term-rows scriptRows refl v (q .b)))
       (then-rows scriptRows (script.entriesCheck v s) _
       (then-rows scriptRows (require (ltb 1 (entries s)) 17 1) _ (own (ltb 1 (entries s)) 17 1 refl) entered)
-      (then-rows scriptRows (require (script.linkFits s 0 (firstStep s)) 19 0) _ (own (script.linkFits s 0 (firstStep s)) 19 0 refl) linked))))
+      (then-rows scriptRows (require (script.linkFits s 0 (firstStep s)) 19 0) _
+      (own (script.linkFits s 0 (firstStep s)) 19 0 refl)
+      linked))))
 
   step-rows : (q : Query) (i : ℕ) (frames : Frames) (step : Step) → OfRows scriptRows (stepCheck v q i frames step)
   unfolding stepCheck occurs

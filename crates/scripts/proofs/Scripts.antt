@@ -34,11 +34,8 @@ pub checked-parts : (v s : List ℕ) (n : ℕ) → scriptCheck v s ≡ accepted 
 unfolding scriptCheck
 checked-parts v s n e = at (vocabularyCheck v) refl e
   where
-    rest : Outcome ℕ
-    rest = formCheck v s then chainCheck v s (chain s) then accepted (length (chain s))
-
-    at : (o : Outcome ℕ) → vocabularyCheck v ≡ o → (o then formCheck v s then chainCheck v s (chain s) then accepted (length (chain s)))
-        ≡ accepted n → Parts v s n
+    at : (o : Outcome ℕ) → vocabularyCheck v ≡ o
+        → (o then formCheck v s then chainCheck v s (chain s) then accepted (length (chain s))) ≡ accepted n → Parts v s n
     at (refused k p) q h = absurd (clash (cc))
     at (accepted m) q h =
         let form = then-passed (formCheck v s) (chainCheck v s (chain s) then accepted (length (chain s))) n h in
@@ -60,4 +57,5 @@ module _ (v s : List ℕ) where
   pub accepted-within : (n : ℕ) → scriptCheck v s ≡ accepted n → AlwaysWithin v (queryOf s .a) (queryOf s .b)
   accepted-within n e =
       let p = checked-parts v s n e in
-      derives-sound v (accepted-vocabulary v (p .records) (p .vocabulary)) (queryOf s) (map (stepAt s) (chain s)) (accepted-derives n e)
+      derives-sound v (accepted-vocabulary v (p .records) (p .vocabulary)) (queryOf s) (map (stepAt s) (chain s))
+      (accepted-derives n e)

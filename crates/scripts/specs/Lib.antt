@@ -1,5 +1,6 @@
--- Paper 01, "Scripts" and rows 13 to 25, in the paper's order: Format (bytes, what a record says, terms, the chain), Form (rows 13
--- to 19), Calculus (derivations by Definition 10), Run (rows 20 to 25 along the chain, the script check).
+-- Paper 01, "Scripts" and rows 13 to 25, in the paper's order: Format (bytes, what a record says, terms, the chain), Form (rows
+-- 13 to 19), Calculus (derivations by Definition 10), Run (rows 20 to 25 along the chain, the script check). Answers says which
+-- outcome each case of the code's enum stands for, and Demands states the three demands.
 pub mod Format
 pub mod Form
 pub mod Calculus

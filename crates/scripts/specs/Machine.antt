@@ -10,7 +10,8 @@ use Rattle.scripts.specs.declared.machine.Machine.{Machine}
 -- The other literals of a step stand at twice its record's number, and after it; 0 is none. A frame is given by its goal's
 -- place: from an even one the next is open too.
 abbrev pub frameIn : List ℕ → ℕ → List ℕ
-frameIn table place = cond (eqb (place % 2) 0) (listed (getD table place 0) (getD table (place + 1) 0) 0) (listed (getD table place 0) 0 0)
+frameIn table place =
+    cond (eqb (place % 2) 0) (listed (getD table place 0) (getD table (place + 1) 0) 0) (listed (getD table place 0) 0 0)
 
 -- The first n frames, the last of them first.
 unfoldable pub framesFrom : List ℕ → List ℕ → ℕ → List (List ℕ)
