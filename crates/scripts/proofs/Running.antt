@@ -1,11 +1,14 @@
 -- The run's loop: the walk along the chain, with the machine's frames in a table.
---   Running                            what holds before each step
---   running-start, running-next        it holds at the start, and after a step that passed
---   running-placed, running-room       the goals stand in the table, and the next place is free
+--   Running                                       what holds before each step
+--   whole-from, Begun, begun, running-start       the run after a start; its table; what holds before its first step
+--   running-step, running-placed, running-room    the walk stands at a step, the goals stand in the table, its place is free
+--   after-first, after-second                     the step's literals, in the table they are written to
+--   after-frames, after-placed                    which has the same frames
+--   running-next                                  what holds after a step that passed
 -- Assumes nothing.
 use Prim.Native.Nat.{ℕ, zero, suc, _+_, _*_, _%_, _≤_, _<_}
 use native.Mathlib.Omega.{arith}
-use mathlib.Core.Path.{_≡_, refl, sym, ap, subst, _∙_}
+use mathlib.Core.Path.{_≡_, refl, sym, subst, _∙_}
 use mathlib.Core.List.{List, [], _∷_}
 use mathlib.Core.Logic.{inl, inr}
 use lib.ListN.{length, getD, set, replicate, length-set, length-replicate}
@@ -148,7 +151,8 @@ module _ (v s : List ℕ) (f : Formed v s) where
       pub running-next : (c : Check) (goals' : List ℕ) (depth' next : ℕ) → c ≡ numberCheck v s at (framesFrom table goals depth)
           → c ≡ pass
           → open' (listed x y 0) (framesFrom table goals depth) ≡ numberStepped v s at (framesFrom table goals depth)
-          → framesFrom after goals' depth' ≡ open' (listed (getD after (2 * at) 0) (getD after (2 * at + 1) 0) 0) (framesFrom after goals depth)
+          → framesFrom after goals' depth'
+          ≡ open' (listed (getD after (2 * at) 0) (getD after (2 * at + 1) 0) 0) (framesFrom after goals depth)
           → ((k : ℕ) → 2 * at < 2 * k → Placed after k goals depth → Placed after k goals' depth') → depth' ≤ 64
           → next ≡ nextStep s at → Running v s whole after goals' depth' at next (steps + 1)
       running-next c goals' depth' next e p step opened moved d q =
@@ -156,8 +160,8 @@ module _ (v s : List ℕ) (f : Formed v s) where
           let frames : framesFrom after goals' depth' ≡ numberStepped v s at (framesFrom table goals depth)
           = opened ∙ (rw (after-first, after-second, after-frames) step) in
           record {
-            walk = walk-next v s f whole (framesFrom table goals depth) last at steps (r .walk) c (framesFrom after goals' depth') next
-                t e p frames q;
+            walk = walk-next v s f whole (framesFrom table goals depth) last at steps (r .walk) c
+                (framesFrom after goals' depth') next t e p frames q;
             deep = d;
             placed = moved (suc at) (omega arith) (after-placed (suc at) (omega (arith, r .rises n)));
             within = t .within;

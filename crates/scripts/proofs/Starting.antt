@@ -1,9 +1,9 @@
 -- The first step of the chain.
---   start-listed                  row 18: a start names one of the two query columns
---   start-one                     which has one literal
---   start-frames                  and is frame 0
---   first-step                    a first step that is not 0 is a step
---   chain-none, chain-other, chain-started   the chain's outcome: no step, another first step, a start
+--   start-one                                 a query column has one literal
+--   start-frames                              which is frame 0
+--   start-listed                              row 18: a start names one of the two query columns
+--   first-step                                a first step that is not 0 is a step
+--   chain-none, chain-other, chain-started    the chain's outcome: no step, another first step, a start
 -- Assumes nothing.
 use Prim.Native.Nat.{ℕ, zero, suc, _≤_, _<_}
 use native.Mathlib.Omega.{arith}
@@ -105,7 +105,9 @@ module _ (v s : List ℕ) (f : Formed v s) where
         a ∙ rw (h, ne-eqb (e .w0) 3 n, begun, no)
 
     pub chain-started : (frames : List (List ℕ)) → frames ≡ startNumbers v s (e .w1) ∷ [] → e .w0 ≡ 3
-        → (numberRun v s frames first (chainFrom s (nextStep s first)) then accepted (suc (length (chainFrom s (nextStep s first))))) ≡ outcome
+        → (numberRun v s frames first (chainFrom s (nextStep s first))
+        then accepted (suc (length (chainFrom s (nextStep s first)))))
+        ≡ outcome
     unfolding numberChain
     chain-started frames a h =
         let yes : lineStart v s first (chainFrom s (nextStep s first)) (lineAt s first)

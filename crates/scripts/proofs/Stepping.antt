@@ -1,11 +1,12 @@
 -- One step of the run over numbers, from what the code's tests tell.
---   not-passed                            a refusal is no pass
---   goal-told, open-told                  the goal, and whether a frame is open
---   connect-told, room-told, room-left    rows 21 and 23
---   reduce-told, reduce-never             row 22
---   line-extending, line-reducing, line-neither   what the record says
---   check-.., step-..                     the rows at it, and the frames after it
---   open-positive                         there is a frame
+--   not-passed                                        a refusal is no pass
+--   open-told, open-positive                          whether a frame is open
+--   goal-told                                         the goal
+--   reduce-told, reduce-never                         row 22
+--   connect-told, room-told, room-left                rows 21 and 23
+--   line-extending, line-reducing, line-neither       what a record says
+--   check-extending, check-reducing, check-neither    the rows at the record that was read
+--   step-extending, step-reducing                     the frames after it
 -- Assumes nothing.
 use Prim.Native.Nat.{ℕ, zero, suc, _-_, _≤_, _<_}
 use native.Mathlib.Omega.{arith}

@@ -115,16 +115,16 @@ module _ (v s : List ℕ) (f : Formed v s) where
         a ∙ (rw (r) (sym (w .run ∙ (further t ∙ rw no))))
 
 -- no frame is open exactly at depth 0
-nil-told : (goals seconds : List ℕ) (n : ℕ) → eqb n 0 ≡ isNil (framesFrom goals seconds n)
+nil-told : (table goals : List ℕ) (n : ℕ) → eqb n 0 ≡ isNil (framesFrom table goals n)
 unfolding framesFrom
-nil-told goals seconds zero = refl
-nil-told goals seconds (suc n) = ne-eqb (suc n) 0 (λ z. absurd (omega arith))
+nil-told table goals zero = refl
+nil-told table goals (suc n) = ne-eqb (suc n) 0 (λ z. absurd (omega arith))
 
-pub walk-done : (v s : List ℕ) (whole : Outcome ℕ) (goals seconds : List ℕ) (n last at steps : ℕ)
-    → Walk v s whole (framesFrom goals seconds n) last at steps → at ≡ 0 → (answer : Outcome ℕ) (k : Check)
+pub walk-done : (v s : List ℕ) (whole : Outcome ℕ) (table goals : List ℕ) (n last at steps : ℕ)
+    → Walk v s whole (framesFrom table goals n) last at steps → at ≡ 0 → (answer : Outcome ℕ) (k : Check)
     → k ≡ require (eqb n 0) 24 last → answer ≡ (k then accepted steps) → answer ≡ whole
 unfolding numberRun
-walk-done v s whole goals seconds n last at steps w z answer k e a =
+walk-done v s whole table goals n last at steps w z answer k e a =
     let none : chainFrom s at ≡ [] = rw z (chain-end s) in
     let same : steps + 0 ≡ steps = omega arith in
-    a ∙ (rw (e, nil-told goals seconds n) (sym (w .run ∙ rw (none, same))))
+    a ∙ (rw (e, nil-told table goals n) (sym (w .run ∙ rw (none, same))))
