@@ -27,7 +27,7 @@ use Rattle.scripts.specs.Format.{entryAt, entries, queryOf, Line, blank,
 use Rattle.scripts.specs.Format.{reducing, kindOf, lineOf, lineAt, isStep, chain}
 use Rattle.scripts.specs.Form.{stepFits}
 use Rattle.scripts.specs.Calculus.{without, Step}
-use Rattle.scripts.specs.Run.{Frames, stepOf, stepAt, isNil, isStart, connects, reduces, hasRoom, close, open', stepCheck}
+use Rattle.scripts.specs.Run.{Frames, stepOf, stepAt, isNil, isStart, connects, reduces, hasRoom, close, extendBy, stepCheck}
 use Rattle.scripts.specs.Run.{stepped, run, chainCheck}
 use Rattle.scripts.specs.Numbered.{reducesNumber, lineCheck, numberCheck, lineStepped, numberStepped, numberRun}
 use Rattle.scripts.specs.Numbered.{lineStart, numberChain}
@@ -89,7 +89,7 @@ module _ (v s : List ℕ) (good : Accepted v) (f : Formed v s) where
   moved frames named = frames
   moved frames (applied k t) = frames
   moved frames (starting n) = frames
-  moved frames (extending owner n x y p) = open' (without p (usedCodes v s owner n x y)) frames
+  moved frames (extending owner n x y p) = extendBy (without p (usedCodes v s owner n x y)) frames
   moved frames (reducing k) = close frames
 
   used : (i owner n x y p : ℕ) → Fit i (extending owner n x y p) → UsedColumn v s owner n x y p

@@ -24,7 +24,7 @@ use Rattle.columns.specs.Columns.{Query, columnsAt}
 use Rattle.columns.proofs.Literals.{complementary-true, complementary-complement}
 use Rattle.scripts.specs.Calculus.{Extension, Step, start, extension, reduction, connected, others, onPath}
 use Rattle.scripts.specs.Calculus.{frameLimit, startColumn}
-use Rattle.scripts.specs.Run.{Frames, isNil, goalOf, frameAt, close, open', stepped}
+use Rattle.scripts.specs.Run.{Frames, isNil, goalOf, frameAt, close, extendBy, stepped}
 use Rattle.scripts.proofs.Played.{fits, plays}
 
 abbrev pub Literals : Type 0
@@ -40,8 +40,8 @@ pub room-under : (c : Literals) (n : ℕ) → n < frameLimit → room c n ≡ tr
 room-under [] n h = refl
 room-under (l ∷ c) n h = lt-ltb n frameLimit h
 
-pub close-goal : (l : Literal SkolemTerm) (c : Literals) (frames : Frames) → close ((l ∷ c) ∷ frames) ≡ open' c frames
-unfolding close open'
+pub close-goal : (l : Literal SkolemTerm) (c : Literals) (frames : Frames) → close ((l ∷ c) ∷ frames) ≡ extendBy c frames
+unfolding close extendBy
 close-goal l [] frames = refl
 close-goal l (m ∷ c) frames = refl
 
@@ -69,13 +69,13 @@ module _ (v : List ℕ) (q : Query) (l : Literal SkolemTerm) (c : Literals) (fra
       rw (m, complement-true (goalOf (frameAt ((l ∷ c) ∷ frames) f)) l (goal-below (l ∷ c) frames f h ∙ e))
 
   pub reduction-plays : (f : ℕ) (rest : List Step) → f < length (goals frames) → onPath (goals frames) f ≡ complement l
-      → plays v q (reduction f ∷ rest) ((l ∷ c) ∷ frames) ≡ plays v q rest (open' c frames)
+      → plays v q (reduction f ∷ rest) ((l ∷ c) ∷ frames) ≡ plays v q rest (extendBy c frames)
   unfolding plays stepped
   reduction-plays f rest h e = rw (reduction-fits f h e, close-goal l c frames)
 
   pub extension-plays : (e : Extension) (rest : List Step) → connected v q e ≡ complement l
       → room (others v q e) (suc (length frames)) ≡ true
-      → plays v q (extension e ∷ rest) ((l ∷ c) ∷ frames) ≡ plays v q rest (open' (others v q e) ((l ∷ c) ∷ frames))
+      → plays v q (extension e ∷ rest) ((l ∷ c) ∷ frames) ≡ plays v q rest (extendBy (others v q e) ((l ∷ c) ∷ frames))
   unfolding plays stepped
   extension-plays e rest p r = rw (complement-true (connected v q e) l p, r)
 
@@ -89,7 +89,7 @@ module _ (v : List ℕ) (q : Query) (l : Literal SkolemTerm) (c : Literals) (fra
       (h, sym (goal-below (l ∷ c) frames f h) ∙ k)
 
   pub reduction-played : (f : ℕ) (rest : List Step) → plays v q (reduction f ∷ rest) ((l ∷ c) ∷ frames) ≡ true
-      → ((f < length (goals frames)) × (onPath (goals frames) f ≡ complement l)) × (plays v q rest (open' c frames) ≡ true)
+      → ((f < length (goals frames)) × (onPath (goals frames) f ≡ complement l)) × (plays v q rest (extendBy c frames) ≡ true)
   unfolding plays stepped
   reduction-played f rest p =
       let fit = fits v q ((l ∷ c) ∷ frames) (reduction f) in
@@ -105,15 +105,15 @@ module _ (v : List ℕ) (q : Query) (l : Literal SkolemTerm) (c : Literals) (fra
 
   pub extension-played : (e : Extension) (rest : List Step) → plays v q (extension e ∷ rest) ((l ∷ c) ∷ frames) ≡ true
       → ((connected v q e ≡ complement l) × (room (others v q e) (suc (length frames)) ≡ true))
-      × (plays v q rest (open' (others v q e) ((l ∷ c) ∷ frames)) ≡ true)
+      × (plays v q rest (extendBy (others v q e) ((l ∷ c) ∷ frames)) ≡ true)
   unfolding plays stepped
   extension-played e rest p =
       let fit = fits v q ((l ∷ c) ∷ frames) (extension e) in
-      let next = plays v q rest (open' (others v q e) ((l ∷ c) ∷ frames)) in
+      let next = plays v q rest (extendBy (others v q e) ((l ∷ c) ∷ frames)) in
       (fits-extension e (both-left fit next p), both-right fit next p)
 
-pub start-open : (v : List ℕ) (q : Query) (n : ℕ) → n ≤ 1 → stepped v q [] (start n) ≡ open' (startColumn v q n) []
-unfolding stepped open' columnsAt
+pub start-open : (v : List ℕ) (q : Query) (n : ℕ) → n ≤ 1 → stepped v q [] (start n) ≡ extendBy (startColumn v q n) []
+unfolding stepped extendBy columnsAt
 start-open v q zero h = refl
 start-open v q (suc zero) h = refl
 start-open v q (suc (suc n)) h = absurd (omega arith)

@@ -25,7 +25,7 @@ use borrow.Author.Tests.{eqb-true, eqb-false, eq-eqb, ne-eqb, not-true}
 use Rattle.records.proofs.Passed.{clash, both-left, both-right}
 use Rattle.columns.specs.Packed.{listed}
 use Rattle.scripts.specs.Calculus.{without}
-use Rattle.scripts.specs.Run.{close, open'}
+use Rattle.scripts.specs.Run.{close, extendBy}
 use Rattle.scripts.specs.Machine.{frameIn, framesFrom, Placed}
 
 pub entries-length : (l : List ℕ) (n : ℕ) → length (map (λ x. x) l) ≡ n → length l ≡ n
@@ -70,12 +70,12 @@ without-third (suc a) zero c p k h = absurd (omega arith)
 without-third (suc a) (suc b) zero p k h = absurd (omega arith)
 without-third (suc a) (suc b) (suc c) p k h = let e : p ≡ 2 = omega arith in rw e
 
-pub open-none : (a b : ℕ) (frames : List (List ℕ)) → a ≡ 0 → close frames ≡ open' (listed a b 0) frames
-unfolding open'
+pub open-none : (a b : ℕ) (frames : List (List ℕ)) → a ≡ 0 → close frames ≡ extendBy (listed a b 0) frames
+unfolding extendBy
 open-none a b frames e = rw e
 
-pub open-some : (a b : ℕ) (frames : List (List ℕ)) → 0 < a → listed a b 0 ∷ frames ≡ open' (listed a b 0) frames
-unfolding open'
+pub open-some : (a b : ℕ) (frames : List (List ℕ)) → 0 < a → listed a b 0 ∷ frames ≡ extendBy (listed a b 0) frames
+unfolding extendBy
 open-some zero b frames h = absurd (omega arith)
 open-some (suc a) zero frames h = refl
 open-some (suc a) (suc b) frames h = refl

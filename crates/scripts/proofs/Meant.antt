@@ -23,7 +23,7 @@ use Rattle.records.proofs.Accepted.{Accepted, All, all-at}
 use Rattle.columns.specs.Literals.{SkolemTerm, Literal, concept, substitute, complementary, noLiteral}
 use Rattle.columns.specs.Packed.{packed}
 use Rattle.scripts.specs.Calculus.{without, reduction, frameLimit}
-use Rattle.scripts.specs.Run.{Frames, isNil, goal, close, open', reduces}
+use Rattle.scripts.specs.Run.{Frames, isNil, goal, close, extendBy, reduces}
 use Rattle.scripts.specs.Codes.{codeTerm, opposed}
 use Rattle.scripts.specs.Numbered.{goalNumber, extendsCheck, reducesNumber}
 use Rattle.scripts.proofs.Formed.{Formed}
@@ -58,8 +58,8 @@ module _ {A : Type 0} where
   close-filled ((g ∷ []) ∷ frames) h = close-filled frames (h .1)
   close-filled ((g ∷ l ∷ rest) ∷ frames) h = (omega arith, h .1)
 
-  open-filled : (c : List A) (frames : List (List A)) → All Filled frames → All Filled (open' c frames)
-  unfolding open'
+  open-filled : (c : List A) (frames : List (List A)) → All Filled frames → All Filled (extendBy c frames)
+  unfolding extendBy
   open-filled [] frames h = close-filled frames h
   open-filled (l ∷ c) frames h = (omega arith, h)
 
@@ -68,7 +68,7 @@ module _ (s : List ℕ) (frames : CodeFrames) (h : State s frames) where
   state-close =
       record { valid = close-all (ValidLiteral s) frames (h .valid); filled = close-filled frames (h .filled) }
 
-  pub state-open : (c : List (Literal ℕ)) → All (ValidLiteral s) c → State s (open' c frames)
+  pub state-open : (c : List (Literal ℕ)) → All (ValidLiteral s) c → State s (extendBy c frames)
   state-open c g =
       record { valid = open-all (ValidLiteral s) c frames g (h .valid); filled = open-filled c frames (h .filled) }
 

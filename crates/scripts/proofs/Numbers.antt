@@ -36,7 +36,7 @@ use Rattle.columns.specs.Packed.{packed}
 use Rattle.columns.proofs.Owners.{columns-record, columns-silent, columns-past}
 use Rattle.scripts.specs.Format.{queryOf}
 use Rattle.scripts.specs.Calculus.{without}
-use Rattle.scripts.specs.Run.{close, open'}
+use Rattle.scripts.specs.Run.{close, extendBy}
 use Rattle.scripts.specs.Codes.{codeTerm, opposed}
 use Rattle.scripts.proofs.Formed.{Formed}
 use Rattle.scripts.proofs.Terms.{Valid, code-zero, code-same}
@@ -316,8 +316,8 @@ module _ {A B : Type 0} (f : A → B) where
   close-map ((g ∷ []) ∷ frames) = close-map frames
   close-map ((g ∷ l ∷ rest) ∷ frames) = refl
 
-  pub open-map : (c : List A) (frames : List (List A)) → open' (map f c) (map (map f) frames) ≡ map (map f) (open' c frames)
-  unfolding open'
+  pub open-map : (c : List A) (frames : List (List A)) → extendBy (map f c) (map (map f) frames) ≡ map (map f) (extendBy c frames)
+  unfolding extendBy
   open-map [] frames = close-map frames
   open-map (l ∷ c) frames = refl
 
@@ -339,8 +339,8 @@ module _ {A : Type 0} (P : A → Type 0) where
   close-all ((g ∷ []) ∷ frames) h = close-all frames (h .1)
   close-all ((g ∷ l ∷ rest) ∷ frames) h = (h .0 .1, h .1)
 
-  pub open-all : (c : List A) (frames : List (List A)) → All P c → AllFrames P frames → AllFrames P (open' c frames)
-  unfolding open'
+  pub open-all : (c : List A) (frames : List (List A)) → All P c → AllFrames P frames → AllFrames P (extendBy c frames)
+  unfolding extendBy
   open-all [] frames g h = close-all frames h
   open-all (l ∷ c) frames g h = (g, h)
 

@@ -23,7 +23,7 @@ use Rattle.columns.specs.Columns.{Query}
 use Rattle.scripts.specs.Format.{queryOf}
 use Rattle.scripts.specs.Calculus.{Extension, Step, start, extension, reduction, connected, others, Listed, onPath}
 use Rattle.scripts.specs.Calculus.{Derivation, ended, reduced, extended, steps, height, frameLimit, startColumn, Derives}
-use Rattle.scripts.specs.Run.{Frames, stepAt, close, open', stepped, chainCheck}
+use Rattle.scripts.specs.Run.{Frames, stepAt, close, extendBy, stepped, chainCheck}
 use Rattle.scripts.proofs.Played.{passes, plays, begins, chain-begins}
 use Rattle.scripts.proofs.Closing.{Literals, goals, room, room-under, close-goal, reduction-played, extension-played}
 use Rattle.scripts.proofs.Closing.{start-open}
@@ -43,7 +43,7 @@ record Reading (v : List ℕ) (q : Query) (c : Literals) (frames : Frames) (list
   same : list ≡ steps derivation ++ rest
   bounded : height derivation ≤ frameLimit - length frames
   listed : AllListed v q rest
-  played : plays v q rest (open' [] frames) ≡ true
+  played : plays v q rest (extendBy [] frames) ≡ true
 
 module _ (v : List ℕ) (q : Query) where
   rest-shorter : {c : Literals} {frames : Frames} {list : List Step} (r : Reading v q c frames list)
@@ -85,13 +85,13 @@ module _ (v : List ℕ) (q : Query) where
   abbrev Readable : List Step → Type 0
   Readable list =
       (c : Literals) (frames : Frames) → room c (length frames) ≡ true → AllListed v q list
-      → plays v q list (open' c frames) ≡ true → Reading v q c frames list
+      → plays v q list (extendBy c frames) ≡ true → Reading v q c frames list
 
   read-step : (c : Literals) (list : List Step) (frames : Frames)
       → ((rest : List Step) → length rest < length list → Readable rest)
-      → room c (length frames) ≡ true → AllListed v q list → plays v q list (open' c frames) ≡ true
+      → room c (length frames) ≡ true → AllListed v q list → plays v q list (extendBy c frames) ≡ true
       → Reading v q c frames list
-  unfolding plays open' steps height
+  unfolding plays extendBy steps height
   read-step [] list frames h m a p =
       record { derivation = ended; rest = list; same = refl; bounded = omega arith; listed = a; played = p }
   read-step (l ∷ c) [] frames h m a p = absurd (clash (cc))
@@ -113,8 +113,8 @@ module _ (v : List ℕ) (q : Query) where
   reads zero list h c frames = read-step c list frames (λ rest k. absurd (omega arith))
   reads (suc n) list h c frames = read-step c list frames (λ rest k. reads n rest (omega arith))
 
-  closed-plays : (list : List Step) → plays v q list (open' [] []) ≡ true → list ≡ []
-  unfolding plays open' close
+  closed-plays : (list : List Step) → plays v q list (extendBy [] []) ≡ true → list ≡ []
+  unfolding plays extendBy close
   closed-plays [] p = refl
   closed-plays (step ∷ list) p = absurd (clash (cc))
 

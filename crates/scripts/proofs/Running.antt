@@ -17,7 +17,7 @@ use Rattle.records.specs.Outcome.{Outcome, Check, accepted, pass, _then_}
 use Rattle.records.proofs.Following.{Onward}
 use Rattle.columns.specs.Packed.{listed}
 use Rattle.scripts.specs.Format.{entries, nextStep, chainFrom}
-use Rattle.scripts.specs.Run.{open'}
+use Rattle.scripts.specs.Run.{extendBy}
 use Rattle.scripts.specs.Machine.{framesFrom, Placed}
 use Rattle.scripts.specs.Numbered.{numberCheck, numberStepped, numberRun}
 use Rattle.scripts.specs.Ready.{IsStep}
@@ -150,9 +150,9 @@ module _ (v s : List ℕ) (f : Formed v s) where
 
       pub running-next : (c : Check) (goals' : List ℕ) (depth' next : ℕ) → c ≡ numberCheck v s at (framesFrom table goals depth)
           → c ≡ pass
-          → open' (listed x y 0) (framesFrom table goals depth) ≡ numberStepped v s at (framesFrom table goals depth)
+          → extendBy (listed x y 0) (framesFrom table goals depth) ≡ numberStepped v s at (framesFrom table goals depth)
           → framesFrom after goals' depth'
-          ≡ open' (listed (getD after (2 * at) 0) (getD after (2 * at + 1) 0) 0) (framesFrom after goals depth)
+          ≡ extendBy (listed (getD after (2 * at) 0) (getD after (2 * at + 1) 0) 0) (framesFrom after goals depth)
           → ((k : ℕ) → 2 * at < 2 * k → Placed after k goals depth → Placed after k goals' depth') → depth' ≤ 64
           → next ≡ nextStep s at → Running v s whole after goals' depth' at next (steps + 1)
       running-next c goals' depth' next e p step opened moved d q =

@@ -17,7 +17,7 @@ use Rattle.columns.specs.Columns.{Query}
 use Rattle.scripts.specs.Format.{queryOf}
 use Rattle.scripts.specs.Calculus.{Step, start, onPath, Derivation, ended, reduced, extended, steps, height, frameLimit}
 use Rattle.scripts.specs.Calculus.{startColumn, Derives}
-use Rattle.scripts.specs.Run.{Frames, stepAt, close, open', chainCheck}
+use Rattle.scripts.specs.Run.{Frames, stepAt, close, extendBy, chainCheck}
 use Rattle.scripts.proofs.Played.{passes-true, plays, begins, chain-begins}
 use Rattle.scripts.proofs.Closing.{Literals, goals, room, close-goal, reduction-plays, extension-plays, start-open}
 
@@ -30,8 +30,8 @@ module _ (v : List ℕ) (q : Query) where
 
   runs : {c path : Literals} (d : Derivation v q c path) (frames : Frames) (rest : List Step) → path ≡ goals frames
       → height d ≤ frameLimit - length frames
-      → plays v q (steps d ++ rest) (open' c frames) ≡ plays v q rest (open' [] frames)
-  unfolding steps height open'
+      → plays v q (steps d ++ rest) (extendBy c frames) ≡ plays v q rest (extendBy [] frames)
+  unfolding steps height extendBy
   runs ended frames rest e h = refl
   runs (reduced {l} {c} {path} f p k d) frames rest e h =
       reduction-plays v q l c frames f (steps d ++ rest)
@@ -48,10 +48,10 @@ module _ (v : List ℕ) (q : Query) where
 
   start-begins : (n : ℕ) (d : Derivation v q (startColumn v q n) []) → n ≤ 1 → height d ≤ frameLimit
       → begins v q (start n ∷ steps d) ≡ true
-  unfolding plays open' close
+  unfolding plays extendBy close
   start-begins n d h k =
       ap (plays v q (steps d)) (start-open v q n h)
-      ∙ ap (λ (list : List Step). plays v q list (open' (startColumn v q n) [])) (sym (append-nil (steps d)))
+      ∙ ap (λ (list : List Step). plays v q list (extendBy (startColumn v q n) [])) (sym (append-nil (steps d)))
       ∙ runs d [] [] refl k
 
 pub derives-chain : (v s : List ℕ) (is : List ℕ) → Derives v (queryOf s) (map (stepAt s) is) → chainCheck v s is ≡ pass

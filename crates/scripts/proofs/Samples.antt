@@ -21,7 +21,7 @@ use Rattle.columns.specs.Columns.{columnsAt, takesY}
 use Rattle.scripts.specs.Format as script
 use Rattle.scripts.specs.Form as form'
 use Rattle.scripts.specs.Calculus.{without}
-use Rattle.scripts.specs.Run.{close, open', stepCheck, stepped, run, chainCheck, scriptCheck}
+use Rattle.scripts.specs.Run.{close, extendBy, stepCheck, stepped, run, chainCheck, scriptCheck}
 
 -- the eight bytes of a record whose numbers are under 256
 abbrev row : ℕ → ℕ → ℕ → ℕ → List ℕ → List ℕ
@@ -102,5 +102,5 @@ answered =
     ∷ []
 
 pub samples : map answer asked ≡ answered
-unfolding recordAt kindOf inTurn anyBelow recordCheck linkCheck vocabularyCheck follow occurs allBelow least table members bit number unrolled rank truth allowed served fits stage rounds survivors verdict comparison form sameTerm complementary columnsAt takesY script.entryAt script.kindOf script.termAt form'.allZero form'.entryCheck form'.linkCheck form'.formCheck without close open' stepCheck stepped run chainCheck scriptCheck
+unfolding recordAt kindOf inTurn anyBelow recordCheck linkCheck vocabularyCheck follow occurs allBelow least table members bit number unrolled rank truth allowed served fits stage rounds survivors verdict comparison form sameTerm complementary columnsAt takesY script.entryAt script.kindOf script.termAt form'.allZero form'.entryCheck form'.linkCheck form'.formCheck without close extendBy stepCheck stepped run chainCheck scriptCheck
 samples = refl

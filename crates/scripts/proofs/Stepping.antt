@@ -24,7 +24,7 @@ use Rattle.records.proofs.Passed.{clash}
 use Rattle.columns.specs.Packed.{listed}
 use Rattle.scripts.specs.Format.{entryAt, extending, reducing, kindOf, lineOf, lineAt}
 use Rattle.scripts.specs.Calculus.{without, frameLimit}
-use Rattle.scripts.specs.Run.{isNil, close, open'}
+use Rattle.scripts.specs.Run.{isNil, close, extendBy}
 use Rattle.scripts.specs.Codes.{opposed}
 use Rattle.scripts.specs.Machine.{framesFrom, Placed}
 use Rattle.scripts.specs.Numbered.{usedNumbers, goalNumber, extendsCheck, reducesNumber, lineCheck, lineStepped}
@@ -97,7 +97,7 @@ module _ (v s : List ℕ) (i : ℕ) (e : Entry) (read : e ≡ entryAt s i) (fram
   check-extending k = rw (← read, line-extending e k)
 
   pub step-extending : e .w0 ≡ 4
-      → open' (without (e .w5) (usedNumbers v s (e .w1) (e .w2) (e .w3) (e .w4))) frames ≡ lineStepped v s frames (lineAt s i)
+      → extendBy (without (e .w5) (usedNumbers v s (e .w1) (e .w2) (e .w3) (e .w4))) frames ≡ lineStepped v s frames (lineAt s i)
   step-extending k = rw (← read, line-extending e k)
 
   pub check-reducing : e .w0 ≡ 5 → require (reducesNumber frames (e .w1)) 22 i ≡ lineCheck v s i frames (lineAt s i)

@@ -9,7 +9,7 @@ use Rattle.columns.specs.Columns.{columnAt}
 use Rattle.columns.specs.Packed.{packedAt}
 use Rattle.scripts.specs.Format.{queryOf, Line, blank, named, applied, starting, extending, reducing, lineAt}
 use Rattle.scripts.specs.Calculus.{without, frameLimit}
-use Rattle.scripts.specs.Run.{isNil, close, open'}
+use Rattle.scripts.specs.Run.{isNil, close, extendBy}
 use Rattle.scripts.specs.Codes.{codeAt, opposed}
 
 -- The code of the term for y; 0 where no y stands.
@@ -54,7 +54,7 @@ lineStepped v s frames blank = frames
 lineStepped v s frames named = frames
 lineStepped v s frames (applied f t) = frames
 lineStepped v s frames (starting n) = frames
-lineStepped v s frames (extending owner n x y p) = open' (without p (usedNumbers v s owner n x y)) frames
+lineStepped v s frames (extending owner n x y p) = extendBy (without p (usedNumbers v s owner n x y)) frames
 lineStepped v s frames (reducing f) = close frames
 
 unfoldable pub numberStepped : List ℕ → List ℕ → ℕ → List (List ℕ) → List (List ℕ)

@@ -59,9 +59,9 @@ close ((g ∷ []) ∷ frames) = close frames
 close ((g ∷ l ∷ rest) ∷ frames) = (l ∷ rest) ∷ frames
 
 -- "the column's other literals become the next frame, or, if there are none, the goal is closed"
-unfoldable pub open' : {A : Type 0} → List A → List (List A) → List (List A)
-open' [] frames = close frames
-open' (l ∷ rest) frames = (l ∷ rest) ∷ frames
+unfoldable pub extendBy : {A : Type 0} → List A → List (List A) → List (List A)
+extendBy [] frames = close frames
+extendBy (l ∷ rest) frames = (l ∷ rest) ∷ frames
 
 -- Row 21: "Extension needs the literal at its position to be the complement of the goal, equal terms included".
 abbrev pub connects : List ℕ → Query → Frames → Step → Bool
@@ -93,7 +93,7 @@ stepCheck v q i frames step =
 -- The frames after a step that passed.
 unfoldable pub stepped : List ℕ → Query → Frames → Step → Frames
 stepped v q frames (start n) = startColumn v q n ∷ []
-stepped v q frames (extension e) = open' (others v q e) frames
+stepped v q frames (extension e) = extendBy (others v q e) frames
 stepped v q frames (reduction f) = close frames
 
 -- The steps after `last`. "Acceptance .. comes when the chain ends with no frame left": 24 "a frame left", place the last step.

@@ -8,7 +8,7 @@ ghost use lib.ListN.{length, getD};
 ghost use lib.Dec.{eqb};
 ghost use Rattle.columns.specs.Packed.{listed};
 ghost use Rattle.scripts.specs.Calculus.{without};
-ghost use Rattle.scripts.specs.Run.{close, open'};
+ghost use Rattle.scripts.specs.Run.{close, extendBy};
 ghost use Rattle.scripts.specs.Machine.{framesOf, Placed};
 
 // `goals[f]` is the place of frame f's goal in a table of literals (specs/Machine.antt), so that handing the machine on
@@ -134,7 +134,7 @@ impl Machine {
         requires { ⌜ place % 2 ≡ 0 ⌝ }
         requires { ⌜ (0 < getD (now table) place 0 → self .depth < 64) ⌝ }
         requires { ⌜ Placed (now table) 2048 (self .goals) (self .depth) ⌝ }
-        ensures { λ r. ⌜ framesOf (now (table .entry)) r ≡ open' (listed (getD (now (table .entry)) place 0) (getD (now (table .entry)) (place + 1) 0) 0) (framesOf (now (table .entry)) self) ⌝ }
+        ensures { λ r. ⌜ framesOf (now (table .entry)) r ≡ extendBy (listed (getD (now (table .entry)) place 0) (getD (now (table .entry)) (place + 1) 0) 0) (framesOf (now (table .entry)) self) ⌝ }
         ensures { λ r. ⌜ ((k : ℕ) → place < 2 * k → Placed (now (table .entry)) k (self .goals) (self .depth) → Placed (now (table .entry)) k (r .goals) (r .depth)) ⌝ }
         ensures { λ r. ⌜ r .depth ≤ 64 ⌝ }
     {

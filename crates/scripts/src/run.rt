@@ -24,7 +24,7 @@ ghost use Rattle.records.specs.Answers.{checked};
 ghost use Rattle.columns.specs.Packed.{listed};
 ghost use Rattle.scripts.specs.Format.{entryAt, nextStep, chainFrom, chain};
 ghost use Rattle.scripts.specs.Calculus.{without, frameLimit};
-ghost use Rattle.scripts.specs.Run.{isNil, open'};
+ghost use Rattle.scripts.specs.Run.{isNil, extendBy};
 ghost use Rattle.scripts.specs.Codes.{codeAt, opposed};
 ghost use Rattle.scripts.specs.Machine.{framesFrom, framesOf, Placed};
 ghost use Rattle.scripts.specs.Numbered.{secondCode, usedNumbers, goalNumber, extendsCheck, reducesNumber};
@@ -175,7 +175,7 @@ fn test_step(
     requires { ⌜ depth ≤ 64 ⌝ }
     requires { ⌜ Placed (now table) 2048 (now goals) depth ⌝ }
     ensures { λ r. ⌜ checked (r .answer) ≡ numberCheck (now (v .entry)) (now (s .entry)) i (framesFrom (now (table .entry)) (now (goals .entry)) depth) ⌝ }
-    ensures { λ r. ⌜ (checked (r .answer) ≡ pass → open' (listed (r .first) (r .second) 0) (framesFrom (now (table .entry)) (now (goals .entry)) depth) ≡ numberStepped (now (v .entry)) (now (s .entry)) i (framesFrom (now (table .entry)) (now (goals .entry)) depth)) ⌝ }
+    ensures { λ r. ⌜ (checked (r .answer) ≡ pass → extendBy (listed (r .first) (r .second) 0) (framesFrom (now (table .entry)) (now (goals .entry)) depth) ≡ numberStepped (now (v .entry)) (now (s .entry)) i (framesFrom (now (table .entry)) (now (goals .entry)) depth)) ⌝ }
     ensures { λ r. ⌜ (checked (r .answer) ≡ pass → 0 < r .first → depth < 64) ⌝ }
     ensures { λ r. ⌜ (entryAt (now (s .entry)) i .w0 ≡ 5 → r .first ≡ 0) ⌝ }
 {
@@ -217,7 +217,7 @@ fn advance(machine: Machine, table: &[u64; Machine::PLACES], reduces: bool, plac
     requires { ⌜ (0 < getD (now table) place 0 → machine .depth < 64) ⌝ }
     requires { ⌜ Placed (now table) 2048 (machine .goals) (machine .depth) ⌝ }
     requires { ⌜ (reduces ≡ true → getD (now table) place 0 ≡ 0) ⌝ }
-    ensures { λ r. ⌜ framesOf (now (table .entry)) r ≡ open' (listed (getD (now (table .entry)) place 0) (getD (now (table .entry)) (place + 1) 0) 0) (framesOf (now (table .entry)) machine) ⌝ }
+    ensures { λ r. ⌜ framesOf (now (table .entry)) r ≡ extendBy (listed (getD (now (table .entry)) place 0) (getD (now (table .entry)) (place + 1) 0) 0) (framesOf (now (table .entry)) machine) ⌝ }
     ensures { λ r. ⌜ ((k : ℕ) → place < 2 * k → Placed (now (table .entry)) k (machine .goals) (machine .depth) → Placed (now (table .entry)) k (r .goals) (r .depth)) ⌝ }
     ensures { λ r. ⌜ r .depth ≤ 64 ⌝ }
 {

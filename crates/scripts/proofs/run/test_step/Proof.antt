@@ -13,7 +13,7 @@ use Rattle.records.specs.Answers.{checked}
 use Rattle.records.proofs.Passed.{require-passed, clash}
 use Rattle.records.proofs.Order.{stops, goes, asked, passed}
 use Rattle.columns.specs.Packed.{listed}
-use Rattle.scripts.specs.Run.{isNil, close, open'}
+use Rattle.scripts.specs.Run.{isNil, close, extendBy}
 use Rattle.scripts.specs.Machine.{framesFrom}
 use Rattle.scripts.specs.Numbered.{numberCheck, numberStepped}
 use Rattle.scripts.specs.declared.entry.Entry.{Entry}
@@ -28,8 +28,8 @@ four-five : (a b : ℕ) → a ≡ b → a ≡ 4 → b ≡ 5 → ⊥
 four-five a b e h k = omega arith
 
 -- with no literals the goal is closed
-open-nothing : (frames : List (List ℕ)) → open' (listed 0 0 0) frames ≡ close frames
-unfolding open'
+open-nothing : (frames : List (List ℕ)) → extendBy (listed 0 0 0) frames ≡ close frames
+unfolding extendBy
 open-nothing frames = refl
 
 -- Places: b is the start, o where a frame is open, r after the record was read.
@@ -123,7 +123,7 @@ returns-2 c =
           (x .0 (frames b) goal (frames-length (now (a .table)) (now (a .goals)) (a .depth))
           ∙ check-extending (now (a .v)) (now (a .s)) (a .i) (e .result) (e .ensures) (frames b) k),
       (
-        λ q. ap (λ (l : List ℕ). open' l (frames b)) (x .1 .0 q)
+        λ q. ap (λ (l : List ℕ). extendBy l (frames b)) (x .1 .0 q)
             ∙ step-extending (now (a .v)) (now (a .s)) (a .i) (e .result) (e .ensures) (frames b) k,
         (x .1 .1, λ l. absurd (four-five _ _ (ap (λ (h : Entry). h .w0) (e .ensures)) k l)),
       ),
