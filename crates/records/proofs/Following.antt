@@ -1,6 +1,7 @@
 -- Chains by a next number, which is 0 or names something ahead: they rise and end.
 --   Ahead, Onward              what lies ahead of i; 0, or something ahead
 --   follow-nil, follow-step    the chain from 0, and from a number ahead
+--   follow-few                 it has no more numbers than steps were made
 --   follow-ends                followed as far as one likes it is the chain
 --   Rising, follow-rises       each is after the one before
 --   follow-target              what is on the chain may be on it
@@ -12,6 +13,7 @@ use mathlib.Core.Path.{_≡_, refl, sym, ap, subst}
 use mathlib.Core.Bool.{Bool, true, false, _||_}
 use mathlib.Core.List.{List, [], _∷_}
 use mathlib.Core.Logic.{_⊎_, inl, inr}
+use lib.ListN.{length}
 use lib.Dec.{eqb}
 use borrow.Author.Tests.{eqb-true}
 use Rattle.records.specs.Chain.{follow, occurs}
@@ -45,6 +47,12 @@ pub follow-nil : (next : ℕ → ℕ) (n : ℕ) → follow next n 0 ≡ []
 unfolding follow
 follow-nil next zero = refl
 follow-nil next (suc n) = refl
+
+pub follow-few : (next : ℕ → ℕ) (n i : ℕ) → length (follow next n i) ≤ n
+unfolding follow
+follow-few next zero i = omega arith
+follow-few next (suc n) zero = omega arith
+follow-few next (suc n) (suc i) = omega (arith, follow-few next n (next (suc i)))
 
 module _ (Target : ℕ → Type 0) (n : ℕ) where
   pub left-falls : (i x : ℕ) → 0 < i → i < n → Onward Target n i x → left n x < left n i

@@ -5,16 +5,15 @@
 --   term-near, entry-near, link-near     row 10; rows 15 to 18 and row 19 at a record
 --   entries-near, links-near, form-near  the same over all records; the form's refusal is near
 --   step-near, run-near, chain-near      so is a refusal along a chain whose numbers are small
---   follow-within                        the numbers of a formed script's chain are
+--   chain-within                         the numbers of a formed script's chain are
 --   script-small                         the number of steps or the place is at most mostPlace, the refusal's number not 0
 --   header-byte, query-below             the query's numbers have 16 bits
 -- Assumes nothing.
-use Prim.Native.Nat.{ℕ, zero, suc, _+_, _-_, _*_, _≤_, _<_, max}
+use Prim.Native.Nat.{ℕ, _+_, _-_, _*_, _≤_, _<_, max}
 use native.Mathlib.Omega.{arith}
 use mathlib.Core.Path.{_≡_, refl, sym, subst, _∙_}
 use mathlib.Core.Bool.{not, _&&_}
 use mathlib.Core.List.{List, [], _∷_}
-use mathlib.Core.Logic.{inl, inr}
 use lib.ListN.{getD, drop}
 use lib.Seq.{getD-take, getD-drop}
 use lib.Dec.{ltb}
@@ -22,18 +21,17 @@ use Rattle.records.specs.Outcome.{Outcome, Check, accepted, refused, pass, _the
 use Rattle.records.specs.Format.{recordAt, count}
 use Rattle.records.specs.Kinds.{isTerm}
 use Rattle.records.specs.Check.{vocabularyCheck}
-use Rattle.records.specs.Chain.{follow}
-use Rattle.records.proofs.Following.{Onward}
+use Rattle.records.proofs.Accepted.{All}
 use Rattle.records.proofs.Bounds.{Small, Nearby, require-near, then-near, then-small, turns-near, vocabulary-small}
 use Rattle.types.specs.Compare.{termCheck}
-use Rattle.scripts.specs.Format.{partAt, entryAt, entries, queryOf, firstStep, lineOf, nextStep, chain}
+use Rattle.scripts.specs.Format.{partAt, entryAt, entries, queryOf, firstStep, lineOf, chain}
 use Rattle.scripts.specs.Form.{lengthFits, lengthCheck, headerFits, headerCheck, queryCheck, kindFits, unusedFits}
 use Rattle.scripts.specs.Form.{termFits, stepFits, entryCheck, entriesCheck, linkFits, nextFits, linkCheck, linksCheck}
 use Rattle.scripts.specs.Form.{formCheck}
 use Rattle.scripts.specs.Calculus.{Step}
 use Rattle.scripts.specs.Run.{Frames, stepAt, isNil, isStart, connects, reduces, hasRoom, stepCheck, stepped, run}
 use Rattle.scripts.specs.Run.{chainCheck, scriptCheck}
-use Rattle.scripts.proofs.Formed.{IsStepAt, Formed, length-sized, formed}
+use Rattle.scripts.proofs.Formed.{OnChain, length-sized, formed, chain-ahead}
 use Rattle.scripts.proofs.Walking.{chain-few}
 
 -- A script has at most 2,048 records, a vocabulary 512; row 10's place is a number of the query.
@@ -123,16 +121,10 @@ module _ (m : ℕ) (v s : List ℕ) where
       (require-near m (isStart (stepAt s i)) 20 i (omega (arith, w .0)))
       (run-near first i rest (w .0) (w .1))
 
-  module _ (f : Formed v s) (h : entries s ≤ m) where
-    follow-within : (n i x : ℕ) → Onward (IsStepAt s) (entries s) i x → Within m (follow (nextStep s) n x)
-    unfolding follow
-    follow-within zero i x l = tt
-    follow-within (suc n) i x (inl e) = rw e tt
-    follow-within (suc n) i zero (inr a) = tt
-    follow-within (suc n) i (suc x) (inr a) = (
-      omega (arith, a .within),
-      follow-within n (suc x) (nextStep s (suc x)) (f .links (suc x) (omega arith) (a .within) (a .target)),
-    )
+-- numbers of the chain of a formed script
+chain-within : (m : ℕ) (s : List ℕ) (is : List ℕ) → entries s ≤ m → All (OnChain s) is → Within m is
+chain-within m s [] h a = tt
+chain-within m s (i ∷ is) h a = (omega (arith, a .0 .within), chain-within m s is h (a .1))
 
 pub script-small : (v s : List ℕ) → Small (mostPlace s) (scriptCheck v s)
 unfolding scriptCheck
@@ -143,7 +135,7 @@ script-small v s =
     (λ e. let f = formed v s e in
     let few : entries s ≤ m = omega (arith, f .sized .most) in
     then-small m (chainCheck v s (chain s)) _
-    (chain-near m v s (chain s) (follow-within m v s f few (entries s) 0 (firstStep s) (f .first)))
+    (chain-near m v s (chain s) (chain-within m s (chain s) few (chain-ahead v s f)))
     (λ _. omega (arith, chain-few s (firstStep s)))))
 
 header-byte : (s : List ℕ) (i : ℕ) → i < 16 → ((j : ℕ) → getD s j 0 < 256) → getD (partAt s 0) i 0 < 256

@@ -6,25 +6,25 @@
 --   link-onward, next-onward                 row 19: a link, and a step's next, lead onward
 --   formed                                   a script whose form passes is Formed
 --   step-listed                              row 18: a step uses what is listed
---   all-occurring, OnChain, chain-ahead      what holds of every number that occurs in a list; the chain has steps alone
+--   OnChain, chain-ahead                     the chain has steps alone
 --   steps-listed, chain-listed               each of these uses what is listed
 -- Assumes nothing.
 use Prim.Native.Nat.{ℕ, _-_, _%_, _≤_, _<_}
 use native.Mathlib.Omega.{arith}
 use mathlib.Core.Path.{_≡_, refl}
-use mathlib.Core.Bool.{Bool, true, false, _&&_, _||_, or-true}
+use mathlib.Core.Bool.{Bool, true, false, _&&_, _||_}
 use mathlib.Core.List.{List, [], _∷_, map}
 use mathlib.Core.Logic.{inl, inr}
 use lib.ListN.{length}
 use lib.Dec.{ltb, leb, eqb}
-use borrow.Author.Tests.{ltb-true, leb-true, eqb-true, eq-eqb}
+use borrow.Author.Tests.{ltb-true, leb-true, eqb-true}
 use Rattle.records.specs.Outcome.{pass, _then_, require, inTurn}
 use Rattle.records.specs.Format.{recordAt, count}
 use Rattle.records.specs.Kinds.{isTerm}
-use Rattle.records.specs.Chain.{occurs}
 use Rattle.records.proofs.Passed.{both-left, both-right, require-passed, then-passed, turn-at}
 use Rattle.records.proofs.Following.{Ahead, Onward, follow-target}
 use Rattle.records.proofs.Accepted.{All}
+use Rattle.records.proofs.Chains.{all-occurring}
 use Rattle.types.specs.Compare.{termCheck}
 use Rattle.types.proofs.Tests.{implies-rest}
 use Rattle.columns.specs.Columns.{columnAt, takesY}
@@ -167,14 +167,6 @@ formed v s e =
       first = link-onward s 0 (firstStep s) (require-passed (linkFits s 0 (firstStep s)) 19 0 (link .0));
       links = λ i p h. next-onward s i (turn-at (linkCheck s) (entries s - 1) 1 (link .1) i p (omega arith));
     }
-
-all-occurring : (P : ℕ → Type 0) (is : List ℕ) → ((i : ℕ) → occurs i is ≡ true → P i) → All P is
-unfolding occurs
-all-occurring P [] h = tt
-all-occurring P (i ∷ is) h = (
-  h i (rw (eq-eqb i i refl)),
-  all-occurring P is (λ j o. h j (rw o (or-true (eqb j i)))),
-)
 
 -- A step ahead of the header.
 abbrev pub OnChain : List ℕ → ℕ → Type 0

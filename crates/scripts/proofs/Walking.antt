@@ -15,10 +15,9 @@ use lib.Dec.{eqb}
 use borrow.Author.Tests.{ne-eqb}
 use Rattle.records.specs.Outcome.{Outcome, Check, accepted, refused, pass, _then_, require}
 use Rattle.records.specs.Answers.{checked}
-use Rattle.records.specs.Chain.{follow}
 use Rattle.records.specs.declared.answers.Checked.{Checked}
 use Rattle.records.specs.declared.answers.Checked.the-variants.{Refused}
-use Rattle.records.proofs.Following.{Onward, follow-nil, follow-step, left, left-falls}
+use Rattle.records.proofs.Following.{Onward, follow-nil, follow-step, follow-few, left, left-falls}
 use Rattle.scripts.specs.Format.{entries, nextStep, chainFrom}
 use Rattle.scripts.specs.Run.{isNil}
 use Rattle.scripts.specs.Machine.{framesFrom}
@@ -39,12 +38,6 @@ step-ahead s i t = record { later = t .positive; within = t .within; target = t 
 
 pub chain-end : (s : List ℕ) → chainFrom s 0 ≡ []
 chain-end s = follow-nil (nextStep s) (entries s)
-
-follow-few : (next : ℕ → ℕ) (n i : ℕ) → length (follow next n i) ≤ n
-unfolding follow
-follow-few next zero i = omega arith
-follow-few next (suc n) zero = omega arith
-follow-few next (suc n) (suc i) = omega (arith, follow-few next n (next (suc i)))
 
 pub chain-few : (s : List ℕ) (i : ℕ) → length (chainFrom s i) ≤ entries s
 chain-few s i = follow-few (nextStep s) (entries s) i
