@@ -1,0 +1,143 @@
+//! The duty vocabulary judge from Rust: a safe wrapper of the four calls of libjudge.a.
+//!
+//! Every call takes slices of any content and length, and answers or refuses: none panics, none needs a
+//! condition. What an answer means is proved of the library; this wrapper takes its numbers apart (tested,
+//! not proved). A borrowed buffer cannot overlap a vocabulary, so what include/judge.h asks of pointers
+//! holds by itself. A call runs on the caller's stack: [`STACK_BYTES`] are enough.
+//!
+//! ```
+//! let vocabulary = [16, 1, 0, 0, 0, 0, 0, 0, 3, 0, 7, 0, 0, 0, 0, 0]; // a header and a name
+//! assert_eq!(judge::check_vocabulary(&vocabulary), Ok(2));
+//! let mut survivors = [0; judge::SURVIVOR_BYTES];
+//! let answer = judge::compare(&vocabulary, 1, 1, &mut survivors)?;
+//! assert_eq!(answer.verdict, judge::Verdict::Equal);
+//! # Ok::<(), judge::Refusal>(())
+//! ```
+
+mod refusal;
+
+pub use refusal::{Place, Refusal, Rule};
+
+/// The most bytes that a vocabulary may have.
+pub const VOCABULARY_BYTES: usize = 4096;
+/// The most bytes that a script may have.
+pub const SCRIPT_BYTES: usize = 32_768;
+/// The bytes of a vocabulary's record.
+pub const RECORD_BYTES: usize = 8;
+/// The bytes of a script's record.
+pub const SCRIPT_RECORD_BYTES: usize = 16;
+/// The bytes that a comparison writes, and asks for.
+pub const SURVIVOR_BYTES: usize = 512;
+/// Stack that is enough for any call, measured (include/judge.h).
+pub const STACK_BYTES: usize = 131_072;
+
+mod library {
+    extern "C" {
+        pub fn judge_check_vocabulary(vocabulary: *const u8, vocabulary_len: usize) -> u64;
+        pub fn judge_record(vocabulary: *const u8, vocabulary_len: usize, number: u32) -> u64;
+        pub fn judge_compare(
+            vocabulary: *const u8,
+            vocabulary_len: usize,
+            a: u32,
+            b: u32,
+            buffer: *mut u8,
+            buffer_len: usize,
+        ) -> u64;
+        pub fn judge_check_script(
+            vocabulary: *const u8,
+            vocabulary_len: usize,
+            script: *const u8,
+            script_len: usize,
+        ) -> u64;
+    }
+}
+
+/// Whether two terms are equal in every finite interpretation that satisfies the statements.
+#[derive(Clone, Copy, Debug, PartialEq, Eq)]
+pub enum Verdict {
+    /// They are.
+    Equal,
+    /// They are not.
+    Different {
+        /// The smallest survivor that belongs to just one of the two.
+        element: u16,
+    },
+}
+
+/// The answer of a comparison.
+#[derive(Clone, Copy, Debug, PartialEq, Eq)]
+pub struct Comparison {
+    /// Equal or Different.
+    pub verdict: Verdict,
+    /// The number of survivors.
+    pub survivors: u32,
+    /// The number of rounds that removed a type.
+    pub rounds: u32,
+}
+
+/// The vocabulary check: the number of records, header included.
+pub fn check_vocabulary(vocabulary: &[u8]) -> Result<u32, Refusal> {
+    // SAFETY: a slice's pointer is not null and has as many readable bytes as its length says.
+    value(unsafe { library::judge_check_vocabulary(vocabulary.as_ptr(), vocabulary.len()) })
+}
+
+/// The record call: the eight bytes of a record, as a part of the vocabulary. Refused by rules 1 and 9 only, so that
+/// the records of a vocabulary that the check refuses can be looked at.
+pub fn record(vocabulary: &[u8], number: u32) -> Result<&[u8], Refusal> {
+    // SAFETY: as above.
+    let offset = value(unsafe { library::judge_record(vocabulary.as_ptr(), vocabulary.len(), number) })? as usize;
+    Ok(vocabulary.get(offset..offset + RECORD_BYTES).unwrap_or_default())
+}
+
+/// The comparison of the terms numbered `a` and `b`. The survivors are written into the first [`SURVIVOR_BYTES`] of
+/// the buffer; a refusal writes nothing.
+pub fn compare(vocabulary: &[u8], a: u32, b: u32, buffer: &mut [u8]) -> Result<Comparison, Refusal> {
+    // SAFETY: as above; the buffer is writable, and overlaps nothing, since it is borrowed for writing.
+    let answer = taken(unsafe {
+        library::judge_compare(
+            vocabulary.as_ptr(),
+            vocabulary.len(),
+            a,
+            b,
+            buffer.as_mut_ptr(),
+            buffer.len(),
+        )
+    })?;
+    Ok(Comparison {
+        verdict: match bits(answer, 8, 1) {
+            0 => Verdict::Equal,
+            _ => Verdict::Different {
+                element: bits(answer, 9, 16) as u16,
+            },
+        },
+        survivors: bits(answer, 25, 17) as u32,
+        rounds: bits(answer, 42, 17) as u32,
+    })
+}
+
+/// The script check: the number of steps of a script that proves what its header asks.
+pub fn check_script(vocabulary: &[u8], script: &[u8]) -> Result<u32, Refusal> {
+    // SAFETY: as above.
+    value(unsafe { library::judge_check_script(vocabulary.as_ptr(), vocabulary.len(), script.as_ptr(), script.len()) })
+}
+
+/// `count` bits of an answer from bit `first` on.
+fn bits(answer: u64, first: u32, count: u32) -> u64 {
+    answer >> first & ((1 << count) - 1)
+}
+
+/// The answer, unless it is a refusal.
+fn taken(answer: u64) -> Result<u64, Refusal> {
+    match bits(answer, 0, 8) as u8 {
+        0 => Ok(answer),
+        number => Err(Refusal {
+            rule: Rule::of(number),
+            place: bits(answer, 8, 32) as u32,
+        }),
+    }
+}
+
+/// The value that an answer carries in bits 8 to 39, unless it is a refusal.
+fn value(answer: u64) -> Result<u32, Refusal> {
+    taken(answer).map(|answer| bits(answer, 8, 32) as u32)
+}
