@@ -1,0 +1,74 @@
+//! `desk assemble`.
+
+use super::JSON;
+use crate::arguments::{Arguments, Flag};
+use crate::files;
+use crate::json::Json;
+use crate::report::{counted, Failure, Report, Status, Style, USAGE};
+use crate::text::cursor::Fault;
+use crate::text::{self, TEXT_BYTES};
+
+/// The options.
+pub const FLAGS: &[Flag] = &[
+    JSON,
+    Flag {
+        name: "-o",
+        valued: true,
+    },
+    Flag {
+        name: "--force",
+        valued: false,
+    },
+];
+
+pub fn run(arguments: &Arguments, style: Style) -> Result<Report, Failure> {
+    let [path] = arguments.words(["TEXT"])?;
+    let Some(output) = arguments.value("-o") else {
+        return Err(Failure::new(USAGE, "-o FILE is missing"));
+    };
+    let (name, text) = files::read_text(path, TEXT_BYTES)?;
+    let (bytes, is_script) = match text::assemble(&text) {
+        Ok(assembled) => assembled,
+        Err(fault) => return Ok(faulty(style, &name, &fault)),
+    };
+    let refusal = if is_script {
+        None
+    } else {
+        judge::check_vocabulary(&bytes).err()
+    };
+    if let Some(refusal) = refusal.filter(|_| !arguments.has("--force")) {
+        return Ok(Report::refused(style, &name, bytes.len() as u64, refusal));
+    }
+    files::write(output, &bytes)?;
+    let output = output.to_string_lossy();
+    let (kind, size) = if is_script {
+        ("script", judge::SCRIPT_RECORD_BYTES)
+    } else {
+        ("vocabulary", judge::RECORD_BYTES)
+    };
+    let records = bytes.len() / size;
+    let text = format!("{output}: a {kind} of {}\n", counted(records as u64, "record"));
+    let json = vec![
+        ("file", Json::from(&*output)),
+        ("verdict", Json::from("written")),
+        ("kind", Json::from(kind)),
+        ("records", Json::from(records)),
+    ];
+    Ok(Report::new(Status::Holds, text, json))
+}
+
+fn faulty(style: Style, name: &str, fault: &Fault) -> Report {
+    let Fault { line, column, message } = fault;
+    let text = format!(
+        "{name}:{line}:{column}: {}: {message}\n",
+        style.paint(Status::Refused, "not assembled")
+    );
+    let json = vec![
+        ("file", Json::from(name)),
+        ("verdict", Json::from("faulty")),
+        ("line", Json::from(*line)),
+        ("column", Json::from(*column)),
+        ("message", Json::from(message.as_str())),
+    ];
+    Report::new(Status::Refused, text, json)
+}

@@ -1,0 +1,61 @@
+//! `desk check`.
+
+use super::read_vocabulary;
+use crate::arguments::Arguments;
+use crate::files::Input;
+use crate::json::Json;
+use crate::report::{counted, Failure, Report, Status, Style};
+use crate::vocabulary::{Vocabulary, STATEMENT_KIND};
+
+/// The most atoms of a vocabulary that can be compared.
+const ATOMS: usize = 12;
+
+pub fn run(arguments: &Arguments, style: Style) -> Result<Report, Failure> {
+    let [path] = arguments.words(["VOCABULARY"])?;
+    let input = read_vocabulary(path)?;
+    Ok(match judge::check_vocabulary(&input.bytes) {
+        Err(refusal) => Report::refused(style, &input.name, input.length, refusal),
+        Ok(records) => accepted(style, &input, records),
+    })
+}
+
+fn accepted(style: Style, input: &Input, records: u32) -> Report {
+    let vocabulary = Vocabulary::read(&input.bytes);
+    let count = |of: fn(u8) -> bool| vocabulary.numbered().filter(|(_, record)| of(record.kind)).count();
+    let names = count(|kind| kind == 3);
+    let restrictions = count(|kind| matches!(kind, 7 | 8));
+    let statements = count(|kind| kind == STATEMENT_KIND);
+    let chained = vocabulary.chained().iter().filter(|on| **on).count();
+    let roles = vocabulary.get(0).b;
+    let atoms = names + restrictions;
+    let comparable = if atoms > ATOMS {
+        "too many to compare"
+    } else {
+        "can be compared"
+    };
+    let text = format!(
+        "{}: {}: {}, {} and {} ({}, {comparable}), {} of {} on the chain, {}\n",
+        input.name,
+        style.paint(Status::Holds, "accepted"),
+        counted(records.into(), "record"),
+        counted(names as u64, "name"),
+        counted(restrictions as u64, "restriction"),
+        counted(atoms as u64, "atom"),
+        chained,
+        counted(statements as u64, "statement"),
+        counted(roles.into(), "role"),
+    );
+    let json = vec![
+        ("file", Json::from(input.name.as_str())),
+        ("verdict", Json::from("accepted")),
+        ("records", Json::from(records)),
+        ("names", Json::from(names)),
+        ("restrictions", Json::from(restrictions)),
+        ("atoms", Json::from(atoms)),
+        ("comparable", Json::from(atoms <= ATOMS)),
+        ("statements", Json::from(statements)),
+        ("chained", Json::from(chained)),
+        ("roles", Json::from(roles)),
+    ];
+    Report::new(Status::Holds, text, json)
+}

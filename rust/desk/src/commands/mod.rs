@@ -1,0 +1,47 @@
+//! The commands.
+
+mod assemble;
+mod check;
+mod compare;
+mod recheck;
+mod record;
+mod show;
+mod verify;
+
+use crate::arguments::{Arguments, Flag};
+use crate::files::{self, Input};
+use crate::report::{Failure, Report, Style};
+use std::ffi::{OsStr, OsString};
+
+/// A command: its options beside --json, and what it does.
+type Command = (&'static [Flag], fn(&Arguments, Style) -> Result<Report, Failure>);
+
+/// Runs a command, whose name has a page of help.
+pub fn run(name: &str, words: Vec<OsString>, style: Style) -> Result<Report, Failure> {
+    let (flags, command): Command = match name {
+        "check" => (&[JSON], check::run),
+        "show" => (&[JSON], show::run),
+        "record" => (&[JSON], record::run),
+        "compare" => (compare::FLAGS, compare::run),
+        "verify" => (verify::FLAGS, verify::run),
+        "assemble" => (assemble::FLAGS, assemble::run),
+        _ => (&[JSON], recheck::run),
+    };
+    command(&Arguments::read(words.into_iter(), flags)?, style)
+}
+
+/// The option of every command.
+const JSON: Flag = Flag {
+    name: "--json",
+    valued: false,
+};
+
+/// Reads a vocabulary; one that is too long is read so far that the library refuses it.
+fn read_vocabulary(path: &OsStr) -> Result<Input, Failure> {
+    files::read(path, judge::VOCABULARY_BYTES)
+}
+
+/// Reads a script; one that is too long is read so far that the library refuses it.
+fn read_script(path: &OsStr) -> Result<Input, Failure> {
+    files::read(path, judge::SCRIPT_BYTES)
+}

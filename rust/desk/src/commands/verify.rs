@@ -1,0 +1,53 @@
+//! `desk verify`.
+
+use super::{read_script, read_vocabulary, JSON};
+use crate::arguments::{Arguments, Flag};
+use crate::files::Input;
+use crate::json::Json;
+use crate::report::{counted, Failure, Report, Status, Style};
+use crate::script;
+use crate::text::vocabulary::Written;
+use crate::vocabulary::Vocabulary;
+
+/// The options.
+pub const FLAGS: &[Flag] = &[
+    JSON,
+    Flag {
+        name: "--trace",
+        valued: false,
+    },
+];
+
+pub fn run(arguments: &Arguments, style: Style) -> Result<Report, Failure> {
+    let [vocabulary, script] = arguments.words(["VOCABULARY", "SCRIPT"])?;
+    let vocabulary = read_vocabulary(vocabulary)?;
+    let script = read_script(script)?;
+    Ok(match judge::check_script(&vocabulary.bytes, &script.bytes) {
+        Ok(steps) => accepted(style, &vocabulary, &script, steps),
+        Err(refusal) if refusal.rule.number() <= 8 => {
+            Report::refused(style, &vocabulary.name, vocabulary.length, refusal)
+        }
+        Err(refusal) => Report::refused(style, &script.name, script.length, refusal),
+    })
+}
+
+fn accepted(style: Style, vocabulary: &Input, script: &Input, steps: u32) -> Report {
+    let [_, a, b, ..] = script::read(&script.bytes).first().copied().unwrap_or_default();
+    let written = Written::new(Vocabulary::read(&vocabulary.bytes));
+    let text = format!(
+        "{}: {}, {}\n  {}\n  lies within {}\n",
+        script.name,
+        style.paint(Status::Holds, "accepted"),
+        counted(steps.into(), "step"),
+        written.term(a),
+        written.term(b),
+    );
+    let json = vec![
+        ("file", Json::from(script.name.as_str())),
+        ("verdict", Json::from("accepted")),
+        ("steps", Json::from(steps)),
+        ("a", written.term_json(a)),
+        ("b", written.term_json(b)),
+    ];
+    Report::new(Status::Holds, text, json)
+}

@@ -1,0 +1,80 @@
+//! The text forms of vocabularies and scripts: a line for each record, so that reading and writing undo each other
+//! (docs/DESK.md).
+
+pub mod cursor;
+pub mod script;
+pub mod vocabulary;
+
+use cursor::{Cursor, Fault};
+
+/// The most bytes of a text; no vocabulary or script needs as many.
+pub const TEXT_BYTES: usize = 4 << 20;
+/// The deepest nesting of a term that is written out.
+const NESTING: usize = 16;
+/// The longest text of a term that is written out in another; a longer one is named by its record.
+const WRITTEN_OUT: usize = 60;
+
+/// The bytes that a text stands for, and whether they are a script's.
+pub fn assemble(text: &str) -> Result<(Vec<u8>, bool), Fault> {
+    let mut lines = text
+        .lines()
+        .enumerate()
+        .map(|(i, line)| Cursor::new(i + 1, line))
+        .filter(|line| !line.at_end());
+    let Some(mut header) = lines.next() else {
+        return Err(Fault::at(
+            1,
+            1,
+            "the text is empty; its first line begins with 'vocabulary' or 'script'",
+        ));
+    };
+    if header.keyword("vocabulary") {
+        return Ok((vocabulary::read(header, lines)?, false));
+    }
+    if header.keyword("script") {
+        return Ok((script::read(header, lines)?, true));
+    }
+    Err(header.fault("a text begins with 'vocabulary' or 'script'"))
+}
+
+/// Takes the record number that a line may begin with, which has to be its own.
+fn own_number(line: &mut Cursor, number: usize) -> Result<(), Fault> {
+    if !line.peek().is_some_and(|next| next.is_ascii_digit()) {
+        return Ok(());
+    }
+    let fault = line.fault(&format!("this line is record {number}"));
+    let written = line.number()?;
+    line.symbol(':')?;
+    if usize::from(written) == number {
+        Ok(())
+    } else {
+        Err(fault)
+    }
+}
+
+/// A record as it was read: whether it is on the chain, and the link where one is written.
+struct Linked<T> {
+    record: T,
+    on: bool,
+    link: Option<u16>,
+}
+
+/// The link of each record: the one that is written, else the next record on the chain, and 0 for one off it.
+fn links<T>(read: &[Linked<T>]) -> Vec<u16> {
+    let on: Vec<bool> = read.iter().map(|linked| linked.on).collect();
+    let link = |(number, linked): (usize, &Linked<T>)| match linked.link {
+        Some(link) => link,
+        None if linked.on || number == 0 => crate::chain::default_link(&on, number),
+        None => 0,
+    };
+    read.iter().enumerate().map(link).collect()
+}
+
+/// The end of a line that says where a link leads, where `links` would not find it.
+fn link_words(word: &str, link: u16, default: u16) -> String {
+    if link == default {
+        String::new()
+    } else {
+        format!(" {word} {link}")
+    }
+}

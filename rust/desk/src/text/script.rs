@@ -1,0 +1,265 @@
+//! Scripts as text.
+
+use super::cursor::{Cursor, Fault};
+use super::{link_words, links, own_number, Linked, NESTING, WRITTEN_OUT};
+use crate::chain::default_link;
+use crate::script::{bytes, chained, Entry, Extension, Words, HEADER_WORD};
+
+/// A script with the text of each term record.
+pub struct Written {
+    records: Vec<Words>,
+    terms: Vec<String>,
+}
+
+impl Written {
+    /// Writes out the terms of a script, whether it is accepted or not.
+    pub fn new(records: Vec<Words>) -> Written {
+        let mut written = Written {
+            records,
+            terms: Vec::new(),
+        };
+        for number in 0..written.records.len() {
+            let text = written.term_text(number).unwrap_or_else(|| format!("#{number}"));
+            written.terms.push(text);
+        }
+        written
+    }
+
+    fn get(&self, number: usize) -> Words {
+        self.records.get(number).copied().unwrap_or_default()
+    }
+
+    /// The text of a term: written out where it is short and no earlier record says the same.
+    fn term_text(&self, number: usize) -> Option<String> {
+        let words = self.get(number);
+        let entry = Entry::read(words).filter(|entry| number > 0 && !entry.is_step())?;
+        if find(&self.records, entry) != Some(number) {
+            return None;
+        }
+        Some(self.entry_text(number, entry)).filter(|text| text.len() <= WRITTEN_OUT)
+    }
+
+    /// A term as the record `number` names it: written out only where it comes before.
+    fn term(&self, number: usize, term: u16) -> String {
+        match self.terms.get(usize::from(term)) {
+            Some(text) if usize::from(term) < number => text.clone(),
+            _ => format!("#{term}"),
+        }
+    }
+
+    fn entry_text(&self, number: usize, entry: Entry) -> String {
+        match entry {
+            Entry::Constant => "a".to_string(),
+            Entry::Function(function, inner) => format!("f{function}({})", self.term(number, inner)),
+            Entry::Start(column) => format!("start {column}"),
+            Entry::Extend(e) => {
+                let y = if e.y == 0 {
+                    String::new()
+                } else {
+                    format!(" y {}", self.term(number, e.y))
+                };
+                let x = self.term(number, e.x);
+                format!(
+                    "extend owner {} column {} x {x}{y} at {}",
+                    e.owner, e.column, e.position
+                )
+            }
+            Entry::Reduce(frame) => format!("reduce {frame}"),
+        }
+    }
+
+    /// The line of the header.
+    pub fn header(&self) -> String {
+        let words = self.get(0);
+        let [HEADER_WORD, a, b, first, 0, 0, 0, 0] = words else {
+            return format!("script {}", raw(words));
+        };
+        let first = link_words("first", first, default_link(&chained(&self.records), 0));
+        format!("script #{a} within #{b}{first}")
+    }
+
+    /// A record's line, without its number.
+    pub fn line(&self, number: usize) -> String {
+        let words = self.get(number);
+        let Some(entry) = Entry::read(words) else {
+            return raw(words);
+        };
+        let (text, [.., next]) = (self.entry_text(number, entry), words);
+        if !entry.is_step() {
+            return text;
+        }
+        let chained = chained(&self.records);
+        if chained.get(number) == Some(&true) {
+            return format!("{text}{}", link_words("next", next, default_link(&chained, number)));
+        }
+        format!("off {text}{}", link_words("next", next, 0))
+    }
+
+    /// The whole text.
+    pub fn text(&self) -> String {
+        let mut text = self.header() + "\n";
+        for number in 1..self.records.len() {
+            text.push_str(&format!("{number}: {}\n", self.line(number)));
+        }
+        text
+    }
+}
+
+/// A record by its words.
+fn raw(words: Words) -> String {
+    let words: Vec<String> = words.iter().map(u16::to_string).collect();
+    format!("raw {}", words.join(" "))
+}
+
+/// The first record after the header that says this term.
+fn find(records: &[Words], wanted: Entry) -> Option<usize> {
+    let words = wanted.words(0);
+    let mut after_header = records.iter().enumerate().skip(1);
+    after_header
+        .find(|(_, record)| **record == words)
+        .map(|(number, _)| number)
+}
+
+/// The bytes of a script's text, of whose header the first word is taken.
+pub fn read<'a>(header: Cursor<'a>, lines: impl Iterator<Item = Cursor<'a>>) -> Result<Vec<u8>, Fault> {
+    let mut read = vec![read_header(header)?];
+    let mut records = vec![Words::default()];
+    for mut line in lines {
+        own_number(&mut line, read.len())?;
+        let linked = read_record(&mut line, &records)?;
+        line.end()?;
+        records.push(linked.record);
+        read.push(linked);
+    }
+    let links = links(&read);
+    for (number, (linked, link)) in read.iter_mut().zip(links).enumerate() {
+        let [_, _, _, first, .., next] = &mut linked.record;
+        match number {
+            0 => *first = link,
+            _ if linked.on || linked.link.is_some() => *next = link,
+            _ => {}
+        }
+    }
+    Ok(read.iter().flat_map(|linked| bytes(&linked.record)).collect())
+}
+
+fn read_header(mut line: Cursor) -> Result<Linked<Words>, Fault> {
+    let linked = if line.keyword("raw") {
+        let record = read_raw(&mut line)?;
+        let [_, _, _, first, ..] = record;
+        Linked {
+            record,
+            on: false,
+            link: Some(first),
+        }
+    } else {
+        let a = line.lettered('#', "a term of the vocabulary, as #4,")?;
+        line.expect("within")?;
+        let b = line.lettered('#', "a term of the vocabulary, as #3,")?;
+        let link = if line.keyword("first") {
+            Some(line.number()?)
+        } else {
+            None
+        };
+        Linked {
+            record: [HEADER_WORD, a, b, 0, 0, 0, 0, 0],
+            on: false,
+            link,
+        }
+    };
+    line.end()?;
+    Ok(linked)
+}
+
+/// A record by its words; the word `raw` is taken.
+fn read_raw(line: &mut Cursor) -> Result<Words, Fault> {
+    let fault = line.fault("eight numbers are expected here");
+    Words::try_from(line.numbers(8)?).map_err(|_| fault)
+}
+
+/// A record; `before` are those before it.
+fn read_record(line: &mut Cursor, before: &[Words]) -> Result<Linked<Words>, Fault> {
+    if line.keyword("raw") {
+        return Ok(Linked {
+            record: read_raw(line)?,
+            on: false,
+            link: None,
+        });
+    }
+    let off = line.keyword("off");
+    let entry = if let Some(step) = read_step(line, before)? {
+        step
+    } else if off {
+        return Err(line.fault("a step is expected here: start, extend or reduce"));
+    } else {
+        return Ok(Linked {
+            record: read_term(line, before, 1)?.words(0),
+            on: false,
+            link: None,
+        });
+    };
+    let link = if line.keyword("next") {
+        Some(line.number()?)
+    } else {
+        None
+    };
+    Ok(Linked {
+        record: entry.words(link.unwrap_or(0)),
+        on: !off,
+        link,
+    })
+}
+
+/// The step that stands here, if one does.
+fn read_step(line: &mut Cursor, before: &[Words]) -> Result<Option<Entry>, Fault> {
+    if line.keyword("start") {
+        Ok(Some(Entry::Start(line.number()?)))
+    } else if line.keyword("reduce") {
+        Ok(Some(Entry::Reduce(line.number()?)))
+    } else if line.keyword("extend") {
+        line.expect("owner")?;
+        let owner = line.number()?;
+        line.expect("column")?;
+        let column = line.number()?;
+        line.expect("x")?;
+        let x = term(line, before, 1)?;
+        let y = if line.keyword("y") { term(line, before, 1)? } else { 0 };
+        line.expect("at")?;
+        let position = line.number()?;
+        Ok(Some(Entry::Extend(Extension {
+            owner,
+            column,
+            x,
+            y,
+            position,
+        })))
+    } else {
+        Ok(None)
+    }
+}
+
+/// The term that stands here, at this nesting.
+fn read_term(line: &mut Cursor, before: &[Words], nesting: usize) -> Result<Entry, Fault> {
+    if line.keyword("a") {
+        return Ok(Entry::Constant);
+    }
+    let function = line.lettered('f', "a term (a, f7(a), ..) or a step (start, extend, reduce)")?;
+    line.symbol('(')?;
+    let inner = term(line, before, nesting + 1)?;
+    line.symbol(')')?;
+    Ok(Entry::Function(function, inner))
+}
+
+/// The record of a term: `#2`, or a term that an earlier record says.
+fn term(line: &mut Cursor, before: &[Words], nesting: usize) -> Result<u16, Fault> {
+    if line.peek() == Some('#') {
+        return line.lettered('#', "a term record of the script, as #2,");
+    }
+    if nesting > NESTING {
+        return Err(line.fault("terms are nested too deep here; name one by its record, as #2"));
+    }
+    let fault = line.fault("no earlier line says this term; give it a line of its own before, or name a record, as #2");
+    let entry = read_term(line, before, nesting)?;
+    let found = find(before, entry).and_then(|number| u16::try_from(number).ok());
+    found.ok_or(fault)
+}

@@ -1,0 +1,287 @@
+//! Vocabularies as text, in OWL 2 functional syntax where a record has a form there.
+
+use super::cursor::{Cursor, Fault};
+use super::{link_words, links, own_number, Linked, NESTING, WRITTEN_OUT};
+use crate::chain::default_link;
+use crate::json::Json;
+use crate::vocabulary::{Record, Saying, Vocabulary, HEADER_KIND, STATEMENT_KIND};
+
+/// The second byte of the header.
+const EDITION: u8 = 1;
+
+/// A vocabulary with the text of each record as an operand.
+pub struct Written {
+    vocabulary: Vocabulary,
+    operands: Vec<String>,
+}
+
+impl Written {
+    /// Writes out the terms of a vocabulary, whether it is accepted or not.
+    pub fn new(vocabulary: Vocabulary) -> Written {
+        let mut written = Written {
+            vocabulary,
+            operands: Vec::new(),
+        };
+        for number in 0..written.vocabulary.records.len() {
+            let text = written.operand_text(number).unwrap_or_else(|| format!("#{number}"));
+            written.operands.push(text);
+        }
+        written
+    }
+
+    /// The vocabulary.
+    pub fn vocabulary(&self) -> &Vocabulary {
+        &self.vocabulary
+    }
+
+    /// The text of a term as an operand: written out where it is short and no earlier record says the same.
+    fn operand_text(&self, number: usize) -> Option<String> {
+        let record = self.vocabulary.get(number);
+        if !record.is_term() || find(&self.vocabulary.records, record) != Some(number) {
+            return None;
+        }
+        self.expression(number).filter(|text| text.len() <= WRITTEN_OUT)
+    }
+
+    /// A term with its number, for explanations.
+    pub fn term(&self, number: u16) -> String {
+        let text = self.expression(usize::from(number)).unwrap_or_default();
+        format!("term {number}, {text}")
+    }
+
+    /// The same for programs.
+    pub fn term_json(&self, number: u16) -> Json {
+        let text = self.expression(usize::from(number));
+        Json::object([("record", Json::from(number)), ("text", Json::from(text))])
+    }
+
+    /// What a record says, in OWL 2 functional syntax; nothing for a record that has no form.
+    pub fn expression(&self, number: usize) -> Option<String> {
+        // Operands of a record that is refused may not come before it.
+        let operand = |operand: u16| match self.operands.get(usize::from(operand)) {
+            Some(text) if usize::from(operand) < number => text.clone(),
+            _ => format!("#{operand}"),
+        };
+        Some(match self.vocabulary.get(number).saying().filter(|_| number > 0)? {
+            Saying::Top => "owl:Thing".to_string(),
+            Saying::Bottom => "owl:Nothing".to_string(),
+            Saying::Name(label) => format!("c{label}"),
+            Saying::Not(a) => format!("ObjectComplementOf({})", operand(a)),
+            Saying::And(a, b) => format!("ObjectIntersectionOf({} {})", operand(a), operand(b)),
+            Saying::Or(a, b) => format!("ObjectUnionOf({} {})", operand(a), operand(b)),
+            Saying::Some(role, b) => format!("ObjectSomeValuesFrom(r{role} {})", operand(b)),
+            Saying::All(role, b) => format!("ObjectAllValuesFrom(r{role} {})", operand(b)),
+            Saying::Within(a, b) => format!("SubClassOf({} {})", operand(a), operand(b)),
+        })
+    }
+
+    /// The line of the header.
+    pub fn header(&self) -> String {
+        let header = self.vocabulary.get(0);
+        if (header.kind, header.second, header.next) != (HEADER_KIND, EDITION, 0) {
+            return format!("vocabulary {}", raw(header));
+        }
+        let first = link_words("first", header.a, default_link(&self.vocabulary.chained(), 0));
+        format!("vocabulary roles {}{first}", header.b)
+    }
+
+    /// A record's line, without its number.
+    pub fn line(&self, number: usize) -> String {
+        let record = self.vocabulary.get(number);
+        let Some(text) = self.expression(number) else {
+            return raw(record);
+        };
+        if record.kind != STATEMENT_KIND {
+            return text;
+        }
+        let chained = self.vocabulary.chained();
+        if chained.get(number) == Some(&true) {
+            return format!(
+                "{text}{}",
+                link_words("next", record.next, default_link(&chained, number))
+            );
+        }
+        format!("off {text}{}", link_words("next", record.next, 0))
+    }
+
+    /// The whole text.
+    pub fn text(&self) -> String {
+        let mut text = self.header() + "\n";
+        for number in 1..self.vocabulary.records.len() {
+            text.push_str(&format!("{number}: {}\n", self.line(number)));
+        }
+        text
+    }
+}
+
+/// A record by its fields.
+fn raw(record: Record) -> String {
+    format!(
+        "raw {} {} {} {} {}",
+        record.kind, record.second, record.a, record.b, record.next
+    )
+}
+
+/// The first record after the header that is equal to this.
+fn find(records: &[Record], wanted: Record) -> Option<usize> {
+    let mut after_header = records.iter().enumerate().skip(1);
+    after_header
+        .find(|(_, record)| **record == wanted)
+        .map(|(number, _)| number)
+}
+
+/// The bytes of a vocabulary's text, of whose header the first word is taken.
+pub fn read<'a>(header: Cursor<'a>, lines: impl Iterator<Item = Cursor<'a>>) -> Result<Vec<u8>, Fault> {
+    let mut read = vec![read_header(header)?];
+    let mut records = vec![Record::default()];
+    for mut line in lines {
+        own_number(&mut line, read.len())?;
+        let linked = read_record(&mut line, &records)?;
+        line.end()?;
+        records.push(linked.record);
+        read.push(linked);
+    }
+    let links = links(&read);
+    for (number, (linked, link)) in read.iter_mut().zip(links).enumerate() {
+        match linked.record {
+            // Of a raw record the link is a field as it is written.
+            _ if linked.link.is_none() && !linked.on && number > 0 => {}
+            _ if number == 0 => linked.record.a = link,
+            _ => linked.record.next = link,
+        }
+    }
+    Ok(read.iter().flat_map(|linked| linked.record.bytes()).collect())
+}
+
+fn read_header(mut line: Cursor) -> Result<Linked<Record>, Fault> {
+    let linked = if line.keyword("raw") {
+        let record = read_raw(&mut line)?;
+        Linked {
+            record,
+            on: false,
+            link: Some(record.a),
+        }
+    } else {
+        line.expect("roles")?;
+        let record = Record {
+            kind: HEADER_KIND,
+            second: EDITION,
+            b: line.number()?,
+            ..Record::default()
+        };
+        Linked {
+            record,
+            on: false,
+            link: read_link(&mut line, "first")?,
+        }
+    };
+    line.end()?;
+    Ok(linked)
+}
+
+/// The link that may stand at the end of a line.
+fn read_link(line: &mut Cursor, word: &str) -> Result<Option<u16>, Fault> {
+    if line.keyword(word) {
+        line.number().map(Some)
+    } else {
+        Ok(None)
+    }
+}
+
+/// A record by its fields; the word `raw` is taken.
+fn read_raw(line: &mut Cursor) -> Result<Record, Fault> {
+    let fault = line.fault("five numbers are expected here: kind and second byte, up to 255, A, B and next");
+    match line.numbers(5)?[..] {
+        [kind, second, a, b, next] => match (u8::try_from(kind), u8::try_from(second)) {
+            (Ok(kind), Ok(second)) => Ok(Record {
+                kind,
+                second,
+                a,
+                b,
+                next,
+            }),
+            _ => Err(fault),
+        },
+        _ => Err(fault),
+    }
+}
+
+/// A record; `before` are those before it.
+fn read_record(line: &mut Cursor, before: &[Record]) -> Result<Linked<Record>, Fault> {
+    if line.keyword("raw") {
+        return Ok(Linked {
+            record: read_raw(line)?,
+            on: false,
+            link: None,
+        });
+    }
+    let off = line.keyword("off");
+    if off || line.clone().keyword("SubClassOf") {
+        line.expect("SubClassOf")?;
+        let (a, b) = pair(line, |line| operand(line, before, 1), |line| operand(line, before, 1))?;
+        let link = read_link(line, "next")?;
+        let record = Saying::Within(a, b).record(link.unwrap_or(0));
+        return Ok(Linked { record, on: !off, link });
+    }
+    Ok(Linked {
+        record: saying(line, before, 1)?.record(0),
+        on: false,
+        link: None,
+    })
+}
+
+/// Two things in parentheses.
+fn pair<A, B>(
+    line: &mut Cursor,
+    first: impl Fn(&mut Cursor) -> Result<A, Fault>,
+    second: impl Fn(&mut Cursor) -> Result<B, Fault>,
+) -> Result<(A, B), Fault> {
+    line.symbol('(')?;
+    let both = (first(line)?, second(line)?);
+    line.symbol(')')?;
+    Ok(both)
+}
+
+/// A term at this nesting.
+fn saying(line: &mut Cursor, before: &[Record], nesting: usize) -> Result<Saying, Fault> {
+    let term = |line: &mut Cursor| operand(line, before, nesting + 1);
+    let role = |line: &mut Cursor| line.lettered('r', "a role, as r0,");
+    if line.keyword("owl:Thing") {
+        Ok(Saying::Top)
+    } else if line.keyword("owl:Nothing") {
+        Ok(Saying::Bottom)
+    } else if line.keyword("ObjectComplementOf") {
+        line.symbol('(')?;
+        let a = term(line)?;
+        line.symbol(')')?;
+        Ok(Saying::Not(a))
+    } else if line.keyword("ObjectIntersectionOf") {
+        pair(line, term, term).map(|(a, b)| Saying::And(a, b))
+    } else if line.keyword("ObjectUnionOf") {
+        pair(line, term, term).map(|(a, b)| Saying::Or(a, b))
+    } else if line.keyword("ObjectSomeValuesFrom") {
+        pair(line, role, term).map(|(role, b)| Saying::Some(role, b))
+    } else if line.keyword("ObjectAllValuesFrom") {
+        pair(line, role, term).map(|(role, b)| Saying::All(role, b))
+    } else {
+        line.lettered(
+            'c',
+            "a term (c1, owl:Thing, ObjectUnionOf(..), ..) or a statement (SubClassOf(..))",
+        )
+        .map(Saying::Name)
+    }
+}
+
+/// The record of an operand: `#7`, or a term that an earlier record says.
+fn operand(line: &mut Cursor, before: &[Record], nesting: usize) -> Result<u16, Fault> {
+    if line.peek() == Some('#') {
+        return line.lettered('#', "a record, as #7,");
+    }
+    if nesting > NESTING {
+        return Err(line.fault("terms are nested too deep here; name one by its record, as #7"));
+    }
+    let fault = line.fault("no earlier line says this term; give it a line of its own before, or name a record, as #7");
+    let said = saying(line, before, nesting)?;
+    let found = find(before, said.record(0)).and_then(|number| u16::try_from(number).ok());
+    found.ok_or(fault)
+}

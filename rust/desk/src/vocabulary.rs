@@ -1,0 +1,183 @@
+//! Vocabularies as records, for display: which are accepted is the library's to say.
+
+/// What a record of a kind that the paper knows says. Numbers are those of records, but for labels and roles.
+#[derive(Clone, Copy, Debug, PartialEq, Eq)]
+pub enum Saying {
+    /// Kind 1: all elements.
+    Top,
+    /// Kind 2: no element.
+    Bottom,
+    /// Kind 3: a name, by its label.
+    Name(u16),
+    /// Kind 4: complement.
+    Not(u16),
+    /// Kind 5: intersection.
+    And(u16, u16),
+    /// Kind 6: union.
+    Or(u16, u16),
+    /// Kind 7: some, of a role, to a term.
+    Some(u16, u16),
+    /// Kind 8: all, of a role, to a term.
+    All(u16, u16),
+    /// Kind 9: the first term lies within the second.
+    Within(u16, u16),
+}
+
+/// The kind of the header.
+pub const HEADER_KIND: u8 = 16;
+/// The kind of statements.
+pub const STATEMENT_KIND: u8 = 9;
+
+/// A record's fields.
+#[derive(Clone, Copy, Debug, Default, PartialEq, Eq)]
+pub struct Record {
+    /// The kind.
+    pub kind: u8,
+    /// The second byte.
+    pub second: u8,
+    /// A.
+    pub a: u16,
+    /// B.
+    pub b: u16,
+    /// Next.
+    pub next: u16,
+}
+
+impl Record {
+    /// The fields of eight bytes; bytes that are missing count as 0.
+    pub fn read(bytes: &[u8]) -> Record {
+        let at = |i: usize| bytes.get(i).copied().unwrap_or(0);
+        let word = |i: usize| u16::from_le_bytes([at(i), at(i + 1)]);
+        Record {
+            kind: at(0),
+            second: at(1),
+            a: word(2),
+            b: word(4),
+            next: word(6),
+        }
+    }
+
+    /// The eight bytes of the fields.
+    pub fn bytes(self) -> [u8; 8] {
+        let ([a0, a1], [b0, b1], [n0, n1]) = (self.a.to_le_bytes(), self.b.to_le_bytes(), self.next.to_le_bytes());
+        [self.kind, self.second, a0, a1, b0, b1, n0, n1]
+    }
+
+    /// What it says; nothing where its kind is unknown, or a field is used that the kind does not use.
+    pub fn saying(self) -> Option<Saying> {
+        let saying = match self.kind {
+            1 => Saying::Top,
+            2 => Saying::Bottom,
+            3 => Saying::Name(self.a),
+            4 => Saying::Not(self.a),
+            5 => Saying::And(self.a, self.b),
+            6 => Saying::Or(self.a, self.b),
+            7 => Saying::Some(self.a, self.b),
+            8 => Saying::All(self.a, self.b),
+            STATEMENT_KIND => Saying::Within(self.a, self.b),
+            _ => return None,
+        };
+        (saying.record(self.next) == self).then_some(saying)
+    }
+
+    /// Whether its kind is a term's.
+    pub fn is_term(self) -> bool {
+        (1..=8).contains(&self.kind)
+    }
+
+    /// Whether it is an atom: a name or a restriction.
+    pub fn is_atom(self) -> bool {
+        matches!(self.kind, 3 | 7 | 8)
+    }
+}
+
+impl Saying {
+    /// The record that says it. `next` is a statement's.
+    pub fn record(self, next: u16) -> Record {
+        let (kind, a, b, next) = match self {
+            Saying::Top => (1, 0, 0, 0),
+            Saying::Bottom => (2, 0, 0, 0),
+            Saying::Name(label) => (3, label, 0, 0),
+            Saying::Not(a) => (4, a, 0, 0),
+            Saying::And(a, b) => (5, a, b, 0),
+            Saying::Or(a, b) => (6, a, b, 0),
+            Saying::Some(role, b) => (7, role, b, 0),
+            Saying::All(role, b) => (8, role, b, 0),
+            Saying::Within(a, b) => (STATEMENT_KIND, a, b, next),
+        };
+        Record {
+            kind,
+            second: 0,
+            a,
+            b,
+            next,
+        }
+    }
+}
+
+/// The records of a file, header first.
+#[derive(Clone, Debug)]
+pub struct Vocabulary {
+    /// The records.
+    pub records: Vec<Record>,
+}
+
+impl Vocabulary {
+    /// The records of whole eight bytes.
+    pub fn read(bytes: &[u8]) -> Vocabulary {
+        Vocabulary {
+            records: bytes.chunks_exact(judge::RECORD_BYTES).map(Record::read).collect(),
+        }
+    }
+
+    /// A record; where there is none, one of no kind.
+    pub fn get(&self, number: usize) -> Record {
+        self.records.get(number).copied().unwrap_or_default()
+    }
+
+    /// The records after the header, with their numbers.
+    pub fn numbered(&self) -> impl Iterator<Item = (usize, Record)> + '_ {
+        self.records.iter().copied().enumerate().skip(1)
+    }
+
+    /// The numbers of the atoms, in record order.
+    pub fn atoms(&self) -> Vec<usize> {
+        self.numbered()
+            .filter(|(_, record)| record.is_atom())
+            .map(|(number, _)| number)
+            .collect()
+    }
+
+    /// Which records are statements on the chain. A link that leads back or to no statement ends it.
+    pub fn chained(&self) -> Vec<bool> {
+        let is_statement = |number| self.get(number).kind == STATEMENT_KIND;
+        crate::chain::followed(self.records.len(), self.get(0).a, is_statement, |number| {
+            self.get(number).next
+        })
+    }
+
+    /// Which records hold at a type: terms by the truth of the atoms, statements by "A false or B true".
+    pub fn truths(&self, element: u16) -> Vec<bool> {
+        let mut truths = vec![false; self.records.len()];
+        let mut atom = 0;
+        for (number, record) in self.numbered() {
+            let at = |operand: u16| truths.get(usize::from(operand)).copied().unwrap_or(false);
+            let truth = match record.saying() {
+                None | Some(Saying::Bottom) => false,
+                Some(Saying::Top) => true,
+                Some(Saying::Not(a)) => !at(a),
+                Some(Saying::And(a, b)) => at(a) && at(b),
+                Some(Saying::Or(a, b)) => at(a) || at(b),
+                Some(Saying::Within(a, b)) => !at(a) || at(b),
+                Some(Saying::Name(_) | Saying::Some(..) | Saying::All(..)) => {
+                    atom += 1;
+                    element.checked_shr(atom - 1).unwrap_or(0) & 1 == 1
+                }
+            };
+            if let Some(place) = truths.get_mut(number) {
+                *place = truth;
+            }
+        }
+        truths
+    }
+}
