@@ -1,11 +1,32 @@
-/* The duty vocabulary judge: the calls that the library libjudge.a exports. `rt staticlib judge` builds it.
+/* The duty vocabulary judge: settles lines such as "term 4 equals term 3" of customs vocabularies in the description
+ * logic ALC, for all consignments that could ever exist. Link target/staticlib/libjudge.a (`rt staticlib judge` builds
+ * it; it needs nothing but memcpy and memset). examples/settle.c is a program that uses all of this.
  *
- * Every call answers one number, so that nothing but a lent buffer is ever written; unused bits are 0.
- *   bits 0-7    the refusal's number as in the table of paper 01, 0 where there is none
- *   bits 8-39   refused: the place of the refusal
- *               accepted: what the call answers, as said beside it
- * Each number is proved to be the packing of what the paper says, for every input. A pointer must point to as many
- * readable bytes as the length beside it says; it may be any non-null pointer where the length is 0. */
+ * A VOCABULARY is 8-byte records, at most 512: a header, then terms and statements. A term is a name, or made of
+ * earlier terms by not, and, or, some, all. A statement says that one term lies within another. A SCRIPT is 16-byte
+ * records, at most 2,048: a proof, by the connection calculus, that one term lies within another. Both have a readable
+ * text form, which the command `desk` turns into bytes and back (docs/DESK.md). Records are numbered from 0.
+ *
+ * Four calls: judge_check_vocabulary, judge_record, judge_compare, judge_check_script. Each takes any bytes of any
+ * length, ends, and answers one number, which the functions below take apart:
+ *
+ *     uint64_t answer = judge_compare(vocabulary, length, 4, 3, survivors, sizeof survivors);
+ *     if (judge_refusal(answer))        complain(judge_sentence(judge_refusal(answer)), judge_place(answer));
+ *     else if (judge_different(answer)) tell_apart(judge_element(answer));
+ *     else                              equal();
+ *
+ * PROVED, of the code that runs, for every input: each call ends, reads and writes only what it is lent, keeps no
+ * state, and answers what the definitions of paper 01 say (specs/ of each crate). A refusal is the first in the table's
+ * order, has the table's number and place, and alters no lent byte. Equal is answered exactly when the terms are equal
+ * in every finite interpretation that satisfies the statements; with Different, the bytes written are such an
+ * interpretation, in which the element belongs to just one of the terms. A script is accepted exactly when its chain of
+ * steps is a derivation, and then its first term lies within its second in every such interpretation. The packing of
+ * the answers is proved too.
+ *
+ * TRUSTED: the Rattle kit (its logic, its prover, the compiler's back end); this header, which is tested; the caller:
+ *   - a pointer has as many readable bytes as the length beside it says, and is not null, even where the length is 0;
+ *   - the buffer of a comparison is writable and overlaps no other input; no other thread writes to what is lent;
+ *   - a call has JUDGE_STACK_BYTES of stack. There is no recursion and no heap. */
 #ifndef JUDGE_H
 #define JUDGE_H
 
@@ -16,26 +37,141 @@
 extern "C" {
 #endif
 
-/* The vocabulary check. Accepted: the number of records, header included. */
+/* Limits of the formats. */
+enum {
+    JUDGE_VOCABULARY_BYTES = 4096, /* the longest vocabulary */
+    JUDGE_SCRIPT_BYTES = 32768,    /* the longest script */
+    JUDGE_SURVIVOR_BYTES = 512,    /* what a comparison writes and asks for */
+    JUDGE_ATOMS = 12               /* the most names and restrictions of a vocabulary that can be compared */
+};
+
+/* Stack that is enough for any call. Measured (tests/stack.c) with the kit's compiler on x86-64. */
+enum { JUDGE_STACK_BYTES = 131072 };
+
+/* ---- The calls ---- */
+
+/* The vocabulary check: is this a vocabulary? Accepted: judge_records. Refusals 1 to 8. */
 uint64_t judge_check_vocabulary(const uint8_t *vocabulary, size_t vocabulary_len);
 
-/* The record call. Accepted: the byte offset of the record; its eight bytes start there. */
+/* The record call: where is record `number`? Accepted: judge_offset; the record's eight bytes start there. Refusals 1
+ * and 9 only, so that the records of a vocabulary that the check refuses can be looked at. */
 uint64_t judge_record(const uint8_t *vocabulary, size_t vocabulary_len, uint32_t number);
 
-/* The comparison of the terms numbered a and b, in every finite interpretation that satisfies the statements. Accepted:
- *   bit 8        0 Equal, 1 Different
- *   bits 9-24    Different: the smallest survivor at which the two differ; Equal: 0
- *   bits 25-41   the number of survivors
- *   bits 42-58   the number of rounds that removed something
- * The survivors are written into the first 512 bytes of the buffer, which must hold as many (bit t mod 8 of byte t div 8
- * is 1 for a survivor t); later bytes keep their content. A refusal writes nothing. The buffer must not overlap the
- * vocabulary, and must be writable. */
+/* The comparison: are the terms of records a and b equal in every finite interpretation that satisfies the statements?
+ * Answered: judge_different, and if so judge_element; judge_survivors and judge_rounds with either. The survivors go
+ * into the first JUDGE_SURVIVOR_BYTES of the buffer: bit t mod 8 of byte t div 8 is 1 for a survivor t; bit j of a
+ * survivor says whether atom j (name or restriction, in record order) holds at it. Later bytes keep their content.
+ * Refusals 1 to 8, 10, 11, 12. */
 uint64_t judge_compare(const uint8_t *vocabulary, size_t vocabulary_len, uint32_t a, uint32_t b, uint8_t *buffer,
                        size_t buffer_len);
 
-/* The script check: whether the script's chain of steps is a derivation that its header's A lies within its B, over the
- * vocabulary handed in with it. Accepted: the number of steps. Nothing is written. */
+/* The script check: does this script prove that its header's A lies within its B, over this vocabulary? Accepted:
+ * judge_steps. Nothing is written. Refusals 1 to 8, 13, 14, 10, 15 to 25; with 20 to 25 the script keeps the form, and
+ * its chain is no derivation. */
 uint64_t judge_check_script(const uint8_t *vocabulary, size_t vocabulary_len, const uint8_t *script, size_t script_len);
+
+/* ---- Answers, taken apart; unused bits are 0 ---- */
+
+/* Bits 0-7: the refusal's number, 0 where there is none. */
+static inline unsigned judge_refusal(uint64_t answer)
+{
+    return (unsigned)(answer & 255);
+}
+
+/* Bits 8-39 of a refusal: its place. Refusals 3 to 8: the vocabulary's record; 9 and 10: the number asked for; 11: the
+ * number of atoms; 15 to 25: the script's record; the others: 0. */
+static inline uint32_t judge_place(uint64_t answer)
+{
+    return (uint32_t)(answer >> 8);
+}
+
+/* Bits 8-39 of a vocabulary check: the number of records, header included. */
+static inline uint32_t judge_records(uint64_t answer)
+{
+    return (uint32_t)(answer >> 8);
+}
+
+/* Bits 8-39 of a record call: the record's byte offset in the vocabulary. */
+static inline uint32_t judge_offset(uint64_t answer)
+{
+    return (uint32_t)(answer >> 8);
+}
+
+/* Bits 8-39 of a script check: the number of steps. */
+static inline uint32_t judge_steps(uint64_t answer)
+{
+    return (uint32_t)(answer >> 8);
+}
+
+/* Bit 8 of a comparison: 1 if the terms are different. */
+static inline int judge_different(uint64_t answer)
+{
+    return (int)(answer >> 8 & 1);
+}
+
+/* Bits 9-24 of a comparison: if the terms are different, the smallest survivor that belongs to just one of them. */
+static inline uint32_t judge_element(uint64_t answer)
+{
+    return (uint32_t)(answer >> 9 & 0xffff);
+}
+
+/* Bits 25-41 of a comparison: the number of survivors. With none, no interpretation satisfies the statements, and all
+ * terms are equal. */
+static inline uint32_t judge_survivors(uint64_t answer)
+{
+    return (uint32_t)(answer >> 25 & 0x1ffff);
+}
+
+/* Bits 42-58 of a comparison: the number of rounds of type elimination that removed something. */
+static inline uint32_t judge_rounds(uint64_t answer)
+{
+    return (uint32_t)(answer >> 42 & 0x1ffff);
+}
+
+/* Whether a type is among the survivors that a comparison wrote. */
+static inline int judge_survives(const uint8_t *survivors, uint32_t type)
+{
+    return type < 8 * JUDGE_SURVIVOR_BYTES && (survivors[type / 8] >> type % 8 & 1);
+}
+
+/* ---- Refusals ---- */
+
+/* A refusal in words, without its full stop. */
+static inline const char *judge_sentence(unsigned refusal)
+{
+    static const char *const sentences[] = {
+        "not refused",
+        "the vocabulary's length is under 8, over 4,096 or no multiple of 8",
+        "the vocabulary's header has a wrong kind, second byte, role count or next",
+        "the record's kind is not 1 to 9, or its second byte is not 0",
+        "an unused field of the record is not zero",
+        "a term number of the record does not name an earlier term",
+        "the record's role is not below the header's count",
+        "the name has the label of an earlier name",
+        "the first statement, or a statement's next, is not 0 and not a later statement",
+        "the record number is past the end",
+        "the number asked about is no term record",
+        "the vocabulary has over 12 atoms, too many to compare",
+        "under 512 bytes are lent for the survivors",
+        "the script's length is under 16, over 32,768 or no multiple of 16",
+        "the script's header has a wrong w0, or w4 to w7 are not zero",
+        "the script record's kind is not 1 to 5",
+        "an unused word of the script record is not zero",
+        "the term record breaks the term rule, or record 1 is absent or not the constant",
+        "the step names a query column, owner, column, position or term that does not exist for it",
+        "the first step, or a step's next, is not 0 and not a later step",
+        "the chain has no first start, or a later one",
+        "the extension's literal is not the complement of the goal",
+        "the reduction's frame is not below the last, or its goal is not the complement",
+        "the extension would open a 65th frame",
+        "the chain ends with a frame left",
+        "a step follows after all is closed",
+    };
+
+    if (refusal >= sizeof sentences / sizeof *sentences)
+        return "a refusal that the table does not have";
+    return sentences[refusal];
+}
 
 #ifdef __cplusplus
 }
