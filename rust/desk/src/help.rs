@@ -80,7 +80,9 @@ usage: desk verify VOCABULARY SCRIPT [--trace] [--json]
 Whether the script proves that its first term lies within its second, over the vocabulary: accepted with the number of
 its steps, or the refusal.
 
-  --trace   prints each step with the goal, the column that it uses, and the open frames
+  --trace   prints each step with the goal, the column that it uses with the terms put in, and the open frames after
+            it: a frame's goal first, then its other open literals; '>' marks the last frame, whose goal is the next.
+            A refused step is the last, with the reason. A script refused by 1 to 19 has no trace.
 
 exit status: 0 accepted, 1 the script keeps the form but its chain is no derivation (20 to 25), 2 refused input
 ",

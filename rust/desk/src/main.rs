@@ -9,6 +9,7 @@ mod json;
 mod report;
 mod script;
 mod text;
+mod trace;
 mod vocabulary;
 
 use crate::json::Json;

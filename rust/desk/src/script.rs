@@ -42,7 +42,7 @@ pub enum Entry {
 }
 
 /// The words of an extension.
-#[derive(Clone, Copy, Debug, PartialEq, Eq)]
+#[derive(Clone, Copy, Debug, Default, PartialEq, Eq)]
 pub struct Extension {
     /// The owner: a record of the vocabulary, or 0 for the query.
     pub owner: u16,

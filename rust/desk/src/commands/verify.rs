@@ -7,6 +7,7 @@ use crate::json::Json;
 use crate::report::{counted, Failure, Report, Status, Style};
 use crate::script;
 use crate::text::vocabulary::Written;
+use crate::trace;
 use crate::vocabulary::Vocabulary;
 
 /// The options.
@@ -22,13 +23,21 @@ pub fn run(arguments: &Arguments, style: Style) -> Result<Report, Failure> {
     let [vocabulary, script] = arguments.words(["VOCABULARY", "SCRIPT"])?;
     let vocabulary = read_vocabulary(vocabulary)?;
     let script = read_script(script)?;
-    Ok(match judge::check_script(&vocabulary.bytes, &script.bytes) {
+    let verdict = judge::check_script(&vocabulary.bytes, &script.bytes);
+    let mut report = match verdict {
         Ok(steps) => accepted(style, &vocabulary, &script, steps),
         Err(refusal) if refusal.rule.number() <= 8 => {
             Report::refused(style, &vocabulary.name, vocabulary.length, refusal)
         }
         Err(refusal) => Report::refused(style, &script.name, script.length, refusal),
-    })
+    };
+    if arguments.has("--trace") {
+        if let Some(trace) = trace::of(&vocabulary.bytes, &script.bytes, verdict)? {
+            report.text.insert_str(0, &trace.text);
+            report.json.push(("trace", trace.json));
+        }
+    }
+    Ok(report)
 }
 
 fn accepted(style: Style, vocabulary: &Input, script: &Input, steps: u32) -> Report {

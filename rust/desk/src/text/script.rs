@@ -47,6 +47,21 @@ impl Written {
         }
     }
 
+    /// A term, written out where it is short and else named by its record.
+    pub fn named(&self, term: u16) -> String {
+        self.term(usize::MAX, term)
+    }
+
+    /// A function of a term record, where no record need say it.
+    pub fn applied(&self, function: u16, inner: u16) -> String {
+        let text = format!("f{function}({})", self.named(inner));
+        if text.len() <= WRITTEN_OUT {
+            text
+        } else {
+            format!("f{function}(#{inner})")
+        }
+    }
+
     fn entry_text(&self, number: usize, entry: Entry) -> String {
         match entry {
             Entry::Constant => "a".to_string(),
