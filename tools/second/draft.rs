@@ -54,8 +54,13 @@ impl Draft {
 
     /// A label that no name has yet.
     fn fresh_label(&self, random: &mut Random) -> u16 {
+        self.free_label(random.number())
+    }
+
+    /// This label, or the next one that no name has yet.
+    pub fn free_label(&self, wanted: u16) -> u16 {
         let taken = self.labels();
-        let mut label = random.number();
+        let mut label = wanted;
         while taken.contains(&label) {
             label = label.wrapping_add(1);
         }

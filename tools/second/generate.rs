@@ -4,11 +4,11 @@
 use crate::decode::{Record, RECORD_BYTES};
 use crate::draft::Draft;
 use crate::faults::{near_labels, right_nexts, way, ways, with, wrong_headers, wrong_nexts};
-use crate::random::Random;
+use crate::random::{Random, Seed};
 use crate::vectors::Case;
 use crate::vocabulary::{check_vocabulary, Refusal};
 
-/// The seed of all random choices.
+/// The seed of all random choices in the stored cases.
 const SEED: u64 = 20_240_601;
 
 /// Record counts, header included, and places at which a fault is put: first, middle and last.
@@ -43,10 +43,10 @@ struct Plan {
 }
 
 /// All cases.
-pub fn all() -> Vec<Planned> {
+pub fn all(seed: Seed) -> Vec<Planned> {
     let mut plan = Plan {
         cases: Vec::new(),
-        random: Random::new(SEED),
+        random: Random::new(seed.unwrap_or(SEED)),
     };
     plan.lengths();
     plan.short_inputs();
@@ -282,7 +282,8 @@ impl Plan {
     fn repeated_labels(&mut self) {
         let names = [1, 3, 5, 10, 11, 12];
         let mut draft = Draft::random(5, 10, &mut self.random);
-        for label in [0, 258, 65535] {
+        for wanted in [0, 258, 65535] {
+            let label = draft.free_label(wanted);
             draft.records.push(Record::new(3, label, 0, 0));
         }
         for (i, name) in names.iter().enumerate() {

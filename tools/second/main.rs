@@ -10,10 +10,12 @@ mod generate;
 mod print;
 mod random;
 mod script;
+mod select;
 mod table;
 mod vectors;
 mod vocabulary;
 
+use random::Seed;
 use std::io::{Read, Write};
 use std::process::ExitCode;
 
@@ -25,30 +27,44 @@ const UNFIT: u8 = 1;
 const MALFORMED: u8 = 2;
 
 /// How the program is called.
-const USAGE: &str = "usage: second vectors > VECTORS, or second expect < VECTORS > EXPECTED, \
-     or second comparisons > CASES, or second expect-comparisons < CASES > EXPECTED, \
-     or second scripts > CASES, or second expect-scripts < CASES > EXPECTED";
+const USAGE: &str = "usage: second vectors|comparisons|scripts [SEED] > CASES, \
+     or second expect|expect-comparisons|expect-scripts < CASES > EXPECTED, \
+     or second new vectors|comparisons|scripts STORED < CASES > NEW, \
+     or second every vectors|comparisons|scripts STEP < CASES > CHOSEN";
 
 /// Runs the subcommand that the command line names.
 fn main() -> ExitCode {
     let words: Vec<String> = std::env::args().skip(1).collect();
     let status = match words.iter().map(String::as_str).collect::<Vec<_>>()[..] {
-        ["vectors"] => make_vectors(),
-        ["expect"] => expect(|bytes| Ok(print::lines(&vectors::decode(bytes)?))),
-        ["comparisons"] => make_comparisons(),
+        ["vectors"] => make_vectors(None),
+        ["vectors", seed] => seeded(seed, make_vectors),
+        ["expect"] => filter(|bytes| Ok(print::lines(&vectors::decode(bytes)?))),
+        ["comparisons"] => make_comparisons(None),
+        ["comparisons", seed] => seeded(seed, make_comparisons),
         ["expect-comparisons"] => {
-            expect(|bytes| Ok(comparison::lines(&comparison::decode(bytes)?)))
+            filter(|bytes| Ok(comparison::lines(&comparison::decode(bytes)?)))
         }
-        ["scripts"] => make_scripts(),
-        ["expect-scripts"] => expect(|bytes| Ok(script::lines(&script::decode(bytes)?))),
+        ["scripts"] => make_scripts(None),
+        ["scripts", seed] => seeded(seed, make_scripts),
+        ["expect-scripts"] => filter(|bytes| Ok(script::lines(&script::decode(bytes)?))),
+        ["new", name, stored] => filter(|bytes| select::new(name, &file(stored)?, bytes)),
+        ["every", name, step] => filter(|bytes| select::every(name, step, bytes)),
         _ => complain(USAGE),
     };
     ExitCode::from(status)
 }
 
+/// Makes cases by the seed that a word of the command line says.
+fn seeded(word: &str, make: fn(Seed) -> u8) -> u8 {
+    match word.parse() {
+        Ok(seed) => make(Some(seed)),
+        Err(_) => complain(USAGE),
+    }
+}
+
 /// Writes the vector file to standard output, and the table of refusals to standard error.
-fn make_vectors() -> u8 {
-    let planned = generate::all();
+fn make_vectors(seed: Seed) -> u8 {
+    let planned = generate::all(seed);
     let faults = generate::misses(&planned);
     let cases: Vec<vectors::Case> = planned.into_iter().map(|p| p.case).collect();
     let table = print::Table::of(&cases);
@@ -72,31 +88,43 @@ fn make_vectors() -> u8 {
     }
 }
 
-/// Reads a file of cases from standard input, and writes the output expected for it.
-fn expect(lines: impl Fn(&[u8]) -> Result<String, String>) -> u8 {
+/// The bytes of a file.
+fn file(path: &str) -> Result<Vec<u8>, String> {
+    std::fs::read(path).map_err(|error| format!("{path}: {error}"))
+}
+
+/// Reads a file of cases from standard input, and writes what is made of it: the output expected for
+/// it, or some of its cases.
+fn filter<T: AsRef<[u8]>>(work: impl Fn(&[u8]) -> Result<T, String>) -> u8 {
     let mut bytes = Vec::new();
     if let Err(error) = std::io::stdin().read_to_end(&mut bytes) {
         return complain(&error.to_string());
     }
-    match lines(&bytes) {
+    match work(&bytes) {
         Err(message) => complain(&message),
-        Ok(text) if write_out(text.as_bytes()) => DONE,
+        Ok(made) if write_out(made.as_ref()) => DONE,
         Ok(_) => complain("cannot write"),
     }
 }
 
 /// Writes the file of comparison cases.
-fn make_comparisons() -> u8 {
-    let planned = comparison::all();
-    let table = comparison::table(&planned);
+fn make_comparisons(seed: Seed) -> u8 {
+    let planned = comparison::all(seed);
+    let table = match seed {
+        None => comparison::table(&planned),
+        Some(_) => comparison::seeded_table(&planned),
+    };
     let cases: Vec<comparison::Case> = planned.into_iter().map(|p| p.case).collect();
     make(&table, comparison::encode(&cases))
 }
 
 /// Writes the file of script cases.
-fn make_scripts() -> u8 {
-    let planned = script::all();
-    let table = script::table(&planned);
+fn make_scripts(seed: Seed) -> u8 {
+    let planned = script::all(seed);
+    let table = match seed {
+        None => script::table(&planned),
+        Some(_) => script::seeded_table(&planned),
+    };
     let cases: Vec<script::Case> = planned.into_iter().map(|p| p.case).collect();
     make(&table, script::encode(&cases))
 }

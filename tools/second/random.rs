@@ -1,5 +1,8 @@
 //! A seeded source of numbers (splitmix64), the same in every run.
 
+/// The seed of a run that makes cases: none where it makes the stored ones.
+pub type Seed = Option<u64>;
+
 /// The state of the source.
 pub struct Random(u64);
 

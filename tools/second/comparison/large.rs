@@ -30,12 +30,16 @@ fn chain_end(draft: &Draft) -> usize {
 }
 
 impl Plan {
-    /// The stored vocabularies as they are, and the small ones with as many records as there may be.
-    pub fn large(&mut self) {
+    /// The vocabularies of the benchmarks as they are.
+    pub fn benchmarks(&mut self) {
         for vocabulary in STORED {
             self.add_pairs(vocabulary, 2);
         }
         self.add(WALK_12, 1, 2, "different ");
+    }
+
+    /// The small ones of them with as many records as there may be, and many atoms.
+    pub fn large(&mut self) {
         for vocabulary in [STORED[0], STORED[2], STORED[5]] {
             for _ in 0..3 {
                 self.add_padded(vocabulary);

@@ -21,6 +21,6 @@ pub use plan::all;
 pub use print::lines;
 pub use random::vocabulary;
 pub use samples::{sample_4, v};
-pub use table::table;
+pub use table::{seeded_table, table};
 pub use terms::Terms;
 pub use types::{atoms, Types};

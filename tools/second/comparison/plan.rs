@@ -5,9 +5,9 @@ use crate::comparison::call::first_difference;
 use crate::comparison::file::Case;
 use crate::comparison::types::Types;
 use crate::decode::records;
-use crate::random::Random;
+use crate::random::{Random, Seed};
 
-/// The seed of all random choices.
+/// The seed of all random choices in the stored cases.
 const SEED: u64 = 20_240_715;
 
 /// Numbers of lent bytes that are enough.
@@ -25,17 +25,22 @@ pub struct Plan {
     pub random: Random,
 }
 
-/// All cases.
-pub fn all() -> Vec<Planned> {
+/// All cases. With a seed of its own a run leaves out what is the same in every run.
+pub fn all(seed: Seed) -> Vec<Planned> {
     let mut plan = Plan {
         cases: Vec::new(),
-        random: Random::new(SEED),
+        random: Random::new(seed.unwrap_or(SEED)),
     };
-    plan.samples();
-    plan.families();
+    if seed.is_none() {
+        plan.samples();
+        plan.families();
+    }
     plan.random_vocabularies();
+    if seed.is_none() {
+        plan.benchmarks();
+    }
     plan.large();
-    plan.refusals();
+    plan.refusals(seed);
     plan.cases
 }
 

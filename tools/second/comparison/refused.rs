@@ -5,6 +5,7 @@ use crate::comparison::plan::Plan;
 use crate::comparison::terms::Terms;
 use crate::decode::{records, Record};
 use crate::generate;
+use crate::random::Seed;
 use crate::vocabulary::check_vocabulary;
 
 /// One in so many refused cases of the vocabulary check is compared too.
@@ -59,7 +60,7 @@ fn no_terms(records: &[Record]) -> Vec<u32> {
 
 impl Plan {
     /// All refusals.
-    pub fn refusals(&mut self) {
+    pub fn refusals(&mut self, seed: Seed) {
         self.wrong_lengths();
         self.wrong_queries();
         for row in 0..=8 {
@@ -69,7 +70,7 @@ impl Plan {
                 }
             }
         }
-        self.refused_vocabularies();
+        self.refused_vocabularies(seed);
     }
 
     /// Row 1 next to the limits.
@@ -124,8 +125,8 @@ impl Plan {
     }
 
     /// Some of the vocabularies that the vocabulary check refuses, with random queries.
-    fn refused_vocabularies(&mut self) {
-        for planned in generate::all() {
+    fn refused_vocabularies(&mut self, seed: Seed) {
+        for planned in generate::all(seed) {
             let vocabulary = planned.case.vocabulary;
             let refusal = check_vocabulary(&vocabulary).err();
             let short = vocabulary.len() <= LONGEST;

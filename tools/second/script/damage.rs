@@ -2,6 +2,7 @@
 //! others, of which the first in table order is given.
 
 use crate::generate;
+use crate::random::Seed;
 use crate::script::faults::{ways, with, wrong_headers, wrong_nexts};
 use crate::script::plan::{refused, Base, Plan};
 use crate::script::records::{
@@ -35,7 +36,7 @@ impl Base {
 
 impl Plan {
     /// All damages.
-    pub fn damaged(&mut self) {
+    pub fn damaged(&mut self, seed: Seed) {
         let bases = self.bases.clone();
         self.lengths(&bases);
         self.headers(&bases);
@@ -47,7 +48,7 @@ impl Plan {
             self.mixtures(base, 2 + i % 2);
             self.any_word(base);
         }
-        self.refused_vocabularies(&bases);
+        self.refused_vocabularies(&bases, seed);
     }
 
     /// Row 13 next to its limits, whatever the records hold.
@@ -248,8 +249,8 @@ impl Plan {
 
     /// Some of the short vocabularies that each row of the vocabulary check refuses, with the
     /// beginnings of scripts.
-    fn refused_vocabularies(&mut self, bases: &[Base]) {
-        let all = generate::all()
+    fn refused_vocabularies(&mut self, bases: &[Base], seed: Seed) {
+        let all = generate::all(seed)
             .into_iter()
             .map(|planned| planned.case.vocabulary);
         let short = all.filter(|vocabulary| vocabulary.len() <= SHORT);

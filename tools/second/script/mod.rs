@@ -25,4 +25,4 @@ mod writer;
 
 pub use file::{decode, encode, lines, Case};
 pub use plan::all;
-pub use table::table;
+pub use table::{seeded_table, table};

@@ -2,7 +2,7 @@
 //! its making says so.
 
 use crate::decode;
-use crate::random::Random;
+use crate::random::{Random, Seed};
 use crate::script::columns::Matrix;
 use crate::script::file::Case;
 use crate::script::prover::{Prover, Step};
@@ -10,7 +10,7 @@ use crate::script::records::{encode, Script, Words};
 use crate::script::writer::{write, Writer};
 use crate::vocabulary::chain;
 
-/// The seed of all random choices.
+/// The seed of all random choices in the stored cases.
 const SEED: u64 = 20_240_928;
 
 /// A case, and its expected line; empty where its making does not say it.
@@ -33,18 +33,20 @@ pub struct Plan {
     pub random: Random,
 }
 
-/// All cases.
-pub fn all() -> Vec<Planned> {
+/// All cases. With a seed of its own a run leaves out the samples, which are the same in every run.
+pub fn all(seed: Seed) -> Vec<Planned> {
     let mut plan = Plan {
         cases: Vec::new(),
         bases: Vec::new(),
-        random: Random::new(SEED),
+        random: Random::new(seed.unwrap_or(SEED)),
     };
-    plan.samples();
+    if seed.is_none() {
+        plan.samples();
+    }
     plan.families();
     plan.random_scripts();
     plan.low_towers();
-    plan.damaged();
+    plan.damaged(seed);
     plan.walks();
     plan.high_towers();
     plan.long();

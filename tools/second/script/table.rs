@@ -61,10 +61,34 @@ fn connected(cases: &[Planned], answers: &[Answer]) -> usize {
     met.len()
 }
 
-/// The table of cases.
-pub fn table(cases: &[Planned]) -> Table {
+/// The answers to the cases.
+fn answers(cases: &[Planned]) -> Vec<Answer> {
     let answer = |p: &Planned| check_script(&p.case.vocabulary, &p.case.script);
-    let answers: Vec<Answer> = cases.iter().map(answer).collect();
+    cases.iter().map(answer).collect()
+}
+
+/// The cases whose answer is not borne out, a line for each.
+fn objections<'a>(
+    cases: &'a [Planned],
+    answers: &'a [Answer],
+) -> impl Iterator<Item = String> + 'a {
+    let numbered = cases.iter().zip(answers).enumerate();
+    numbered.filter_map(|(i, (planned, answer))| {
+        fault(planned, *answer).map(|text| format!("case {i} {text}"))
+    })
+}
+
+/// The table of cases of another seed: they have to be right, but need not be of every sort.
+pub fn seeded_table(cases: &[Planned]) -> Table {
+    let mut table = Table::default();
+    table.add("cases", cases.len(), 1);
+    table.object(objections(cases, &answers(cases)));
+    table
+}
+
+/// The table of the stored cases.
+pub fn table(cases: &[Planned]) -> Table {
+    let answers = answers(cases);
     let mut table = Table::default();
     table.add("cases", cases.len(), 1);
     for (numbers, least) in REFUSALS {
@@ -90,8 +114,6 @@ pub fn table(cases: &[Planned]) -> Table {
             pairs().filter(|(p, a)| check_by(*wrong, &p.case.vocabulary, &p.case.script) != **a);
         table.add(&format!("would change by: {name}"), told.count(), TELLING);
     }
-    table.object(pairs().enumerate().filter_map(|(i, (planned, answer))| {
-        fault(planned, *answer).map(|text| format!("case {i} {text}"))
-    }));
+    table.object(objections(cases, &answers));
     table
 }
