@@ -2,8 +2,10 @@
 //! order is given.
 
 use crate::comparison::plan::Plan;
+use crate::comparison::random::vocabulary;
 use crate::comparison::terms::Terms;
 use crate::decode::{records, Record};
+use crate::draft::Draft;
 use crate::generate;
 use crate::random::Seed;
 use crate::vocabulary::check_vocabulary;
@@ -12,6 +14,10 @@ use crate::vocabulary::check_vocabulary;
 const ONE_IN: usize = 9;
 /// The longest of them, in bytes.
 const LONGEST: usize = 300;
+
+/// Numbers of atoms around the limit and far from it, and how many random vocabularies have each.
+const ATOMS: [usize; 8] = [1, 5, 12, 13, 14, 20, 100, 300];
+const OF_EACH: usize = 20;
 
 /// The vocabulary that is spoiled: names, a restriction of each kind and statements.
 fn sound(atoms: usize) -> Vec<u8> {
@@ -58,8 +64,21 @@ fn no_terms(records: &[Record]) -> Vec<u32> {
     numbers
 }
 
+/// How the line begins for a query of a vocabulary that the vocabulary check accepts, where it is
+/// refused.
+fn refused_query(draft: &Draft, atoms: usize, [a, b]: [u32; 2], lent: u16) -> String {
+    let is_term = |n: &u32| draft.records.get(*n as usize).is_some_and(Record::is_term);
+    match [a, b].into_iter().find(|n| !is_term(n)) {
+        Some(number) => format!("refused 10 {number} "),
+        None if atoms > 12 => format!("refused 11 {atoms} "),
+        None if lent < 512 => "refused 12 0 ".to_string(),
+        None => String::new(),
+    }
+}
+
 impl Plan {
-    /// All refusals.
+    /// All refusals. The mixtures are much the same in every run: with a seed of its own a run has
+    /// random queries too.
     pub fn refusals(&mut self, seed: Seed) {
         self.wrong_lengths();
         self.wrong_queries();
@@ -71,6 +90,24 @@ impl Plan {
             }
         }
         self.refused_vocabularies(seed);
+        if seed.is_some() {
+            self.random_queries();
+        }
+    }
+
+    /// Random vocabularies with too many atoms or few enough, terms or none, bytes enough or too few.
+    fn random_queries(&mut self) {
+        for atoms in ATOMS {
+            for _ in 0..OF_EACH {
+                let draft = vocabulary(atoms, &mut self.random);
+                let numbers = draft.records.len() + 1;
+                let query = [0, 1].map(|_| self.random.below(numbers) as u32);
+                let any = self.random.below(1024) as u16;
+                let lent = self.random.pick(&[0, 511, 511, 512, any, any]).unwrap_or(0);
+                let meant = refused_query(&draft, atoms, query, lent);
+                self.add_lent(&draft.bytes(), query, lent, &meant);
+            }
+        }
     }
 
     /// Row 1 next to the limits.
