@@ -1,6 +1,7 @@
 /* Runs judge_compare over the comparison cases and compares each answer, and every byte of the lent buffer, with the
  * expected output. The vocabulary stands at the end of a page whose next page cannot be read, so that a read past its
- * end stops the test; guard bytes stand before and after the buffer, so that a write outside it shows.
+ * end stops the test; guard bytes stand before and after the buffer, so that a write outside it shows, and of every
+ * second case the buffer, too, ends where an unreadable page begins.
  * usage: comparison CASES EXPECTED */
 #define _DEFAULT_SOURCE
 #include <inttypes.h>
@@ -10,10 +11,10 @@
 #include "guarded.h"
 #include "judge.h"
 
-enum { HEAD = 13, WRITTEN = 512, GUARD = 64, GUARD_BYTE = 0xa5, ARENA = 2 * GUARD + 8 + SPACE };
+enum { HEAD = 13, WRITTEN = 512, GUARD = 64, GUARD_BYTE = 0xa5 };
 
-/* The buffer with its guards, as it is and as it has to be. */
-static uint8_t arena[ARENA], wanted[ARENA];
+/* The buffer with its guards, as it is and as it has to be; each in SPACE bytes. */
+static uint8_t *arena, wanted[SPACE];
 
 /* A case, as its head says. */
 struct query {
@@ -52,7 +53,7 @@ static struct query read_head(const uint8_t *head)
 /* Fills an arena with guard bytes, and the buffer in it with its pattern. */
 static void prepare(uint8_t *all, uint8_t *buffer, struct query query)
 {
-    memset(all, GUARD_BYTE, ARENA);
+    memset(all, GUARD_BYTE, SPACE);
     for (size_t i = 0; i < query.lent; i++)
         buffer[i] = (uint8_t)(7 * i + query.seed);
 }
@@ -105,10 +106,18 @@ static int sums_agree(const char *line, const uint8_t *buffer, size_t lent)
     return sscanf(line, " %" SCNu64 " %" SCNu64 "\n", &sums[0], &sums[1]) == 2 && sums[0] == low && sums[1] == high;
 }
 
+/* Where the buffer starts: before guard bytes, so many that it is aligned in every way, or at the very end. */
+static size_t buffer_start(size_t lent, size_t at)
+{
+    size_t after = at % 2 == 0 ? 0 : GUARD + at % 16 / 2;
+
+    return SPACE - lent < after ? 0 : SPACE - lent - after;
+}
+
 /* Compares one case with its line of the expected output. */
 static int check_case(const uint8_t *vocabulary, struct query query, const char *line, size_t at)
 {
-    size_t start = GUARD + at % 8; /* so that the buffer is aligned in every way */
+    size_t start = buffer_start(query.lent, at);
     uint64_t answer, packed;
     int used = 0, sort = expected_answer(line, &packed, &used);
 
@@ -124,7 +133,7 @@ static int check_case(const uint8_t *vocabulary, struct query query, const char 
         return fail("judge_compare answers something else", at);
     }
     if (memcmp(arena, wanted, start) != 0 ||
-        memcmp(arena + start + query.lent, wanted + start + query.lent, ARENA - start - query.lent) != 0)
+        memcmp(arena + start + query.lent, wanted + start + query.lent, SPACE - start - query.lent) != 0)
         return fail("something outside the buffer was written to", at);
     if (memcmp(arena + start, wanted + start, query.lent) != 0)
         return fail("the buffer holds something else", at);
@@ -140,6 +149,7 @@ int main(int count, char **arguments)
     static char line[4096];
     size_t cases = 0, got;
 
+    arena = guarded_space();
     if (file == NULL || expected == NULL) {
         fprintf(stderr, "usage: comparison CASES EXPECTED\n");
         return 2;

@@ -14,10 +14,6 @@
 
 #include "judge.h"
 
-#ifndef JUDGE_STACK_BYTES
-#define JUDGE_STACK_BYTES 131072
-#endif
-
 /* More is painted than may be needed; above it is room for the frames of this test. */
 enum { PAINTED = 2 * JUDGE_STACK_BYTES, STACK = PAINTED + 131072, ROOM = 65536, MOST_HEAD = 13, LOOSE = 4 };
 
