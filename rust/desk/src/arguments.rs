@@ -26,7 +26,7 @@ impl Arguments {
         while let Some(word) = given.next() {
             if word == "--" {
                 arguments.words.extend(given.by_ref());
-            } else if word == "-" || !word.to_string_lossy().starts_with('-') {
+            } else if !is_option(&word) {
                 arguments.words.push(word);
             } else {
                 let Some(flag) = flags.iter().find(|flag| word == flag.name) else {
@@ -36,7 +36,7 @@ impl Arguments {
                     ));
                 };
                 let value = if flag.valued {
-                    given.next()
+                    given.next().filter(|value| !is_option(value))
                 } else {
                     Some(OsString::new())
                 };
@@ -76,10 +76,21 @@ impl Arguments {
     }
 }
 
+/// Whether a word is meant as an option; `-` is standard input, and a negative number is a number.
+fn is_option(word: &OsStr) -> bool {
+    let word = word.to_string_lossy();
+    let name = word.strip_prefix('-').unwrap_or_default();
+    !name.is_empty() && !name.starts_with(|c: char| c.is_ascii_digit())
+}
+
+/// The number that a word is, if it has nothing but digits.
+pub fn digits(word: &str) -> Option<u32> {
+    let plain = word.bytes().all(|byte| byte.is_ascii_digit());
+    word.parse().ok().filter(|_| plain)
+}
+
 /// A record number as it was typed.
 pub fn number(word: &OsStr, name: &str) -> Result<u32, Failure> {
     let text = word.to_string_lossy();
-    let digits = !text.is_empty() && text.bytes().all(|byte| byte.is_ascii_digit());
-    let number = text.parse().ok().filter(|_| digits);
-    number.ok_or_else(|| Failure::new(USAGE, format!("{name} is a record number, and '{text}' is none")))
+    digits(&text).ok_or_else(|| Failure::new(USAGE, format!("{name} is a record number, and '{text}' is none")))
 }

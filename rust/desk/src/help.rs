@@ -14,7 +14,7 @@ usage: desk COMMAND .. [--json]
   assemble TEXT -o FILE         a vocabulary or a script from its text
   recheck TABLE                 every line of a filed table
 
-'desk COMMAND --help' says more. A FILE of '-' is standard input. --json writes one JSON object instead.
+'desk COMMAND --help' says more. An input of '-' is standard input. --json writes one JSON object instead.
 
 exit status: 0 holds, 1 does not hold, 2 refused input, 64 and up usage and I/O errors:
   64 the command line is not understood   66 an input cannot be read     70 an error in desk itself
@@ -41,7 +41,9 @@ usage: desk show FILE [--json]
 
 Prints a vocabulary or a script as text, a line for each record: terms and statements in OWL 2 functional syntax, with
 c7 for the name labelled 7, r0 for role 0 and #4 for the term of record 4. 'desk assemble' makes the same bytes of it.
-A vocabulary that is refused is shown as well, and the refusal beside it; a record without a form is shown as 'raw'.
+A vocabulary that is refused is shown as well, and the refusal beside it, on standard error; a record without a form is
+shown as 'raw'. A file whose length is refused is not shown. What begins as a script (w0 is 32) is taken for one; whether
+it proves something, 'desk verify' says.
 
 exit status: 0 shown, 2 refused
 ",
@@ -67,7 +69,7 @@ are different, an element tells them apart: the names and restrictions that hold
 two terms it belongs to.
 
   --survivors FILE   writes the 512 bytes that describe the interpretation: bit t mod 8 of byte t div 8 is 1 for a
-                     survivor t
+                     survivor t (nothing is written where the input is refused)
 
 exit status: 0 equal, 1 different, 2 refused
 ",
@@ -93,11 +95,11 @@ exit status: 0 accepted, 1 the script keeps the form but its chain is no derivat
 usage: desk assemble TEXT -o FILE [--force] [--json]
 
 Makes the bytes of a vocabulary or a script from its text (docs/DESK.md; 'desk show' prints it). A vocabulary that the
-library refuses is not written, nor is one that has a fault in its text. A script is checked by 'desk verify', since
-that takes its vocabulary.
+library refuses is not written, nor is one that has a fault in its text. Of a script the length and the header are
+checked here (13 and 14); the rest takes its vocabulary: 'desk verify'.
 
-  -o FILE   the file to write
-  --force   writes a vocabulary that is refused, too (for tests)
+  -o FILE   the file to write, which may not be TEXT itself
+  --force   writes what is refused, too (for tests)
 
 exit status: 0 written, 2 refused, or a fault in the text (its line and column are given)
 ",
@@ -110,10 +112,10 @@ usage: desk recheck TABLE [--json]
 Rechecks a filed table, a line each: VOCABULARY A B CLAIM, where the claim is 'equal', 'different' or 'within SCRIPT'
 (term A lies within term B by that script). Files are named relative to the table's directory. Fields are set apart by
 blanks, or by tabs if the line has one; empty lines and lines that begin with '--' are left out. Prints the lines that
-do not hold and a summary.
+do not hold and a summary, and a progress bar where standard error is a terminal.
 
-exit status: the greatest of the lines' own: 0 all hold, 1 some do not, 2 some input was refused or a line is
-malformed, 66 some file cannot be read
+exit status: the greatest of the lines' own: 0 all hold (or there is none), 1 some do not, 2 some input was refused or a
+line is malformed, 66 some file cannot be read
 ",
     ),
 ];

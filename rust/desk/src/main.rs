@@ -13,67 +13,54 @@ mod trace;
 mod vocabulary;
 
 use crate::json::Json;
-use crate::report::{Failure, Report, Style, BROKEN_OUTPUT, USAGE};
+use crate::report::{plain, Failure, Report, Style, BROKEN_OUTPUT, USAGE};
 use std::ffi::OsString;
 use std::io::{self, ErrorKind, IsTerminal, Write};
 use std::process::ExitCode;
 
 fn main() -> ExitCode {
     let mut words: Vec<OsString> = std::env::args_os().skip(1).collect();
-    let wants_help = words
-        .iter()
-        .take_while(|word| *word != "--")
-        .any(|word| word == "--help" || word == "-h");
-    let command = if words.is_empty() {
-        OsString::new()
-    } else {
-        words.remove(0)
-    };
+    let has = |option: &str| words.iter().take_while(|word| *word != "--").any(|word| word == option);
+    let (wants_help, as_json) = (has("--help") || has("-h"), has("--json"));
+    // --json may stand before the command, too.
+    let at = words.iter().position(|word| word != "--json");
+    let command = at.map_or_else(OsString::new, |at| words.remove(at));
     let command = command.to_string_lossy().into_owned();
     let status = match (command.as_str(), help::page(&command)) {
         ("--version", _) => say(concat!("desk ", env!("CARGO_PKG_VERSION"), "\n"), 0),
-        ("help", _) => help_on(words.first()),
+        ("--help" | "-h", _) => say(help::ALL, 0),
+        ("help", _) => help_on(words.first(), as_json),
         (_, Some(page)) if wants_help => say(page, 0),
-        (_, Some(_)) => run(&command, words),
-        _ if wants_help => say(help::ALL, 0),
-        ("", _) => {
+        (_, Some(_)) => run(&command, words, as_json),
+        ("", _) if at.is_none() => {
             complain(help::ALL);
             USAGE
         }
-        _ => fail(
-            false,
-            "desk",
-            &Failure::new(
-                USAGE,
-                format!("there is no command '{command}'; 'desk --help' lists them"),
-            ),
-        ),
+        _ => no_command(&command, as_json),
     };
     ExitCode::from(status)
 }
 
+fn no_command(command: &str, as_json: bool) -> u8 {
+    let message = format!("there is no command '{command}'; 'desk --help' lists them");
+    fail(as_json, "desk", &Failure::new(USAGE, message))
+}
+
 /// `desk help`, or `desk help COMMAND`.
-fn help_on(command: Option<&OsString>) -> u8 {
-    let Some(command) = command else {
-        return say(help::ALL, 0);
-    };
-    let command = command.to_string_lossy();
-    match help::page(&command) {
-        Some(page) => say(page, 0),
-        None => fail(
-            false,
-            "desk",
-            &Failure::new(USAGE, format!("there is no command '{command}'")),
-        ),
+fn help_on(command: Option<&OsString>, as_json: bool) -> u8 {
+    let command = command.map(|command| command.to_string_lossy());
+    match command.as_deref() {
+        None | Some("help" | "--help" | "-h" | "--json") => say(help::ALL, 0),
+        Some(command) => help::page(command).map_or_else(|| no_command(command, as_json), |page| say(page, 0)),
     }
 }
 
 /// Runs a command and prints what it has to say.
-fn run(command: &str, words: Vec<OsString>) -> u8 {
-    let as_json = words.iter().any(|word| word == "--json");
-    let colour =
-        io::stdout().is_terminal() && !as_json && std::env::var_os("NO_COLOR").is_none_or(|set| set.is_empty());
-    match commands::run(command, words, Style { colour }) {
+fn run(command: &str, words: Vec<OsString>, as_json: bool) -> u8 {
+    let style = Style {
+        colour: io::stdout().is_terminal() && !as_json && report::allows_colour(),
+    };
+    match commands::run(command, words, style) {
         Ok(report) if as_json => print_json(command, report),
         Ok(report) => {
             let status = say(&report.text, report.status);
@@ -111,7 +98,7 @@ fn fail(as_json: bool, command: &str, failure: &Failure) -> u8 {
     } else {
         format!("desk {command}")
     };
-    complain(&format!("{name}: {}\n", failure.message));
+    complain(&format!("{name}: {}\n", plain(&failure.message)));
     if failure.status == USAGE {
         let usage = help::page(command).and_then(|page| page.lines().next());
         complain(&usage.map(|line| format!("{line}\n")).unwrap_or_default());

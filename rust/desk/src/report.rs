@@ -1,5 +1,6 @@
 //! What a command has to say, and the exit status that goes with it.
 
+use crate::files::{Length, Name};
 use crate::json::Json;
 use judge::Refusal;
 
@@ -63,6 +64,16 @@ pub struct Style {
     pub colour: bool,
 }
 
+/// Whether the terminal, if there is one, knows nothing but plain lines.
+pub fn is_plain_terminal() -> bool {
+    std::env::var_os("TERM").is_some_and(|kind| kind == "dumb")
+}
+
+/// Whether colour is wanted where the output is a terminal: not on a dumb one, nor where NO_COLOR is set.
+pub fn allows_colour() -> bool {
+    !is_plain_terminal() && std::env::var_os("NO_COLOR").is_none_or(|set| set.is_empty())
+}
+
 impl Style {
     /// A word in the colour of a status.
     pub fn paint(self, status: Status, word: &str) -> String {
@@ -77,6 +88,17 @@ impl Style {
             word.to_string()
         }
     }
+}
+
+/// A refusal in words, with what is known of an input of this length.
+pub fn refusal_words(refusal: Refusal, length: Length) -> String {
+    let number = refusal.rule.number();
+    let size = if matches!(number, 1 | 13) {
+        format!("; {length}")
+    } else {
+        String::new()
+    };
+    format!("{refusal}{size}{}", length.hint(number))
 }
 
 /// A refusal, as programs read it.
@@ -99,30 +121,38 @@ impl Report {
         }
     }
 
-    /// The refusal of an input; `name` is the file that it is about, and `length` its bytes.
-    pub fn refused(style: Style, name: &str, length: u64, refusal: Refusal) -> Report {
+    /// The refusal of an input; `name` is the file that it is about.
+    pub fn refused(style: Style, name: &Name, length: Length, refusal: Refusal) -> Report {
         let status = if refusal.rule.is_of_chain() {
             Status::DoesNotHold
         } else {
             Status::Refused
         };
-        let mut text = format!(
-            "{name}: {}",
-            refusal
-                .to_string()
-                .replacen("refused", &style.paint(status, "refused"), 1)
+        let words = refusal_words(refusal, length);
+        let text = format!(
+            "{name}: {}\n",
+            words.replacen("refused", &style.paint(status, "refused"), 1)
         );
-        if matches!(refusal.rule.number(), 1 | 13) {
-            text.push_str(&format!("; it has {} bytes", grouped(length)));
-        }
-        text.push('\n');
         let json = vec![
-            ("file", Json::from(name)),
+            ("file", Json::from(name.as_str())),
             ("verdict", Json::from("refused")),
             ("refusal", refusal_json(refusal)),
         ];
         Report::new(status, text, json)
     }
+}
+
+/// A text that may be anything, without control characters, which a terminal would follow. Tabs stay.
+pub fn plain(text: &str) -> String {
+    let mut plain = String::new();
+    for character in text.chars() {
+        if character.is_control() && character != '\t' {
+            plain.extend(character.escape_default());
+        } else {
+            plain.push(character);
+        }
+    }
+    plain
 }
 
 /// A number with its thousands set apart.

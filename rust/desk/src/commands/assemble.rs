@@ -1,8 +1,8 @@
 //! `desk assemble`.
 
-use super::JSON;
+use super::{refused_script, JSON};
 use crate::arguments::{Arguments, Flag};
-use crate::files;
+use crate::files::{self, Length, Name};
 use crate::json::Json;
 use crate::report::{counted, Failure, Report, Status, Style, USAGE};
 use crate::text::cursor::Fault;
@@ -32,15 +32,15 @@ pub fn run(arguments: &Arguments, style: Style) -> Result<Report, Failure> {
         Err(fault) => return Ok(faulty(style, &name, &fault)),
     };
     let refusal = if is_script {
-        None
+        refused_script(&bytes)
     } else {
         judge::check_vocabulary(&bytes).err()
     };
     if let Some(refusal) = refusal.filter(|_| !arguments.has("--force")) {
-        return Ok(Report::refused(style, &name, bytes.len() as u64, refusal));
+        return Ok(Report::refused(style, &name, Length::of(&bytes), refusal));
     }
-    files::write(output, &bytes)?;
-    let output = output.to_string_lossy();
+    files::write(output, &bytes, path)?;
+    let output = Name::new(output);
     let (kind, size) = if is_script {
         ("script", judge::SCRIPT_RECORD_BYTES)
     } else {
@@ -49,7 +49,7 @@ pub fn run(arguments: &Arguments, style: Style) -> Result<Report, Failure> {
     let records = bytes.len() / size;
     let text = format!("{output}: a {kind} of {}\n", counted(records as u64, "record"));
     let json = vec![
-        ("file", Json::from(&*output)),
+        ("file", Json::from(output.as_str())),
         ("verdict", Json::from("written")),
         ("kind", Json::from(kind)),
         ("records", Json::from(records)),
@@ -57,14 +57,14 @@ pub fn run(arguments: &Arguments, style: Style) -> Result<Report, Failure> {
     Ok(Report::new(Status::Holds, text, json))
 }
 
-fn faulty(style: Style, name: &str, fault: &Fault) -> Report {
+fn faulty(style: Style, name: &Name, fault: &Fault) -> Report {
     let Fault { line, column, message } = fault;
     let text = format!(
         "{name}:{line}:{column}: {}: {message}\n",
         style.paint(Status::Refused, "not assembled")
     );
     let json = vec![
-        ("file", Json::from(name)),
+        ("file", Json::from(name.as_str())),
         ("verdict", Json::from("faulty")),
         ("line", Json::from(*line)),
         ("column", Json::from(*column)),

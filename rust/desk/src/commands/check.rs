@@ -21,26 +21,23 @@ pub fn run(arguments: &Arguments, style: Style) -> Result<Report, Failure> {
 
 fn accepted(style: Style, input: &Input, records: u32) -> Report {
     let vocabulary = Vocabulary::read(&input.bytes);
-    let count = |of: fn(u8) -> bool| vocabulary.numbered().filter(|(_, record)| of(record.kind)).count();
-    let names = count(|kind| kind == 3);
-    let restrictions = count(|kind| matches!(kind, 7 | 8));
-    let statements = count(|kind| kind == STATEMENT_KIND);
-    let chained = vocabulary.chained().iter().filter(|on| **on).count();
+    let [names, restrictions, statements, chained] = tally(&vocabulary);
     let roles = vocabulary.get(0).b;
     let atoms = names + restrictions;
-    let comparable = if atoms > ATOMS {
-        "too many to compare"
-    } else {
-        "can be compared"
-    };
+    let comparable = atoms <= ATOMS;
     let text = format!(
-        "{}: {}: {}, {} and {} ({}, {comparable}), {} of {} on the chain, {}\n",
+        "{}: {}: {}, {} and {} ({}, {}), {} of {} on the chain, {}\n",
         input.name,
         style.paint(Status::Holds, "accepted"),
         counted(records.into(), "record"),
         counted(names as u64, "name"),
         counted(restrictions as u64, "restriction"),
         counted(atoms as u64, "atom"),
+        if comparable {
+            "can be compared"
+        } else {
+            "too many to compare"
+        },
         chained,
         counted(statements as u64, "statement"),
         counted(roles.into(), "role"),
@@ -52,10 +49,21 @@ fn accepted(style: Style, input: &Input, records: u32) -> Report {
         ("names", Json::from(names)),
         ("restrictions", Json::from(restrictions)),
         ("atoms", Json::from(atoms)),
-        ("comparable", Json::from(atoms <= ATOMS)),
+        ("comparable", Json::from(comparable)),
         ("statements", Json::from(statements)),
         ("chained", Json::from(chained)),
         ("roles", Json::from(roles)),
     ];
     Report::new(Status::Holds, text, json)
+}
+
+/// How many names, restrictions, statements and statements on the chain there are.
+fn tally(vocabulary: &Vocabulary) -> [usize; 4] {
+    let count = |of: fn(u8) -> bool| vocabulary.numbered().filter(|(_, record)| of(record.kind)).count();
+    [
+        count(|kind| kind == 3),
+        count(|kind| matches!(kind, 7 | 8)),
+        count(|kind| kind == STATEMENT_KIND),
+        vocabulary.chained().iter().filter(|on| **on).count(),
+    ]
 }

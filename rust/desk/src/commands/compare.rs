@@ -22,9 +22,9 @@ pub const FLAGS: &[Flag] = &[
 type Pair = [u32; 2];
 
 pub fn run(arguments: &Arguments, style: Style) -> Result<Report, Failure> {
-    let [path, a, b] = arguments.words(["VOCABULARY", "A", "B"])?;
+    let [input_path, a, b] = arguments.words(["VOCABULARY", "A", "B"])?;
     let pair = [number(a, "A")?, number(b, "B")?];
-    let input = read_vocabulary(path)?;
+    let input = read_vocabulary(input_path)?;
     let mut survivors = [0; judge::SURVIVOR_BYTES];
     let [a, b] = pair;
     let answer = match judge::compare(&input.bytes, a, b, &mut survivors) {
@@ -32,61 +32,48 @@ pub fn run(arguments: &Arguments, style: Style) -> Result<Report, Failure> {
         Ok(answer) => answer,
     };
     if let Some(path) = arguments.value("--survivors") {
-        files::write(path, &survivors)?;
+        files::write(path, &survivors, input_path)?;
     }
     report(style, &input, pair, answer)
 }
 
 fn report(style: Style, input: &Input, pair: Pair, answer: Comparison) -> Result<Report, Failure> {
     let written = Written::new(Vocabulary::read(&input.bytes));
-    let [a_json, b_json] = pair.map(|number| written.term_json(number as u16));
-    let [a, b] = pair.map(|number| written.term(number as u16));
-    let counts = format!(
-        "{}, {}",
-        counted(answer.survivors.into(), "survivor"),
-        counted(answer.rounds.into(), "round")
-    );
+    let [a, b] = pair.map(|number| written.term_json(number as u16));
     let mut json = vec![
         ("file", Json::from(input.name.as_str())),
-        ("a", a_json),
-        ("b", b_json),
+        ("a", a),
+        ("b", b),
         ("survivors", Json::from(answer.survivors)),
         ("rounds", Json::from(answer.rounds)),
     ];
-    let heading = |status, word| {
-        format!(
-            "{}: {}; {counts}\n  A: {a}\n  B: {b}\n",
-            input.name,
-            style.paint(status, word)
-        )
+    let (status, word) = match answer.verdict {
+        Verdict::Equal => (Status::Holds, "equal"),
+        Verdict::Different { .. } => (Status::DoesNotHold, "different"),
     };
+    json.push(("verdict", Json::from(word)));
+    let mut text = format!("{}: {}; ", input.name, style.paint(status, word)) + &heading(&written, pair, answer);
     match answer.verdict {
-        Verdict::Equal => {
-            let mut text = heading(Status::Holds, "equal");
-            if answer.survivors == 0 {
-                text.push_str("no interpretation satisfies the statements, so all terms are equal\n");
-            }
-            json.push(("verdict", Json::from("equal")));
-            Ok(Report::new(Status::Holds, text, json))
+        Verdict::Equal if answer.survivors == 0 => {
+            text.push_str("no interpretation satisfies the statements, so all terms are equal\n");
         }
+        Verdict::Equal => {}
         Verdict::Different { element } => {
             let explained = Explained::new(&written, element);
-            let (in_a, in_b) = (explained.belongs(pair[0]), explained.belongs(pair[1]));
-            if in_a == in_b {
-                return Err(Failure::new(
-                    DEFECT,
-                    "the element belongs to both terms or to none, against what is proved",
-                ));
-            }
-            json.extend([
-                ("verdict", Json::from("different")),
-                ("element", explained.json(if in_a { "a" } else { "b" })),
-            ]);
-            let text =
-                heading(Status::DoesNotHold, "different") + &explained.text(if in_a { ["A", "B"] } else { ["B", "A"] });
-            Ok(Report::new(Status::DoesNotHold, text, json))
+            let in_a = explained.is_in_first(pair)?;
+            json.push(("element", explained.json(if in_a { "a" } else { "b" })));
+            text.push_str(&explained.text(if in_a { ["A", "B"] } else { ["B", "A"] }));
         }
     }
+    Ok(Report::new(status, text, json))
+}
+
+/// The counts, and the terms.
+fn heading(written: &Written, pair: Pair, answer: Comparison) -> String {
+    let survivors = counted(answer.survivors.into(), "survivor");
+    let rounds = counted(answer.rounds.into(), "round");
+    let [a, b] = pair.map(|number| written.term(number as u16));
+    format!("{survivors}, {rounds}\n  A: {a}\n  B: {b}\n")
 }
 
 /// An element, by the atoms that hold at it.
@@ -111,8 +98,14 @@ impl Explained {
         }
     }
 
-    fn belongs(&self, number: u32) -> bool {
-        self.truths.get(number as usize) == Some(&true)
+    /// Whether it belongs to the first of two terms, of which it belongs to just one.
+    fn is_in_first(&self, pair: Pair) -> Result<bool, Failure> {
+        let [in_a, in_b] = pair.map(|number| self.truths.get(number as usize) == Some(&true));
+        if in_a == in_b {
+            let message = "the element belongs to both terms or to none, against what is proved";
+            return Err(Failure::new(DEFECT, message));
+        }
+        Ok(in_a)
     }
 
     /// The atoms that hold, or those that do not.

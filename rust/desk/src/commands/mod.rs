@@ -11,6 +11,7 @@ mod verify;
 use crate::arguments::{Arguments, Flag};
 use crate::files::{self, Input};
 use crate::report::{Failure, Report, Style};
+use judge::{Refusal, Rule};
 use std::ffi::{OsStr, OsString};
 
 /// A command: its options beside --json, and what it does.
@@ -39,6 +40,13 @@ const JSON: Flag = Flag {
 /// Reads a vocabulary; one that is too long is read so far that the library refuses it.
 fn read_vocabulary(path: &OsStr) -> Result<Input, Failure> {
     files::read(path, judge::VOCABULARY_BYTES)
+}
+
+/// The refusal of a script whatever its vocabulary: its length or its header (13 and 14), which the check looks at
+/// before all that takes a vocabulary of more than a header.
+fn refused_script(script: &[u8]) -> Option<Refusal> {
+    let refusal = judge::check_script(&[16, 1, 0, 0, 0, 0, 0, 0], script).err();
+    refusal.filter(|refusal| matches!(refusal.rule, Rule::ScriptLength | Rule::ScriptHeader))
 }
 
 /// Reads a script; one that is too long is read so far that the library refuses it.

@@ -1,10 +1,10 @@
 //! `desk recheck`.
 
 use super::{read_script, read_vocabulary};
-use crate::arguments::Arguments;
-use crate::files::{self, Input};
+use crate::arguments::{digits, Arguments};
+use crate::files::{self, Input, Name};
 use crate::json::Json;
-use crate::report::{counted, grouped, Failure, Report, Status, Style};
+use crate::report::{counted, grouped, is_plain_terminal, plain, Failure, Report, Status, Style};
 use crate::script;
 use judge::{Refusal, Verdict};
 use std::ffi::{OsStr, OsString};
@@ -42,7 +42,7 @@ pub fn run(arguments: &Arguments, style: Style) -> Result<Report, Failure> {
         }
     }
     progress.clear();
-    report(style, &name, rows.len(), failing)
+    Ok(report(style, &name, rows.len(), failing))
 }
 
 /// The directory in which the table's files are looked for.
@@ -65,6 +65,11 @@ impl Outcome {
 
     fn holds() -> Outcome {
         Outcome::new(Status::Holds, "")
+    }
+
+    fn malformed(why: &str) -> Outcome {
+        let why = format!("{why}; a line is VOCABULARY A B and equal, different or within SCRIPT");
+        Outcome::new(Status::Refused, why)
     }
 
     fn refused(refusal: Refusal) -> Outcome {
@@ -90,24 +95,20 @@ impl Checker {
         } else {
             row.split_whitespace().collect()
         };
-        let malformed = || {
-            Outcome::new(
-                Status::Refused,
-                "no line of a table: VOCABULARY A B equal, different or within SCRIPT",
-            )
+        let [vocabulary, a, b, ref claim @ ..] = fields[..] else {
+            return Outcome::malformed("a field is missing");
         };
-        let (vocabulary, a, b, claim) = match fields[..] {
-            [vocabulary, a, b, ref claim @ ..] => match (a.parse(), b.parse()) {
-                (Ok(a), Ok(b)) => (vocabulary, a, b, claim),
-                _ => return malformed(),
-            },
-            _ => return malformed(),
+        let number = |word: &str| digits(word).ok_or_else(|| format!("'{word}' is no record number"));
+        let pair = match (number(a), number(b)) {
+            (Ok(a), Ok(b)) => [a, b],
+            (Err(why), _) | (_, Err(why)) => return Outcome::malformed(&why),
         };
         let outcome = match claim {
-            ["equal"] => self.compare(vocabulary, [a, b], true),
-            ["different"] => self.compare(vocabulary, [a, b], false),
-            ["within", script] => self.verify(vocabulary, [a, b], script),
-            _ => Ok(malformed()),
+            ["equal"] => self.compare(vocabulary, pair, true),
+            ["different"] => self.compare(vocabulary, pair, false),
+            ["within", script] => self.verify(vocabulary, pair, script),
+            [] => Ok(Outcome::malformed("the claim is missing")),
+            claim => Ok(Outcome::malformed(&format!("'{}' is no claim", claim.join(" ")))),
         };
         outcome.unwrap_or_else(|failure| Outcome {
             status: failure.status,
@@ -115,8 +116,13 @@ impl Checker {
         })
     }
 
+    /// The path of a file that the table names; `-` is a file's name there.
     fn path(&self, file: &str) -> OsString {
-        self.directory.join(file).into_os_string()
+        let path = self.directory.join(file);
+        if path.as_os_str() == "-" {
+            return "./-".into();
+        }
+        path.into_os_string()
     }
 
     fn vocabulary(&mut self, file: &str) -> Result<&[u8], Failure> {
@@ -155,24 +161,9 @@ impl Checker {
     }
 }
 
-fn report(style: Style, name: &str, rows: usize, failing: Vec<(usize, &str, Outcome)>) -> Result<Report, Failure> {
-    let with = |statuses: fn(u8) -> bool| failing.iter().filter(|(.., outcome)| statuses(outcome.status)).count();
-    let (false_lines, refused, unread) = (with(|s| s == 1), with(|s| s == 2), with(|s| s > 2));
-    let mut text = String::new();
-    for (line, row, outcome) in &failing {
-        text.push_str(&format!("{name}:{line}: {}\n  {}\n", row.trim(), outcome.why));
-    }
+fn report(style: Style, name: &Name, rows: usize, failing: Vec<(usize, &str, Outcome)>) -> Report {
+    let holds = failing.is_empty();
     let held = rows - failing.len();
-    let status = if failing.is_empty() {
-        Status::Holds
-    } else {
-        Status::DoesNotHold
-    };
-    let summary = format!("{} of {} hold", grouped(held as u64), counted(rows as u64, "line"));
-    text.push_str(&format!("{name}: {}", style.paint(status, &summary)));
-    text.push_str(&format!(
-        "; {false_lines} do not hold, {refused} refused, {unread} not readable\n"
-    ));
     let line_json = |(line, row, outcome): &(usize, &str, Outcome)| {
         Json::object([
             ("line", Json::from(*line)),
@@ -182,22 +173,49 @@ fn report(style: Style, name: &str, rows: usize, failing: Vec<(usize, &str, Outc
         ])
     };
     let json = vec![
-        ("file", Json::from(name)),
-        (
-            "verdict",
-            Json::from(if failing.is_empty() { "holds" } else { "does not hold" }),
-        ),
+        ("file", Json::from(name.as_str())),
+        ("verdict", Json::from(if holds { "holds" } else { "does not hold" })),
         ("lines", Json::from(rows)),
         ("holding", Json::from(held)),
         ("failing", Json::list(failing.iter().map(line_json))),
     ];
-    let worst = failing.iter().map(|(.., outcome)| outcome.status).max().unwrap_or(0);
-    Ok(Report {
-        status: worst,
+    let mut text = String::new();
+    for (line, row, outcome) in &failing {
+        let (row, why) = (plain(row.trim()), plain(&outcome.why));
+        text.push_str(&format!("{name}:{line}: {row}\n  {why}\n"));
+    }
+    text.push_str(&format!("{name}: {}\n", summary(style, held, &failing)));
+    Report {
+        status: failing.iter().map(|(.., outcome)| outcome.status).max().unwrap_or(0),
         text,
         aside: String::new(),
         json,
-    })
+    }
+}
+
+/// How many lines came out how.
+fn summary(style: Style, held: usize, failing: &[(usize, &str, Outcome)]) -> String {
+    let rows = held + failing.len();
+    if rows == 0 {
+        return "has no line to recheck".to_string();
+    }
+    let with = |statuses: fn(u8) -> bool| {
+        let count = failing.iter().filter(|(.., outcome)| statuses(outcome.status)).count();
+        grouped(count as u64)
+    };
+    let status = if failing.is_empty() {
+        Status::Holds
+    } else {
+        Status::DoesNotHold
+    };
+    let holding = format!("{} of {} hold", grouped(held as u64), counted(rows as u64, "line"));
+    format!(
+        "{}; {} do not hold, {} refused, {} not readable",
+        style.paint(status, &holding),
+        with(|status| status == 1),
+        with(|status| status == 2),
+        with(|status| status > 2),
+    )
 }
 
 /// The progress bar, on a terminal only.
@@ -212,7 +230,7 @@ impl Progress {
         Progress {
             total,
             drawn: None,
-            terminal: io::stderr().is_terminal(),
+            terminal: io::stderr().is_terminal() && !is_plain_terminal(),
         }
     }
 

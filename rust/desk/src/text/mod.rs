@@ -8,7 +8,9 @@ pub mod vocabulary;
 use cursor::{Cursor, Fault};
 
 /// The most bytes of a text; no vocabulary or script needs as many.
-pub const TEXT_BYTES: usize = 4 << 20;
+pub const TEXT_BYTES: usize = 1 << 20;
+/// The greatest number of a record.
+const RECORDS: usize = 65_535;
 /// The deepest nesting of a term that is written out.
 const NESTING: usize = 16;
 /// The longest text of a term that is written out in another; a longer one is named by its record.
@@ -39,6 +41,9 @@ pub fn assemble(text: &str) -> Result<(Vec<u8>, bool), Fault> {
 
 /// Takes the record number that a line may begin with, which has to be its own.
 fn own_number(line: &mut Cursor, number: usize) -> Result<(), Fault> {
+    if number > RECORDS {
+        return Err(line.fault("this is one record too many; their numbers end at 65535"));
+    }
     if !line.peek().is_some_and(|next| next.is_ascii_digit()) {
         return Ok(());
     }
