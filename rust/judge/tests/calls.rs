@@ -1,0 +1,182 @@
+//! The calls through the wrapper: what they write, slices of every length, and the stored cases.
+
+#![allow(clippy::unwrap_used, clippy::indexing_slicing)]
+
+use judge::{Comparison, Refusal, Verdict, SURVIVOR_BYTES};
+use std::fmt::Write;
+
+/// Sample V of the paper: names 1, 2, 3; 4 = 1 and 2; 5: 4 within 3.
+const V: &[u8] = include_bytes!("../../../examples/v.vocabulary");
+
+#[test]
+fn sample_v_compares_as_the_paper_says() {
+    let mut survivors = [9; SURVIVOR_BYTES];
+    let expected = Comparison {
+        verdict: Verdict::Different { element: 4 },
+        survivors: 7,
+        rounds: 0,
+    };
+    assert_eq!(judge::compare(V, 4, 3, &mut survivors), Ok(expected));
+    assert_eq!((survivors[0], &survivors[1..]), (247, &[0; SURVIVOR_BYTES - 1][..]));
+}
+
+#[test]
+fn a_buffer_that_is_too_short_keeps_its_content() {
+    let pattern: Vec<u8> = (0..SURVIVOR_BYTES).map(|i| (i * 7 + 3) as u8).collect();
+    for length in 0..SURVIVOR_BYTES {
+        let mut buffer = pattern[..length].to_vec();
+        let refusal = judge::compare(V, 4, 3, &mut buffer).unwrap_err();
+        assert_eq!((refusal.rule.number(), refusal.place), (12, 0));
+        assert_eq!(buffer, pattern[..length]);
+    }
+}
+
+#[test]
+fn a_longer_buffer_keeps_the_bytes_after_the_survivors() {
+    for over in [0, 1, 7, 100, 4096] {
+        let mut buffer = vec![171; SURVIVOR_BYTES + over];
+        judge::compare(V, 4, 3, &mut buffer).unwrap();
+        assert_eq!(buffer[0], 247);
+        assert!(buffer[SURVIVOR_BYTES..].iter().all(|byte| *byte == 171));
+        // A refusal leaves the survivors of the call before.
+        judge::compare(V, 0, 3, &mut buffer).unwrap_err();
+        assert_eq!(buffer[0], 247);
+    }
+}
+
+#[test]
+fn a_record_is_a_part_of_the_vocabulary() {
+    for number in 0..6 {
+        let part = judge::record(V, number).unwrap();
+        assert_eq!(part.len(), 8);
+        assert_eq!(part.as_ptr(), V[8 * number as usize..].as_ptr());
+    }
+    assert_eq!(judge::record(V, 6).unwrap_err().place, 6);
+}
+
+#[test]
+fn slices_of_every_length_get_an_answer() {
+    let counting: Vec<u8> = (0..=80).collect();
+    let kinds: Vec<u8> = (0..81).map(|i| if i % 8 == 0 { i / 8 } else { 0 }).collect();
+    let mut answers = 0;
+    for source in [&[0; 81][..], &[255; 81], &counting, &kinds, &[V, V].concat()] {
+        for (start, length) in (0..16).flat_map(|start| (0..=64).map(move |length| (start, length))) {
+            let slice = &source[start..start + length];
+            let whole = length >= 8 && length % 8 == 0;
+            let vocabulary = judge::check_vocabulary(slice);
+            assert_eq!(vocabulary.is_err_and(|refusal| refusal.rule.number() == 1), !whole);
+            assert_eq!(judge::record(slice, 0).is_ok(), whole);
+            // The vocabulary's refusal comes first, whatever is asked.
+            let compared = judge::compare(slice, 1, 2, &mut [0; 512]).err();
+            assert!(vocabulary.is_ok() || compared == vocabulary.err());
+            let script = judge::check_script(V, slice).unwrap_err().rule.number();
+            assert_eq!(script == 13, length < 16 || length % 16 != 0);
+            assert!(judge::check_script(slice, slice).is_err());
+            answers += 1;
+        }
+    }
+    assert_eq!(answers, 5 * 16 * 65);
+}
+
+/// A file of stored cases that is read from its front.
+struct Cases<'a>(&'a [u8]);
+
+impl<'a> Cases<'a> {
+    fn take(&mut self, length: usize) -> &'a [u8] {
+        let (front, rest) = self.0.split_at(length);
+        self.0 = rest;
+        front
+    }
+
+    fn number(&mut self, bytes: usize) -> u32 {
+        let add = |sum, byte: &u8| sum << 8 | u32::from(*byte);
+        self.take(bytes).iter().rev().fold(0, add)
+    }
+}
+
+fn refused(refusal: Refusal) -> String {
+    format!("{} {}", refusal.rule.number(), refusal.place)
+}
+
+#[test]
+fn the_stored_vocabularies_are_answered_as_expected() {
+    let mut cases = Cases(include_bytes!("../../../crates/vectors/stdin"));
+    let expected = include_str!("../../../crates/vectors/stdout");
+    for line in expected.lines() {
+        let (length, number) = (cases.number(2) as usize, cases.number(4));
+        let vocabulary = cases.take(length);
+        let check = judge::check_vocabulary(vocabulary).map_or_else(refused, |count| format!("0 {count}"));
+        let record = judge::record(vocabulary, number).map_or_else(refused, |part| {
+            let offset = part.as_ptr() as usize - vocabulary.as_ptr() as usize;
+            part.iter()
+                .fold(format!("0 {offset}"), |line, byte| format!("{line} {byte}"))
+        });
+        assert_eq!(format!("{check} {record}"), line);
+    }
+    assert_eq!((cases.0.len(), expected.lines().count()), (0, 5_376));
+}
+
+#[test]
+fn the_stored_scripts_are_answered_as_expected() {
+    let mut cases = Cases(include_bytes!("../../../crates/verdicts/stdin"));
+    let expected = include_str!("../../../crates/verdicts/stdout");
+    for line in expected.lines() {
+        let (length, script_length) = (cases.number(2) as usize, cases.number(2) as usize);
+        let (vocabulary, script) = (cases.take(length), cases.take(script_length));
+        let answer = judge::check_script(vocabulary, script);
+        let answer = answer.map_or_else(
+            |refusal| format!("refused {}", refused(refusal)),
+            |steps| format!("accepted {steps}"),
+        );
+        assert_eq!(answer, line);
+    }
+    assert_eq!((cases.0.len(), expected.lines().count()), (0, 5_049));
+}
+
+/// The first 512 bytes in hexadecimal as far as the last that is not 0, or `-`.
+fn written(buffer: &[u8]) -> String {
+    let front = &buffer[..SURVIVOR_BYTES];
+    let end = front.iter().rposition(|byte| *byte != 0).map_or(0, |last| last + 1);
+    let mut text = String::new();
+    for byte in &front[..end] {
+        write!(text, "{byte:02x}").unwrap();
+    }
+    if text.is_empty() {
+        text.push('-');
+    }
+    text
+}
+
+/// The sum of the bytes, and the sum of the first sum after each.
+fn sums(buffer: &[u8]) -> String {
+    let (mut first, mut second) = (0u64, 0u64);
+    for byte in buffer {
+        first += u64::from(*byte);
+        second += first;
+    }
+    format!("{first} {second}")
+}
+
+#[test]
+fn the_stored_comparisons_are_answered_as_expected() {
+    let mut cases = Cases(include_bytes!("../../../crates/comparisons/stdin"));
+    let expected = include_str!("../../../crates/comparisons/stdout");
+    for line in expected.lines() {
+        let (length, a, b, lent) = (cases.number(2), cases.number(4), cases.number(4), cases.number(2));
+        let seed = cases.number(1);
+        let vocabulary = cases.take(length as usize);
+        let mut buffer: Vec<u8> = (0..lent).map(|i| (7 * i + seed) as u8).collect();
+        let answer = match judge::compare(vocabulary, a, b, &mut buffer) {
+            Err(refusal) => format!("refused {}", refused(refusal)),
+            Ok(answer) => {
+                let verdict = match answer.verdict {
+                    Verdict::Equal => "equal".to_string(),
+                    Verdict::Different { element } => format!("different {element}"),
+                };
+                format!("{verdict} {} {} {}", answer.survivors, answer.rounds, written(&buffer))
+            }
+        };
+        assert_eq!(format!("{answer} {}", sums(&buffer)), line);
+    }
+    assert_eq!((cases.0.len(), expected.lines().count()), (0, 4_996));
+}
