@@ -148,9 +148,10 @@ impl Vocabulary {
             .collect()
     }
 
-    /// Which records are statements on the chain. A link that leads back or to no statement ends it.
+    /// Which records are statements on the chain. A link that leads back or to no statement, or to one that has no form,
+    /// ends it.
     pub fn chained(&self) -> Vec<bool> {
-        let is_statement = |number| self.get(number).kind == STATEMENT_KIND;
+        let is_statement = |number| matches!(self.get(number).saying(), Some(Saying::Within(..)));
         crate::chain::followed(self.records.len(), self.get(0).a, is_statement, |number| {
             self.get(number).next
         })

@@ -3,6 +3,8 @@
 
 pub mod cursor;
 pub mod script;
+#[cfg(test)]
+mod tests;
 pub mod vocabulary;
 
 use cursor::{Cursor, Fault};

@@ -1,0 +1,352 @@
+//! The text forms: reading and writing undo each other, on stored cases and on texts that are damaged at random.
+
+#![allow(clippy::unwrap_used, clippy::indexing_slicing, clippy::panic)]
+
+use super::{assemble, cursor::Fault, script, vocabulary};
+use crate::script::read as read_script;
+use crate::vocabulary::Vocabulary;
+
+/// A file of stored cases that is read from its front.
+struct Cases<'a>(&'a [u8]);
+
+impl<'a> Cases<'a> {
+    fn take(&mut self, length: usize) -> &'a [u8] {
+        let (front, rest) = self.0.split_at(length);
+        self.0 = rest;
+        front
+    }
+
+    fn word(&mut self) -> usize {
+        let word = self.take(2);
+        usize::from(u16::from_le_bytes([word[0], word[1]]))
+    }
+}
+
+/// The vocabularies of crates/vectors, of whatever length.
+fn vocabularies() -> Vec<&'static [u8]> {
+    let mut cases = Cases(include_bytes!("../../../../crates/vectors/stdin"));
+    let mut all = Vec::new();
+    while !cases.0.is_empty() {
+        let length = cases.word();
+        cases.take(4);
+        all.push(cases.take(length));
+    }
+    all
+}
+
+/// The vocabularies and scripts of crates/verdicts, of whatever length.
+fn verdicts() -> Vec<(&'static [u8], &'static [u8])> {
+    let mut cases = Cases(include_bytes!("../../../../crates/verdicts/stdin"));
+    let mut all = Vec::new();
+    while !cases.0.is_empty() {
+        let (vocabulary, script) = (cases.word(), cases.word());
+        all.push((cases.take(vocabulary), cases.take(script)));
+    }
+    all
+}
+
+fn is_whole_vocabulary(bytes: &[u8]) -> bool {
+    (8..=judge::VOCABULARY_BYTES).contains(&bytes.len()) && bytes.len().is_multiple_of(8)
+}
+
+fn is_whole_script(bytes: &[u8]) -> bool {
+    !bytes.is_empty() && bytes.len().is_multiple_of(16)
+}
+
+fn show(bytes: &[u8], is_script: bool) -> String {
+    if is_script {
+        script::Written::new(read_script(bytes)).text()
+    } else {
+        vocabulary::Written::new(Vocabulary::read(bytes)).text()
+    }
+}
+
+/// Bytes, their text, the same bytes, the same text.
+fn round_trip(bytes: &[u8], is_script: bool) -> String {
+    let text = show(bytes, is_script);
+    let (again, kind) = assemble(&text).unwrap_or_else(|fault| panic!("{fault:?} in\n{text}"));
+    assert_eq!(kind, is_script);
+    assert!(again == bytes, "other bytes for\n{text}");
+    assert_eq!(show(&again, kind), text);
+    text
+}
+
+#[test]
+fn stored_vocabularies_come_back_from_their_texts() {
+    let (mut whole, mut accepted) = (0, 0);
+    for bytes in vocabularies().into_iter().filter(|bytes| is_whole_vocabulary(bytes)) {
+        let text = round_trip(bytes, false);
+        whole += 1;
+        if judge::check_vocabulary(bytes).is_ok() {
+            accepted += 1;
+            assert!(!text.contains("raw"), "{text}");
+        }
+    }
+    assert_eq!((vocabularies().len(), whole, accepted), (5_376, 4_859, 805));
+}
+
+#[test]
+fn stored_scripts_come_back_from_their_texts() {
+    let (mut whole, mut accepted) = (0, 0);
+    for (vocabulary, bytes) in verdicts().into_iter().filter(|(_, bytes)| is_whole_script(bytes)) {
+        let text = round_trip(bytes, true);
+        whole += 1;
+        if judge::check_script(vocabulary, bytes).is_ok() {
+            accepted += 1;
+            assert!(!text.contains("raw"), "{text}");
+        }
+        if is_whole_vocabulary(vocabulary) {
+            round_trip(vocabulary, false);
+        }
+    }
+    assert_eq!((verdicts().len(), whole, accepted), (5_049, 4_939, 488));
+}
+
+/// A seeded source of random numbers (xorshift).
+struct Random(u64);
+
+impl Random {
+    fn below(&mut self, bound: usize) -> usize {
+        self.0 ^= self.0 << 13;
+        self.0 ^= self.0 >> 7;
+        self.0 ^= self.0 << 17;
+        (self.0 >> 11) as usize % bound.max(1)
+    }
+
+    fn of<'a, T: ?Sized>(&mut self, all: &[&'a T]) -> &'a T {
+        all[self.below(all.len())]
+    }
+}
+
+#[test]
+fn records_of_random_bytes_come_back_from_their_texts() {
+    let mut random = Random(0x1d0c);
+    for case in 0..4_000 {
+        let mut bytes: Vec<u8> = (0..16 * (1 + random.below(12)))
+            .map(|_| random.below(12) as u8)
+            .collect();
+        // Mostly a header, so that links are followed; high and second bytes mostly 0, so that records have a form.
+        if case % 8 > 0 {
+            bytes[0] = if case % 2 == 0 { 16 } else { 32 };
+            bytes[1] = (case % 2 == 0).into();
+            for byte in bytes.iter_mut().skip(3).step_by(2) {
+                *byte = if random.below(20) == 0 { 1 } else { 0 };
+            }
+        }
+        round_trip(&bytes, false);
+        round_trip(&bytes, true);
+    }
+}
+
+/// Pieces that mutations put into a text.
+const PIECES: [&str; 46] = [
+    " ",
+    "\n",
+    "\r\n",
+    "\t",
+    "--",
+    "#",
+    "#0",
+    "#1",
+    "#65535",
+    "#65536",
+    "(",
+    ")",
+    ":",
+    "1:",
+    "0",
+    "01",
+    "65535",
+    "65536",
+    "18446744073709551616",
+    "-1",
+    "a",
+    "c1",
+    "r0",
+    "f1(a)",
+    "f1(",
+    "owl:Thing",
+    "owl:Nothing",
+    "SubClassOf(",
+    "ObjectComplementOf(",
+    "ObjectUnionOf(",
+    "ObjectSomeValuesFrom(r0 ",
+    "off ",
+    " next 3",
+    " next 0",
+    " first 2",
+    "raw ",
+    "raw 9 0 1 1 0\n",
+    "raw 3 0 0 0 0 0 0 0\n",
+    "start 0\n",
+    "reduce 1\n",
+    "extend owner 0 column 0 x a at 0\n",
+    " y a ",
+    "é",
+    "\u{a0}",
+    "\u{feff}",
+    "\0",
+];
+
+/// A text with a few random damages.
+fn mutated(random: &mut Random, text: &str, other: &str) -> String {
+    let mut text = text.to_string();
+    if random.below(4) > 0 {
+        // Without their numbers lines can move.
+        let lines: Vec<&str> = text.lines().map(|line| line.split(": ").last().unwrap()).collect();
+        text = lines.join("\n");
+    }
+    for _ in 0..=random.below(3) {
+        let place = |random: &mut Random, text: &str| {
+            let places: Vec<usize> = text.char_indices().map(|(at, _)| at).chain([text.len()]).collect();
+            places[random.below(places.len())]
+        };
+        let (a, b) = (place(random, &text), place(random, &text));
+        let (a, b) = (a.min(b), a.max(b));
+        let mut lines: Vec<&str> = text.lines().collect();
+        let line = random.below(lines.len());
+        text = match random.below(6) {
+            0 => text[..a].to_string() + random.of(&PIECES) + &text[a..],
+            1 if b - a < 12 => text[..a].to_string() + &text[b..],
+            2 => {
+                lines.insert(line, random.of(&other.lines().collect::<Vec<_>>()));
+                lines.join("\n")
+            }
+            3 if !lines.is_empty() => {
+                lines.remove(line);
+                lines.join("\n")
+            }
+            4 if !lines.is_empty() => {
+                let to = random.below(lines.len());
+                lines.swap(line, to);
+                lines.join("\r\n")
+            }
+            _ => text.replacen(random.of(&["0", "1", "2", "3", " ", "c", ")"]), random.of(&PIECES), 1),
+        };
+    }
+    text
+}
+
+#[test]
+fn damaged_texts_are_assembled_to_a_fixed_point_or_not_at_all() {
+    let short = |bytes: &&[u8]| bytes.len() <= 400;
+    let vocabularies = vocabularies().into_iter().filter(|bytes| is_whole_vocabulary(bytes));
+    let scripts = verdicts().into_iter().map(|(_, bytes)| bytes);
+    let mut texts: Vec<String> = vocabularies.filter(short).map(|bytes| show(bytes, false)).collect();
+    texts.extend(
+        scripts
+            .filter(|bytes| is_whole_script(bytes))
+            .filter(short)
+            .map(|bytes| show(bytes, true)),
+    );
+    let mut random = Random(0x5eed);
+    let mut assembled = 0;
+    for _ in 0..20_000 {
+        let (text, other) = (random.below(texts.len()), random.below(texts.len()));
+        let text = mutated(&mut random, &texts[text], &texts[other]);
+        let Ok((bytes, is_script)) = assemble(&text) else {
+            continue;
+        };
+        assembled += 1;
+        round_trip(&bytes, is_script);
+    }
+    assert_eq!(assembled, 1_799);
+}
+
+/// The fault of a text.
+fn fault(text: &str) -> (usize, usize, String) {
+    let Fault { line, column, message } = assemble(text).unwrap_err();
+    (line, column, message)
+}
+
+/// Texts with a fault: the text, the line and column of the fault, and what is said.
+const FAULTY: [(&str, usize, usize, &str); 15] = [
+    (
+        "",
+        1,
+        1,
+        "the text is empty; its first line begins with 'vocabulary' or 'script'",
+    ),
+    (
+        "\n-- no more\n",
+        1,
+        1,
+        "the text is empty; its first line begins with 'vocabulary' or 'script'",
+    ),
+    ("  terms", 1, 3, "a text begins with 'vocabulary' or 'script'"),
+    ("vocabulary", 1, 11, "'roles' is expected here"),
+    (
+        "vocabulary roles x",
+        1,
+        18,
+        "a number from 0 to 65535 is expected here, without leading zeros",
+    ),
+    ("vocabulary roles 0 1", 1, 20, "nothing more is expected on this line"),
+    ("vocabulary roles 0\n2: c1", 2, 1, "this line is record 1"),
+    (
+        "vocabulary roles 0\n\n é",
+        3,
+        2,
+        "a term (c1, owl:Thing, ObjectUnionOf(..), ..) or a statement (SubClassOf(..)) is expected here",
+    ),
+    (
+        "vocabulary roles 0\nc1\nObjectComplementOf(c2)",
+        3,
+        20,
+        "no earlier line says this term; give it a line of its own before, or name a record, as #7",
+    ),
+    (
+        "vocabulary roles 0\nc65536",
+        2,
+        2,
+        "a number from 0 to 65535 is expected here, without leading zeros",
+    ),
+    ("vocabulary roles 0\noff c1", 2, 5, "'SubClassOf' is expected here"),
+    (
+        "script #1 within 2",
+        1,
+        18,
+        "a term of the vocabulary, as #3, is expected here",
+    ),
+    (
+        "script #1 within #2\noff a",
+        2,
+        5,
+        "a step is expected here: start, extend or reduce",
+    ),
+    (
+        "script #1 within #2\na\nextend owner 1 column 0 x f1(a) at 0",
+        3,
+        27,
+        "no earlier line says this term; give it a line of its own before, or name a record, as #2",
+    ),
+    (
+        "script #1 within #2\nraw 1 2",
+        2,
+        8,
+        "a number from 0 to 65535 is expected here, without leading zeros",
+    ),
+];
+
+#[test]
+fn faults_are_said_with_line_and_column() {
+    for (text, line, column, message) in FAULTY {
+        assert_eq!(fault(text), (line, column, message.to_string()), "{text}");
+    }
+}
+
+#[test]
+fn line_ends_blanks_comments_and_own_numbers_do_not_count() {
+    let plain = "vocabulary roles 1\nc1\nObjectSomeValuesFrom(r0 c1)\nSubClassOf(c1 #2)\n";
+    let bytes = assemble(plain).unwrap();
+    for text in [
+        plain.replace('\n', "\r\n"),
+        plain.replace('\n', " -- said by the desk\n\n"),
+        format!("\n-- first\n\t{plain}"),
+        plain.replace('(', " ( ").replace(')', " ) "),
+        show(&bytes.0, false),
+        plain.trim_end().to_string(),
+    ] {
+        assert_eq!(assemble(&text).unwrap(), bytes, "{text}");
+    }
+}
