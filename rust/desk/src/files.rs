@@ -150,7 +150,7 @@ fn take(name: Name, source: &mut dyn Read, limit: usize, known: Option<u64>) -> 
     Ok(Input { name, bytes, length })
 }
 
-/// Reads a text; one that is no UTF-8 or has more than `limit` bytes is a failure. A byte order mark is no part of it.
+/// Reads a text; a file that is none or has more than `limit` bytes is a failure. A byte order mark is no part of it.
 pub fn read_text(path: &OsStr, limit: usize) -> Result<(Name, String), Failure> {
     let Input { name, bytes, .. } = read(path, limit)?;
     let failure = |why: String| Failure::new(NO_INPUT, format!("{}: {why}", name.as_str()));
@@ -159,6 +159,9 @@ pub fn read_text(path: &OsStr, limit: usize) -> Result<(Name, String), Failure> 
             "too large; a text has at most {} bytes",
             grouped(limit as u64)
         )));
+    }
+    if bytes.contains(&0) {
+        return Err(failure("is no text (it has bytes that are 0)".to_string()));
     }
     let text = String::from_utf8(bytes).map_err(|_| failure("is no text (not UTF-8)".to_string()))?;
     let text = match text.strip_prefix('\u{feff}') {

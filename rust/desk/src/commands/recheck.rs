@@ -4,7 +4,7 @@ use super::{read_script, read_vocabulary};
 use crate::arguments::{digits, Arguments};
 use crate::files::{self, Input, Name};
 use crate::json::Json;
-use crate::report::{counted, grouped, is_plain_terminal, plain, Failure, Report, Status, Style};
+use crate::report::{grouped, is_plain_terminal, plain, Failure, Report, Status, Style};
 use crate::script;
 use judge::{Refusal, Verdict};
 use std::ffi::{OsStr, OsString};
@@ -13,6 +13,8 @@ use std::path::{Path, PathBuf};
 
 /// The most bytes of a table.
 const TABLE_BYTES: usize = 256 << 20;
+/// The most characters of a line that are repeated in the report.
+const REPEATED: usize = 160;
 /// The width of the progress bar.
 const BAR: usize = 30;
 
@@ -53,6 +55,15 @@ fn directory(table: &OsStr) -> PathBuf {
 /// Whether a line of the table says something.
 fn is_row(line: &str) -> bool {
     !line.trim().is_empty() && !line.trim_start().starts_with("--")
+}
+
+/// A line or a word of the table as the report repeats it.
+fn repeated(text: &str) -> String {
+    let text = text.trim();
+    match text.char_indices().nth(REPEATED) {
+        Some((end, _)) => format!("{} ..", text.get(..end).unwrap_or_default()),
+        None => text.to_string(),
+    }
 }
 
 impl Outcome {
@@ -98,7 +109,7 @@ impl Checker {
         let [vocabulary, a, b, ref claim @ ..] = fields[..] else {
             return Outcome::malformed("a field is missing");
         };
-        let number = |word: &str| digits(word).ok_or_else(|| format!("'{word}' is no record number"));
+        let number = |word: &str| digits(word).ok_or_else(|| format!("'{}' is no record number", repeated(word)));
         let pair = match (number(a), number(b)) {
             (Ok(a), Ok(b)) => [a, b],
             (Err(why), _) | (_, Err(why)) => return Outcome::malformed(&why),
@@ -108,7 +119,10 @@ impl Checker {
             ["different"] => self.compare(vocabulary, pair, false),
             ["within", script] => self.verify(vocabulary, pair, script),
             [] => Ok(Outcome::malformed("the claim is missing")),
-            claim => Ok(Outcome::malformed(&format!("'{}' is no claim", claim.join(" ")))),
+            claim => Ok(Outcome::malformed(&format!(
+                "'{}' is no claim",
+                repeated(&claim.join(" "))
+            ))),
         };
         outcome.unwrap_or_else(|failure| Outcome {
             status: failure.status,
@@ -167,7 +181,7 @@ fn report(style: Style, name: &Name, rows: usize, failing: Vec<(usize, &str, Out
     let line_json = |(line, row, outcome): &(usize, &str, Outcome)| {
         Json::object([
             ("line", Json::from(*line)),
-            ("text", Json::from(row.trim())),
+            ("text", Json::from(repeated(row))),
             ("status", Json::from(u32::from(outcome.status))),
             ("why", Json::from(outcome.why.as_str())),
         ])
@@ -181,7 +195,7 @@ fn report(style: Style, name: &Name, rows: usize, failing: Vec<(usize, &str, Out
     ];
     let mut text = String::new();
     for (line, row, outcome) in &failing {
-        let (row, why) = (plain(row.trim()), plain(&outcome.why));
+        let (row, why) = (plain(&repeated(row)), plain(&outcome.why));
         text.push_str(&format!("{name}:{line}: {row}\n  {why}\n"));
     }
     text.push_str(&format!("{name}: {}\n", summary(style, held, &failing)));
@@ -208,7 +222,7 @@ fn summary(style: Style, held: usize, failing: &[(usize, &str, Outcome)]) -> Str
     } else {
         Status::DoesNotHold
     };
-    let holding = format!("{} of {} hold", grouped(held as u64), counted(rows as u64, "line"));
+    let holding = format!("{} of {} lines hold", grouped(held as u64), grouped(rows as u64));
     format!(
         "{}; {} do not hold, {} refused, {} not readable",
         style.paint(status, &holding),

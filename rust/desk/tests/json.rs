@@ -1,0 +1,227 @@
+//! What `--json` writes is JSON: one object on one line, with the same status as the command exits with. Checked on the
+//! transcript tests/desk.expected and on damaged inputs.
+
+#![allow(clippy::unwrap_used, clippy::indexing_slicing)]
+
+use std::collections::BTreeMap;
+use std::path::PathBuf;
+use std::process::Command;
+
+/// A value, as far as the tests look at it.
+#[derive(Debug, PartialEq)]
+enum Value {
+    Null,
+    Truth(bool),
+    Number(u64),
+    Text(String),
+    List(Vec<Value>),
+    Object(BTreeMap<String, Value>),
+}
+
+/// A strict reader: no blanks outside strings, whole numbers only, no field twice.
+struct Reader<'a>(&'a str);
+
+impl Reader<'_> {
+    fn take(&mut self, wanted: &str) -> Option<()> {
+        self.0 = self.0.strip_prefix(wanted)?;
+        Some(())
+    }
+
+    fn value(&mut self) -> Option<Value> {
+        match self.0.chars().next()? {
+            '{' => self.object(),
+            '[' => self.list(),
+            '"' => self.text().map(Value::Text),
+            't' => self.take("true").map(|()| Value::Truth(true)),
+            'f' => self.take("false").map(|()| Value::Truth(false)),
+            'n' => self.take("null").map(|()| Value::Null),
+            _ => self.number(),
+        }
+    }
+
+    fn number(&mut self) -> Option<Value> {
+        let end = self.0.find(|c: char| !c.is_ascii_digit()).unwrap_or(self.0.len());
+        let (digits, rest) = self.0.split_at(end);
+        self.0 = rest;
+        let plain = digits == "0" || !digits.starts_with('0');
+        digits.parse().ok().filter(|_| plain).map(Value::Number)
+    }
+
+    fn text(&mut self) -> Option<String> {
+        self.take("\"")?;
+        let mut text = String::new();
+        loop {
+            let next = self.0.chars().next()?;
+            self.0 = &self.0[next.len_utf8()..];
+            match next {
+                '"' => return Some(text),
+                '\\' => text.push(self.escaped()?),
+                control if control < ' ' => return None,
+                plain => text.push(plain),
+            }
+        }
+    }
+
+    fn escaped(&mut self) -> Option<char> {
+        let kind = self.0.chars().next()?;
+        self.0 = &self.0[kind.len_utf8()..];
+        if kind != 'u' {
+            return ['"', '\\'].contains(&kind).then_some(kind);
+        }
+        let (digits, rest) = self.0.split_at_checked(4)?;
+        self.0 = rest;
+        char::from_u32(u32::from_str_radix(digits, 16).ok()?)
+    }
+
+    fn list(&mut self) -> Option<Value> {
+        let mut items = Vec::new();
+        self.take("[")?;
+        while self.take("]").is_none() {
+            if !items.is_empty() {
+                self.take(",")?;
+            }
+            items.push(self.value()?);
+        }
+        Some(Value::List(items))
+    }
+
+    fn object(&mut self) -> Option<Value> {
+        let mut fields = BTreeMap::new();
+        self.take("{")?;
+        while self.take("}").is_none() {
+            if !fields.is_empty() {
+                self.take(",")?;
+            }
+            let name = self.text()?;
+            self.take(":")?;
+            let value = self.value()?;
+            if fields.insert(name, value).is_some() {
+                return None;
+            }
+        }
+        Some(Value::Object(fields))
+    }
+}
+
+/// The fields of a line that is one object and nothing more.
+fn fields(line: &str) -> Option<BTreeMap<String, Value>> {
+    let mut reader = Reader(line);
+    match reader.value()? {
+        Value::Object(fields) if reader.0.is_empty() => Some(fields),
+        _ => None,
+    }
+}
+
+/// Whether a line has what every answer has: the command, the status and a verdict.
+fn is_answer(line: &str, status: u64) -> bool {
+    fields(line).is_some_and(|fields| {
+        let text = |name| matches!(fields.get(name), Some(Value::Text(text)) if !text.is_empty());
+        text("command") && text("verdict") && fields.get("status") == Some(&Value::Number(status))
+    })
+}
+
+#[test]
+fn the_reader_knows_what_is_json() {
+    for good in [
+        "{}",
+        r#"{"a":[1,0,"\"\\\u001b",null,true,false,{}],"b":[]}"#,
+        r#"{"é":"é"}"#,
+    ] {
+        assert!(fields(good).is_some(), "{good}");
+    }
+    for bad in [
+        "",
+        "[]",
+        "{",
+        "{}{}",
+        "{\"a\"}",
+        "{\"a\":}",
+        "{\"a\":01}",
+        "{\"a\":1,}",
+        "{\"a\":[1,]}",
+        "{\"a\":\"\n\"}",
+        "{\"a\":\"\\x\"}",
+        "{\"a\":1,\"a\":1}",
+        "{\"a\":nul}",
+        "{\"a\":\"\\u00\"}",
+        "{\"a\":-1}",
+        "{,}",
+    ] {
+        assert!(fields(bad).is_none(), "{bad}");
+    }
+}
+
+#[test]
+fn the_transcript_has_json_where_it_was_asked_for() {
+    let transcript = include_str!("../../../tests/desk.expected");
+    let (mut asked, mut found) = (false, 0);
+    let mut last = "";
+    for line in transcript.lines() {
+        if let Some(command) = line.strip_prefix("$ ") {
+            asked = command.contains("--json") && !command.contains("-- --json") && !command.contains("/dev/full");
+            last = "";
+        } else if let Some(status) = line.strip_prefix("exit ") {
+            assert_eq!(asked, last.starts_with('{'), "{last}");
+            if asked {
+                found += 1;
+                assert!(is_answer(last, status.parse().unwrap()), "{last}");
+            }
+        } else if !line.is_empty() {
+            last = line;
+        }
+    }
+    assert!(found >= 27, "{found}");
+}
+
+/// Runs desk with --json on a file of these bytes, and answers whether it said JSON with its own exit status.
+fn says_json(name: &str, bytes: &[u8], before: &[&str], after: &[&str]) -> bool {
+    let path = PathBuf::from(env!("CARGO_TARGET_TMPDIR")).join(name);
+    std::fs::write(&path, bytes).unwrap();
+    let mut command = Command::new(env!("CARGO_BIN_EXE_desk"));
+    let output = command
+        .args(before)
+        .arg(&path)
+        .args(after)
+        .arg("--json")
+        .output()
+        .unwrap();
+    let text = String::from_utf8(output.stdout).unwrap();
+    let status = output.status.code().unwrap();
+    output.stderr.is_empty() && text.ends_with('\n') && is_answer(text.trim_end(), status.try_into().unwrap())
+}
+
+#[test]
+fn damaged_inputs_get_json_and_never_a_panic() {
+    let vocabulary = include_bytes!("../../../examples/v.vocabulary");
+    let script = include_bytes!("../../../examples/four-within-three.script");
+    let path = concat!(env!("CARGO_MANIFEST_DIR"), "/../../examples/v.vocabulary");
+    let mut seed = 0x2545_f491_u32;
+    for case in 0..150 {
+        let mut random = |bound: usize| {
+            seed = seed.wrapping_mul(1_664_525).wrapping_add(1_013_904_223);
+            (seed >> 8) as usize % bound
+        };
+        let mut bytes = if case % 2 == 0 {
+            vocabulary.to_vec()
+        } else {
+            script.to_vec()
+        };
+        for _ in 0..random(4) {
+            let at = random(bytes.len());
+            bytes[at] = random(256) as u8;
+        }
+        if random(8) == 0 {
+            bytes.truncate(random(bytes.len()));
+        }
+        let number = random(9).to_string();
+        let name = format!("damaged \"{case}\"\n\u{1b}é");
+        assert!(says_json(&name, &bytes, &["check"], &[]));
+        assert!(says_json(&name, &bytes, &["show"], &[]));
+        assert!(says_json(&name, &bytes, &["record"], &[&number]));
+        assert!(says_json(&name, &bytes, &["compare"], &[&number, "3"]));
+        assert!(says_json(&name, &bytes, &["verify", path], &[]));
+        assert!(says_json(&name, &bytes, &["recheck"], &[]));
+        assert!(says_json(&name, &bytes, &["assemble", "-o", "/dev/null"], &[]));
+        std::fs::remove_file(PathBuf::from(env!("CARGO_TARGET_TMPDIR")).join(name)).unwrap();
+    }
+}
