@@ -213,8 +213,13 @@ pub fn write(path: &OsStr, bytes: &[u8], input: &OsStr) -> Result<(), Failure> {
     })
 }
 
-/// Whether two paths are known to lead to one file.
-fn is_same(a: &Path, b: &Path) -> bool {
-    let [a, b] = [a, b].map(|path| path.canonicalize().ok());
-    a.is_some() && a == b
+/// Whether an output is known to be the file that an input is.
+fn is_same(output: &Path, input: &Path) -> bool {
+    let input = if input.as_os_str() == "-" {
+        Path::new("/dev/stdin")
+    } else {
+        input
+    };
+    let [a, b] = [output, input].map(|path| path.canonicalize().ok());
+    output.is_file() && a.is_some() && a == b
 }

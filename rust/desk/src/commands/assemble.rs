@@ -7,6 +7,7 @@ use crate::json::Json;
 use crate::report::{counted, Failure, Report, Status, Style, USAGE};
 use crate::text::cursor::Fault;
 use crate::text::{self, TEXT_BYTES};
+use judge::{Place, Refusal};
 
 /// The options.
 pub const FLAGS: &[Flag] = &[
@@ -37,7 +38,7 @@ pub fn run(arguments: &Arguments, style: Style) -> Result<Report, Failure> {
         judge::check_vocabulary(&bytes).err()
     };
     if let Some(refusal) = refusal.filter(|_| !arguments.has("--force")) {
-        return Ok(Report::refused(style, &name, Length::of(&bytes), refusal));
+        return Ok(refused(style, &name, &text, &bytes, refusal));
     }
     files::write(output, &bytes, path)?;
     let output = Name::new(output);
@@ -55,6 +56,18 @@ pub fn run(arguments: &Arguments, style: Style) -> Result<Report, Failure> {
         ("records", Json::from(records)),
     ];
     Ok(Report::new(Status::Holds, text, json))
+}
+
+/// The refusal of what a text stands for, with the line of the record where it has one.
+fn refused(style: Style, name: &Name, text: &str, bytes: &[u8], refusal: Refusal) -> Report {
+    let mut report = Report::refused(style, name, Length::of(bytes), refusal);
+    let is_of_record = refusal.rule.place() == Place::Record;
+    let line = text::line_of(text, refusal.place as usize).filter(|_| is_of_record);
+    if let Some(line) = line {
+        report.text = format!("{}; this is line {line}\n", report.text.trim_end());
+        report.json.push(("line", Json::from(line)));
+    }
+    report
 }
 
 fn faulty(style: Style, name: &Name, fault: &Fault) -> Report {

@@ -41,6 +41,11 @@ impl<'a> Cursor<'a> {
         }
     }
 
+    /// The number of the line, from 1.
+    pub fn line_number(&self) -> usize {
+        self.number
+    }
+
     /// Whether nothing is left.
     pub fn at_end(&self) -> bool {
         self.rest.is_empty()

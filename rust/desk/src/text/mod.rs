@@ -20,11 +20,7 @@ const WRITTEN_OUT: usize = 60;
 
 /// The bytes that a text stands for, and whether they are a script's.
 pub fn assemble(text: &str) -> Result<(Vec<u8>, bool), Fault> {
-    let mut lines = text
-        .lines()
-        .enumerate()
-        .map(|(i, line)| Cursor::new(i + 1, line))
-        .filter(|line| !line.at_end());
+    let mut lines = lines(text);
     let Some(mut header) = lines.next() else {
         return Err(Fault::at(
             1,
@@ -39,6 +35,17 @@ pub fn assemble(text: &str) -> Result<(Vec<u8>, bool), Fault> {
         return Ok((script::read(header, lines)?, true));
     }
     Err(header.fault("a text begins with 'vocabulary' or 'script'"))
+}
+
+/// The lines that say something, one for each record.
+fn lines(text: &str) -> impl Iterator<Item = Cursor<'_>> {
+    let all = text.lines().enumerate().map(|(i, line)| Cursor::new(i + 1, line));
+    all.filter(|line| !line.at_end())
+}
+
+/// The number of the line that says a record.
+pub fn line_of(text: &str, record: usize) -> Option<usize> {
+    lines(text).nth(record).map(|line| line.line_number())
 }
 
 /// Takes the record number that a line may begin with, which has to be its own.
