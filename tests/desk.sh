@@ -1,6 +1,7 @@
 #!/bin/sh
 # Tests the command `desk` as people call it. tests/desk.expected is a transcript: each line that begins with '$ ' is run
 # in a new directory, in order, and what it prints (both streams) and its exit status have to be what stands below it.
+# The examples of docs/DESK.md (indented lines) are run in the same way, over examples/.
 # On machines with `script`, what a terminal gets is tested, too: colours and the progress bar.
 # usage: desk.sh [DESK]           tests DESK (default: target/cargo/release/desk)
 #        desk.sh --write [DESK]   makes the transcript again; read the difference before you keep it
@@ -50,6 +51,20 @@ if $write; then
 fi
 diff "$root/tests/desk.expected" "$work/made" || { echo "desk does not say what tests/desk.expected has" >&2; exit 1; }
 cases=$(grep -c '^\$ ' "$work/made")
+
+# The examples of docs/DESK.md; the last of its indented lines are a table.
+mkdir "$work/samples"
+cp "$EXAMPLES"/*.vocabulary "$EXAMPLES"/*.script "$work/samples"
+sed -n 's/^    //p' "$root/docs/DESK.md" > "$work/indented"
+sed -n '/^-- /,$p' "$work/indented" > "$work/samples/filed.table"
+sed '/^-- /,$d' "$work/indented" > "$work/documented"
+desk show "$EXAMPLES/v.vocabulary" > "$work/samples/v.text"
+grep '^\$ ' "$work/documented" > "$work/commands"
+while IFS= read -r line; do
+    printf '%s\n' "$line"
+    (cd "$work/samples" && eval "${line#??}") 2>&1 < /dev/null || true
+done < "$work/commands" > "$work/made"
+diff "$work/documented" "$work/made" || { echo "desk does not say what docs/DESK.md has" >&2; exit 1; }
 
 # A file that may not be read; root may read any.
 cd "$work/files"
