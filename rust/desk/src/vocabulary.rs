@@ -1,5 +1,8 @@
 //! Vocabularies as records, for display: which are accepted is the library's to say.
 
+#[cfg(test)]
+mod tests;
+
 /// What a record of a kind that the paper knows says. Numbers are those of records, but for labels and roles.
 #[derive(Clone, Copy, Debug, PartialEq, Eq)]
 pub enum Saying {

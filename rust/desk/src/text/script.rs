@@ -8,6 +8,7 @@ use crate::script::{bytes, chained, Entry, Extension, Words, HEADER_WORD};
 /// A script with the text of each term record.
 pub struct Written {
     records: Vec<Words>,
+    chained: Vec<bool>,
     terms: Vec<String>,
 }
 
@@ -15,6 +16,7 @@ impl Written {
     /// Writes out the terms of a script, whether it is accepted or not.
     pub fn new(records: Vec<Words>) -> Written {
         let mut written = Written {
+            chained: chained(&records),
             records,
             terms: Vec::new(),
         };
@@ -89,7 +91,7 @@ impl Written {
         let [HEADER_WORD, a, b, first, 0, 0, 0, 0] = words else {
             return format!("script {}", raw(words));
         };
-        let first = link_words("first", first, default_link(&chained(&self.records), 0));
+        let first = link_words("first", first, default_link(&self.chained, 0));
         format!("script #{a} within #{b}{first}")
     }
 
@@ -103,9 +105,9 @@ impl Written {
         if !entry.is_step() {
             return text;
         }
-        let chained = chained(&self.records);
-        if chained.get(number) == Some(&true) {
-            return format!("{text}{}", link_words("next", next, default_link(&chained, number)));
+        if self.chained.get(number) == Some(&true) {
+            let link = link_words("next", next, default_link(&self.chained, number));
+            return format!("{text}{link}");
         }
         format!("off {text}{}", link_words("next", next, 0))
     }

@@ -12,6 +12,7 @@ const EDITION: u8 = 1;
 /// A vocabulary with the text of each record as an operand.
 pub struct Written {
     vocabulary: Vocabulary,
+    chained: Vec<bool>,
     operands: Vec<String>,
 }
 
@@ -19,6 +20,7 @@ impl Written {
     /// Writes out the terms of a vocabulary, whether it is accepted or not.
     pub fn new(vocabulary: Vocabulary) -> Written {
         let mut written = Written {
+            chained: vocabulary.chained(),
             vocabulary,
             operands: Vec::new(),
         };
@@ -81,7 +83,7 @@ impl Written {
         if (header.kind, header.second, header.next) != (HEADER_KIND, EDITION, 0) {
             return format!("vocabulary {}", raw(header));
         }
-        let first = link_words("first", header.a, default_link(&self.vocabulary.chained(), 0));
+        let first = link_words("first", header.a, default_link(&self.chained, 0));
         format!("vocabulary roles {}{first}", header.b)
     }
 
@@ -94,12 +96,9 @@ impl Written {
         if record.kind != STATEMENT_KIND {
             return text;
         }
-        let chained = self.vocabulary.chained();
-        if chained.get(number) == Some(&true) {
-            return format!(
-                "{text}{}",
-                link_words("next", record.next, default_link(&chained, number))
-            );
+        if self.chained.get(number) == Some(&true) {
+            let link = link_words("next", record.next, default_link(&self.chained, number));
+            return format!("{text}{link}");
         }
         format!("off {text}{}", link_words("next", record.next, 0))
     }

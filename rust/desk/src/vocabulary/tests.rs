@@ -1,0 +1,70 @@
+//! What `compare` explains, on the stored comparisons: the truth of terms at an element.
+
+#![allow(clippy::unwrap_used, clippy::indexing_slicing)]
+
+use super::{Saying, Vocabulary};
+use judge::Verdict;
+
+/// A stored comparison: the vocabulary, A and B.
+type Case = (&'static [u8], u32, u32);
+
+/// The cases of crates/comparisons.
+fn cases() -> Vec<Case> {
+    let mut rest: &[u8] = include_bytes!("../../../../crates/comparisons/stdin");
+    let mut cases = Vec::new();
+    while let [l0, l1, a0, a1, a2, a3, b0, b1, b2, b3, _, _, _, after @ ..] = rest {
+        let (vocabulary, after) = after.split_at(u16::from_le_bytes([*l0, *l1]).into());
+        let a = u32::from_le_bytes([*a0, *a1, *a2, *a3]);
+        let b = u32::from_le_bytes([*b0, *b1, *b2, *b3]);
+        cases.push((vocabulary, a, b));
+        rest = after;
+    }
+    cases
+}
+
+#[test]
+fn the_element_belongs_to_just_one_term_and_is_the_first_that_does() {
+    let (mut different, mut elements) = (0, 0);
+    for (bytes, a, b) in cases() {
+        let mut survivors = [0; judge::SURVIVOR_BYTES];
+        let Ok(answer) = judge::compare(bytes, a, b, &mut survivors) else {
+            continue;
+        };
+        let vocabulary = Vocabulary::read(bytes);
+        let chained = vocabulary.chained();
+        let mut first = None;
+        let survives = |element: &u16| survivors[usize::from(element / 8)] >> (element % 8) & 1 == 1;
+        // Each survivor of a small vocabulary, and the first of a large one.
+        for element in (0..4096).filter(survives).take(256) {
+            let truths = vocabulary.truths(element);
+            elements += 1;
+            assert!(truths.iter().zip(&chained).all(|(truth, on)| *truth || !on));
+            if first.is_none() && truths[a as usize] != truths[b as usize] {
+                first = Some(element);
+            }
+        }
+        match answer.verdict {
+            Verdict::Equal => assert_eq!(first, None),
+            Verdict::Different { element } => {
+                different += 1;
+                let truths = vocabulary.truths(element);
+                assert_ne!(truths[a as usize], truths[b as usize]);
+                assert!(first.is_none_or(|first| first == element));
+            }
+        }
+    }
+    assert_eq!((cases().len(), different, elements), (4_996, 2_346, 89_169));
+}
+
+#[test]
+fn records_with_a_form_come_back_from_what_they_say() {
+    for (bytes, ..) in cases() {
+        for (_, record) in Vocabulary::read(bytes).numbered() {
+            assert_eq!(super::Record::read(&record.bytes()), record);
+            if let Some(saying) = record.saying() {
+                assert_eq!(saying.record(record.next), record);
+                assert_eq!(matches!(saying, Saying::Within(..)), !record.is_term());
+            }
+        }
+    }
+}
