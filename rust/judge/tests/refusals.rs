@@ -164,6 +164,9 @@ fn places_are_of_the_sort_that_the_table_gives() {
 #[ignore = "until include/judge.h has judge_sentence"]
 fn the_header_has_the_same_sentences() {
     let header = include_str!("../../../include/judge.h");
+    // A sentence may be written in pieces on several lines.
+    let header: String = header.lines().map(str::trim).collect();
+    let header = header.replace("\"\"", "");
     for number in 1..=25 {
         let sentence = format!("\"{}\"", Rule::of(number).words());
         assert!(header.contains(&sentence), "{number}: {sentence}");

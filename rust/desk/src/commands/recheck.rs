@@ -2,9 +2,9 @@
 
 use super::{read_script, read_vocabulary};
 use crate::arguments::{digits, Arguments};
-use crate::files::{self, Input, Name};
+use crate::files::{self, Input, Length, Name};
 use crate::json::Json;
-use crate::report::{grouped, is_plain_terminal, plain, Failure, Report, Status, Style};
+use crate::report::{grouped, is_plain_terminal, plain, refusal_words, Failure, Report, Status, Style};
 use crate::script;
 use judge::{Refusal, Verdict};
 use std::ffi::{OsStr, OsString};
@@ -83,13 +83,14 @@ impl Outcome {
         Outcome::new(Status::Refused, why)
     }
 
-    fn refused(refusal: Refusal) -> Outcome {
+    /// The refusal of an input of this length.
+    fn refused(refusal: Refusal, length: Length) -> Outcome {
         let status = if refusal.rule.is_of_chain() {
             Status::DoesNotHold
         } else {
             Status::Refused
         };
-        Outcome::new(status, refusal.to_string())
+        Outcome::new(status, refusal_words(refusal, length))
     }
 }
 
@@ -139,19 +140,20 @@ impl Checker {
         path.into_os_string()
     }
 
-    fn vocabulary(&mut self, file: &str) -> Result<&[u8], Failure> {
+    fn vocabulary(&mut self, file: &str) -> Result<&Input, Failure> {
         let kept = self.vocabulary.take().filter(|(name, _)| name == file);
         let input = match kept {
             Some((_, input)) => input,
             None => read_vocabulary(&self.path(file))?,
         };
-        Ok(&self.vocabulary.insert((file.to_string(), input)).1.bytes)
+        Ok(&self.vocabulary.insert((file.to_string(), input)).1)
     }
 
     fn compare(&mut self, file: &str, [a, b]: [u32; 2], equal: bool) -> Result<Outcome, Failure> {
-        let answer = judge::compare(self.vocabulary(file)?, a, b, &mut [0; judge::SURVIVOR_BYTES]);
+        let vocabulary = self.vocabulary(file)?;
+        let answer = judge::compare(&vocabulary.bytes, a, b, &mut [0; judge::SURVIVOR_BYTES]);
         Ok(match answer.map(|answer| answer.verdict) {
-            Err(refusal) => Outcome::refused(refusal),
+            Err(refusal) => Outcome::refused(refusal, vocabulary.length),
             Ok(Verdict::Equal) if !equal => Outcome::new(Status::DoesNotHold, "the terms are equal"),
             Ok(Verdict::Different { element }) if equal => Outcome::new(
                 Status::DoesNotHold,
@@ -164,8 +166,10 @@ impl Checker {
     fn verify(&mut self, file: &str, [a, b]: [u32; 2], script: &str) -> Result<Outcome, Failure> {
         let script = read_script(&self.path(script))?;
         let [_, asked_a, asked_b, ..] = script::read(&script.bytes).first().copied().unwrap_or_default();
-        Ok(match judge::check_script(self.vocabulary(file)?, &script.bytes) {
-            Err(refusal) => Outcome::refused(refusal),
+        let vocabulary = self.vocabulary(file)?;
+        Ok(match judge::check_script(&vocabulary.bytes, &script.bytes) {
+            Err(refusal) if refusal.rule.number() <= 8 => Outcome::refused(refusal, vocabulary.length),
+            Err(refusal) => Outcome::refused(refusal, script.length),
             Ok(_) if [asked_a, asked_b].map(u32::from) != [a, b] => {
                 let why = format!("the script proves that term {asked_a} lies within term {asked_b}");
                 Outcome::new(Status::DoesNotHold, why)
