@@ -39,8 +39,8 @@ for example in relief vertebrate cat-owner; do
     cmp "$example/proof.script" "$OLDPWD/examples/$example/proof.script"
 done
 run 0 desk show relief/terms.vocabulary
-run 0 desk compare relief/terms.vocabulary 11 12
-run 1 desk compare relief/terms.vocabulary 11 14
+run 0 desk compare relief/terms.vocabulary 11 12 --words relief/terms.text
+run 1 desk compare relief/terms.vocabulary 11 14 --words relief/terms.text
 run 0 desk compare vertebrate/terms.vocabulary 4 12
 run 0 desk compare cat-owner/terms.vocabulary 3 9
 run 0 desk verify cat-owner/terms.vocabulary cat-owner/proof.script --trace

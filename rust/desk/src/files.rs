@@ -190,16 +190,16 @@ fn quoted_if_empty(name: &str) -> &str {
     }
 }
 
-/// Writes a file, replacing what was there, but never `input`, of which the bytes were made.
-pub fn write(path: &OsStr, bytes: &[u8], input: &OsStr) -> Result<(), Failure> {
+/// Writes a file, replacing what was there, but never one of the inputs.
+pub fn write(path: &OsStr, bytes: &[u8], inputs: &[&OsStr]) -> Result<(), Failure> {
     let name = path.to_string_lossy();
     if path == "-" {
         return Err(Failure::new(USAGE, "'-' is no file to write to"));
     }
-    if is_same(Path::new(path), Path::new(input)) {
+    if inputs.iter().any(|input| is_same(Path::new(path), Path::new(input))) {
         return Err(Failure::new(
             NO_OUTPUT,
-            format!("{name}: is the input, and stays as it is"),
+            format!("{name}: is an input, and stays as it is"),
         ));
     }
     std::fs::write(Path::new(path), bytes).map_err(|error| {

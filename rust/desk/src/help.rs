@@ -62,12 +62,13 @@ exit status: 0 printed, 2 refused (1: length, 9: past the end)
     (
         "compare",
         "\
-usage: desk compare VOCABULARY A B [--survivors FILE] [--json]
+usage: desk compare VOCABULARY A B [--words TEXT] [--survivors FILE] [--json]
 
 Whether the terms of records A and B are equal in every finite interpretation that satisfies the statements. If they
 are different, an element tells them apart: the names and restrictions that hold at it are listed, and which of the
 two terms it belongs to.
 
+  --words TEXT       the text of the vocabulary, whose comments say what each record is called
   --survivors FILE   writes the 512 bytes that describe the interpretation: bit t mod 8 of byte t div 8 is 1 for a
                      survivor t (nothing is written where the input is refused)
 
@@ -77,7 +78,7 @@ exit status: 0 equal, 1 different, 2 refused
     (
         "verify",
         "\
-usage: desk verify VOCABULARY SCRIPT [--trace] [--json]
+usage: desk verify VOCABULARY SCRIPT [--trace] [--words TEXT] [--json]
 
 Whether the script proves that its first term lies within its second, over the vocabulary: accepted with the number of
 its steps, or the refusal.
@@ -85,6 +86,7 @@ its steps, or the refusal.
   --trace   prints each step with the goal, the column that it uses with the terms put in, and the open frames after
             it: a frame's goal first, then its other open literals; '>' marks the last frame, whose goal is the next.
             A refused step is the last, with the reason. A script refused by 1 to 19 has no trace.
+  --words TEXT   the text of the vocabulary, whose comments say what each record is called
 
 exit status: 0 accepted, 1 the script keeps the form but its chain is no derivation (20 to 25), 2 refused input
 ",

@@ -144,11 +144,9 @@ impl Vocabulary {
     }
 
     /// The numbers of the atoms, in record order.
-    pub fn atoms(&self) -> Vec<usize> {
-        self.numbered()
-            .filter(|(_, record)| record.is_atom())
-            .map(|(number, _)| number)
-            .collect()
+    pub fn atoms(&self) -> Vec<u16> {
+        let atoms = self.numbered().filter(|(_, record)| record.is_atom());
+        atoms.filter_map(|(number, _)| u16::try_from(number).ok()).collect()
     }
 
     /// Which records are statements on the chain. A link that leads back or to no statement, or to one that has no form,

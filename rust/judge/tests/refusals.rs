@@ -161,7 +161,6 @@ fn places_are_of_the_sort_that_the_table_gives() {
 
 /// include/judge.h answers the same sentence for each number.
 #[test]
-#[ignore = "until include/judge.h has judge_sentence"]
 fn the_header_has_the_same_sentences() {
     let header = include_str!("../../../include/judge.h");
     // A sentence may be written in pieces on several lines.

@@ -40,7 +40,7 @@ pub fn run(arguments: &Arguments, style: Style) -> Result<Report, Failure> {
     if let Some(refusal) = refusal.filter(|_| !arguments.has("--force")) {
         return Ok(refused(style, &name, &text, &bytes, refusal));
     }
-    files::write(output, &bytes, path)?;
+    files::write(output, &bytes, &[path])?;
     let output = Name::new(output);
     let (kind, size) = if is_script {
         ("script", judge::SCRIPT_RECORD_BYTES)

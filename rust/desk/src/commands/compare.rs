@@ -1,17 +1,17 @@
 //! `desk compare`.
 
-use super::{read_vocabulary, JSON};
+use super::{read_vocabulary, written, JSON, WORDS};
 use crate::arguments::{number, Arguments, Flag};
 use crate::files::{self, Input};
 use crate::json::Json;
 use crate::report::{counted, Failure, Report, Status, Style, DEFECT};
 use crate::text::vocabulary::Written;
-use crate::vocabulary::Vocabulary;
 use judge::{Comparison, Verdict};
 
 /// The options.
 pub const FLAGS: &[Flag] = &[
     JSON,
+    WORDS,
     Flag {
         name: "--survivors",
         valued: true,
@@ -31,14 +31,15 @@ pub fn run(arguments: &Arguments, style: Style) -> Result<Report, Failure> {
         Err(refusal) => return Ok(Report::refused(style, &input.name, input.length, refusal)),
         Ok(answer) => answer,
     };
+    let written = written(&input, arguments)?;
     if let Some(path) = arguments.value("--survivors") {
-        files::write(path, &survivors, input_path)?;
+        let words = arguments.value(WORDS.name).unwrap_or(input_path);
+        files::write(path, &survivors, &[input_path, words])?;
     }
-    report(style, &input, pair, answer)
+    report(style, &input, &written, pair, answer)
 }
 
-fn report(style: Style, input: &Input, pair: Pair, answer: Comparison) -> Result<Report, Failure> {
-    let written = Written::new(Vocabulary::read(&input.bytes));
+fn report(style: Style, input: &Input, written: &Written, pair: Pair, answer: Comparison) -> Result<Report, Failure> {
     let [a, b] = pair.map(|number| written.term_json(number as u16));
     let mut json = vec![
         ("file", Json::from(input.name.as_str())),
@@ -52,14 +53,14 @@ fn report(style: Style, input: &Input, pair: Pair, answer: Comparison) -> Result
         Verdict::Different { .. } => (Status::DoesNotHold, "different"),
     };
     json.push(("verdict", Json::from(word)));
-    let mut text = format!("{}: {}; ", input.name, style.paint(status, word)) + &heading(&written, pair, answer);
+    let mut text = format!("{}: {}; ", input.name, style.paint(status, word)) + &heading(written, pair, answer);
     match answer.verdict {
         Verdict::Equal if answer.survivors == 0 => {
             text.push_str("no interpretation satisfies the statements, so all terms are equal\n");
         }
         Verdict::Equal => {}
         Verdict::Different { element } => {
-            let explained = Explained::new(&written, element);
+            let explained = Explained::new(written, element);
             let in_a = explained.is_in_first(pair)?;
             json.push(("element", explained.json(if in_a { "a" } else { "b" })));
             text.push_str(&explained.text(if in_a { ["A", "B"] } else { ["B", "A"] }));
@@ -77,30 +78,29 @@ fn heading(written: &Written, pair: Pair, answer: Comparison) -> String {
 }
 
 /// An element, by the atoms that hold at it.
-struct Explained {
+struct Explained<'a> {
+    written: &'a Written,
     element: u16,
     truths: Vec<bool>,
-    /// Names and restrictions, with whether each holds.
-    atoms: Vec<(String, bool)>,
 }
 
-impl Explained {
-    fn new(written: &Written, element: u16) -> Explained {
-        let truths = written.vocabulary().truths(element);
-        let atoms = written.vocabulary().atoms().into_iter().map(|number| {
-            let text = written.expression(number).unwrap_or_default();
-            (text, truths.get(number) == Some(&true))
-        });
+impl Explained<'_> {
+    fn new(written: &Written, element: u16) -> Explained<'_> {
         Explained {
+            written,
             element,
-            atoms: atoms.collect(),
-            truths,
+            truths: written.vocabulary().truths(element),
         }
+    }
+
+    /// Whether it belongs to a term.
+    fn is_in(&self, number: usize) -> bool {
+        self.truths.get(number) == Some(&true)
     }
 
     /// Whether it belongs to the first of two terms, of which it belongs to just one.
     fn is_in_first(&self, pair: Pair) -> Result<bool, Failure> {
-        let [in_a, in_b] = pair.map(|number| self.truths.get(number as usize) == Some(&true));
+        let [in_a, in_b] = pair.map(|number| self.is_in(number as usize));
         if in_a == in_b {
             let message = "the element belongs to both terms or to none, against what is proved";
             return Err(Failure::new(DEFECT, message));
@@ -108,22 +108,19 @@ impl Explained {
         Ok(in_a)
     }
 
-    /// The atoms that hold, or those that do not.
-    fn those(&self, hold: bool) -> Vec<&str> {
-        self.atoms
-            .iter()
-            .filter(|(_, holds)| *holds == hold)
-            .map(|(text, _)| text.as_str())
-            .collect()
+    /// The names and restrictions that hold, or those that do not.
+    fn those(&self, hold: bool) -> Vec<u16> {
+        let atoms = self.written.vocabulary().atoms().into_iter();
+        atoms.filter(|atom| self.is_in(usize::from(*atom)) == hold).collect()
     }
 
     fn text(&self, [with, without]: [&str; 2]) -> String {
-        let listed = |atoms: Vec<&str>| {
+        let listed = |atoms: Vec<u16>| {
             if atoms.is_empty() {
-                "nothing".to_string()
-            } else {
-                atoms.join(", ")
+                return "nothing".to_string();
             }
+            let atoms: Vec<String> = atoms.into_iter().map(|atom| self.written.called(atom)).collect();
+            atoms.join(", ")
         };
         format!(
             "element {} belongs to {with} and not to {without}\n  at it holds: {}\n  does not hold: {}\n",
@@ -134,11 +131,12 @@ impl Explained {
     }
 
     fn json(&self, belongs: &str) -> Json {
+        let listed = |atoms: Vec<u16>| Json::list(atoms.into_iter().map(|atom| self.written.term_json(atom)));
         Json::object([
             ("number", Json::from(self.element)),
             ("belongs", Json::from(belongs)),
-            ("holds", Json::list(self.those(true))),
-            ("does_not_hold", Json::list(self.those(false))),
+            ("holds", listed(self.those(true))),
+            ("does_not_hold", listed(self.those(false))),
         ])
     }
 }

@@ -10,7 +10,10 @@ mod verify;
 
 use crate::arguments::{Arguments, Flag};
 use crate::files::{self, Input};
-use crate::report::{Failure, Report, Style};
+use crate::report::{Failure, Report, Status, Style};
+use crate::text;
+use crate::text::vocabulary::Written;
+use crate::vocabulary::Vocabulary;
 use judge::{Refusal, Rule};
 use std::ffi::{OsStr, OsString};
 
@@ -36,6 +39,28 @@ const JSON: Flag = Flag {
     name: "--json",
     valued: false,
 };
+
+/// The option of commands that name terms.
+const WORDS: Flag = Flag {
+    name: "--words",
+    valued: true,
+};
+
+/// A vocabulary written out, with the words of its text where one is given by --words.
+fn written(input: &Input, arguments: &Arguments) -> Result<Written, Failure> {
+    let written = Written::new(Vocabulary::read(&input.bytes));
+    let Some(path) = arguments.value(WORDS.name) else {
+        return Ok(written);
+    };
+    let (name, text) = files::read_text(path, text::TEXT_BYTES)?;
+    match text::assemble(&text) {
+        Ok((bytes, false)) if bytes == input.bytes => Ok(written.with_words(text::comments(&text))),
+        _ => {
+            let message = format!("{}: is not the text of {}", name.as_str(), input.name.as_str());
+            Err(Failure::new(Status::Refused as u8, message))
+        }
+    }
+}
 
 /// Reads a vocabulary; one that is too long is read so far that the library refuses it.
 fn read_vocabulary(path: &OsStr) -> Result<Input, Failure> {

@@ -1,6 +1,6 @@
 //! `desk verify`.
 
-use super::{read_script, read_vocabulary, JSON};
+use super::{read_script, read_vocabulary, written, JSON, WORDS};
 use crate::arguments::{Arguments, Flag};
 use crate::files::Input;
 use crate::json::Json;
@@ -8,11 +8,11 @@ use crate::report::{counted, Failure, Report, Status, Style};
 use crate::script;
 use crate::text::vocabulary::Written;
 use crate::trace;
-use crate::vocabulary::Vocabulary;
 
 /// The options.
 pub const FLAGS: &[Flag] = &[
     JSON,
+    WORDS,
     Flag {
         name: "--trace",
         valued: false,
@@ -23,9 +23,10 @@ pub fn run(arguments: &Arguments, style: Style) -> Result<Report, Failure> {
     let [vocabulary, script] = arguments.words(["VOCABULARY", "SCRIPT"])?;
     let vocabulary = read_vocabulary(vocabulary)?;
     let script = read_script(script)?;
+    let written = written(&vocabulary, arguments)?;
     let verdict = judge::check_script(&vocabulary.bytes, &script.bytes);
     let mut report = match verdict {
-        Ok(steps) => accepted(style, &vocabulary, &script, steps),
+        Ok(steps) => accepted(style, &written, &script, steps),
         Err(refusal) if refusal.rule.number() <= 8 => {
             Report::refused(style, &vocabulary.name, vocabulary.length, refusal)
         }
@@ -40,9 +41,8 @@ pub fn run(arguments: &Arguments, style: Style) -> Result<Report, Failure> {
     Ok(report)
 }
 
-fn accepted(style: Style, vocabulary: &Input, script: &Input, steps: u32) -> Report {
+fn accepted(style: Style, written: &Written, script: &Input, steps: u32) -> Report {
     let [_, a, b, ..] = script::read(&script.bytes).first().copied().unwrap_or_default();
-    let written = Written::new(Vocabulary::read(&vocabulary.bytes));
     let text = format!(
         "{}: {}, {}\n  {}\n  lies within {}\n",
         script.name,

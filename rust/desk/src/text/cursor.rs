@@ -28,17 +28,24 @@ pub struct Cursor<'a> {
     number: usize,
     line: &'a str,
     rest: &'a str,
+    comment: &'a str,
 }
 
 impl<'a> Cursor<'a> {
     /// The start of a line, of which a comment is no part. A comment begins with `--`.
     pub fn new(number: usize, line: &'a str) -> Cursor<'a> {
-        let line = line.split("--").next().unwrap_or_default();
+        let (line, comment) = line.split_once("--").unwrap_or((line, ""));
         Cursor {
             number,
             line,
             rest: line.trim(),
+            comment: comment.trim(),
         }
+    }
+
+    /// The comment at the end of the line; empty where there is none.
+    pub fn comment(&self) -> &'a str {
+        self.comment
     }
 
     /// The number of the line, from 1.

@@ -48,6 +48,11 @@ pub fn line_of(text: &str, record: usize) -> Option<usize> {
     lines(text).nth(record).map(|line| line.line_number())
 }
 
+/// The comment on the line of each record; empty where there is none.
+pub fn comments(text: &str) -> Vec<String> {
+    lines(text).map(|line| line.comment().to_string()).collect()
+}
+
 /// Takes the record number that a line may begin with, which has to be its own.
 fn own_number(line: &mut Cursor, number: usize) -> Result<(), Fault> {
     if number > RECORDS {

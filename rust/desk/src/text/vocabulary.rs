@@ -4,6 +4,7 @@ use super::cursor::{Cursor, Fault};
 use super::{link_words, links, own_number, Linked, NESTING, WRITTEN_OUT};
 use crate::chain::default_link;
 use crate::json::Json;
+use crate::report::plain;
 use crate::vocabulary::{Record, Saying, Vocabulary, HEADER_KIND, STATEMENT_KIND};
 
 /// The second byte of the header.
@@ -14,6 +15,8 @@ pub struct Written {
     vocabulary: Vocabulary,
     chained: Vec<bool>,
     operands: Vec<String>,
+    /// What people call each record, as far as it is known.
+    words: Vec<String>,
 }
 
 impl Written {
@@ -23,12 +26,18 @@ impl Written {
             chained: vocabulary.chained(),
             vocabulary,
             operands: Vec::new(),
+            words: Vec::new(),
         };
         for number in 0..written.vocabulary.records.len() {
             let text = written.operand_text(number).unwrap_or_else(|| format!("#{number}"));
             written.operands.push(text);
         }
         written
+    }
+
+    /// The same with what people call each record.
+    pub fn with_words(self, words: Vec<String>) -> Written {
+        Written { words, ..self }
     }
 
     /// The vocabulary.
@@ -45,16 +54,33 @@ impl Written {
         self.expression(number).filter(|text| text.len() <= WRITTEN_OUT)
     }
 
-    /// A term with its number, for explanations.
-    pub fn term(&self, number: u16) -> String {
+    /// What people call a record.
+    fn words(&self, number: u16) -> Option<&str> {
+        let words = self.words.get(usize::from(number)).map(String::as_str);
+        words.filter(|words| !words.is_empty())
+    }
+
+    /// A term, and what people call it.
+    pub fn called(&self, number: u16) -> String {
         let text = self.expression(usize::from(number)).unwrap_or_default();
-        format!("term {number}, {text}")
+        match self.words(number) {
+            Some(words) => format!("{text} ({})", plain(words)),
+            None => text,
+        }
+    }
+
+    /// The same with its number.
+    pub fn term(&self, number: u16) -> String {
+        format!("term {number}, {}", self.called(number))
     }
 
     /// The same for programs.
     pub fn term_json(&self, number: u16) -> Json {
-        let text = self.expression(usize::from(number));
-        Json::object([("record", Json::from(number)), ("text", Json::from(text))])
+        Json::object([
+            ("record", Json::from(number)),
+            ("text", Json::from(self.expression(usize::from(number)))),
+            ("words", Json::from(self.words(number))),
+        ])
     }
 
     /// What a record says, in OWL 2 functional syntax; nothing for a record that has no form.
