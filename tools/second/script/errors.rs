@@ -4,15 +4,15 @@
 use crate::comparison::atoms;
 use crate::decode::Record;
 use crate::script::chain::{complements, run, run_steps, Frame, Goal, Machine};
-use crate::script::columns::{mentions, Argument};
+use crate::script::columns::{mentions, Argument, Predicate};
 use crate::script::form::{
     self, check_form, check_header, check_query, check_records, is_repeat, may_follow, unused,
 };
 use crate::script::records::{
-    chain, is_step, Script, Term, COLUMN, EXTENSION, FIRST, FRAME, KIND, NEXT, OWNER, REDUCTION,
-    TERM, Y,
+    chain, is_step, Script, Term, COLUMN, EXTENSION, FIRST, FRAME, FUNCTION, INNER, KIND, NEXT,
+    OWNER, REDUCTION, TERM, Y,
 };
-use crate::script::rules::Rules;
+use crate::script::rules::{Paper, Rules};
 use crate::vocabulary::{refuse_if, Refusal};
 
 /// Wrong checks: for each its name, what it is called, and the rule that it replaces.
@@ -34,6 +34,35 @@ const TESTED: usize = 3;
 fn same_atom(script: &Script, l: &Goal, m: &Goal) -> bool {
     let same = |(s, t): (&Term, &Term)| script.written_out(*s) == script.written_out(*t);
     l.predicate == m.predicate && l.arguments.iter().zip(&m.arguments).all(same)
+}
+
+/// Whether a term has a record of its own, at any place of the script.
+fn has_record(script: &Script, term: Term) -> bool {
+    let Term::Applied { function, inner } = term else {
+        return true;
+    };
+    let mut terms = script.records.iter().filter(|r| r[KIND] == TERM);
+    terms.any(|r| [r[FUNCTION], r[INNER]] == [function, inner])
+}
+
+/// How many of two terms have no record.
+fn unrecorded(script: &Script, s: Term, t: Term) -> usize {
+    [s, t]
+        .into_iter()
+        .filter(|term| !has_record(script, *term))
+        .count()
+}
+
+/// Whether two terms are functions of the same term.
+fn same_inner(script: &Script, s: Term, t: Term) -> bool {
+    let [s, t] = [s, t].map(|term| script.written_out(term));
+    !s.is_empty() && !t.is_empty() && s[1..] == t[1..]
+}
+
+/// Whether one of two terms is a function of the other.
+fn one_inside(script: &Script, s: Term, t: Term) -> bool {
+    let [s, t] = [s, t].map(|term| script.written_out(term));
+    s.get(1..) == Some(&t[..]) || t.get(1..) == Some(&s[..])
 }
 
 /// Rows 15 to 18 that apply anywhere, the smallest number first.
@@ -122,6 +151,53 @@ wrong! {
     "terms not compared" AnyTerm {
         fn same_term(&self, _: &Script, _: Term, _: Term) -> bool {
             true
+        }
+    }
+    "two terms without a record: function not compared" UnrecordedFunctions {
+        fn same_term(&self, script: &Script, s: Term, t: Term) -> bool {
+            let wrong = unrecorded(script, s, t) == 2 && same_inner(script, s, t);
+            wrong || Paper.same_term(script, s, t)
+        }
+    }
+    "two terms without a record: not compared" UnrecordedTerms {
+        fn same_term(&self, script: &Script, s: Term, t: Term) -> bool {
+            unrecorded(script, s, t) == 2 || Paper.same_term(script, s, t)
+        }
+    }
+    "a term without a record and one with: function not compared" UnrecordedFunction {
+        fn same_term(&self, script: &Script, s: Term, t: Term) -> bool {
+            let wrong = unrecorded(script, s, t) == 1 && same_inner(script, s, t);
+            wrong || Paper.same_term(script, s, t)
+        }
+    }
+    "a term without a record: inner term not compared" UnrecordedInner {
+        fn same_term(&self, script: &Script, s: Term, t: Term) -> bool {
+            let wrong = unrecorded(script, s, t) > 0 && FunctionAlone.same_term(script, s, t);
+            wrong || Paper.same_term(script, s, t)
+        }
+    }
+    "a term without a record taken as its inner term" UnrecordedAsInner {
+        fn same_term(&self, script: &Script, s: Term, t: Term) -> bool {
+            let wrong = unrecorded(script, s, t) == 1 && one_inside(script, s, t);
+            wrong || Paper.same_term(script, s, t)
+        }
+    }
+    "a term without a record: not compared" AnyUnrecorded {
+        fn same_term(&self, script: &Script, s: Term, t: Term) -> bool {
+            unrecorded(script, s, t) > 0 || Paper.same_term(script, s, t)
+        }
+    }
+    "a term without a record: not compared in roles" AnyUnrecordedRole {
+        fn connection(&self, script: &Script, column: &[Goal], at: usize, goal: &Goal) -> Option<usize> {
+            match goal.predicate {
+                Predicate::Role(_) => AnyUnrecorded.connection(script, column, at, goal),
+                Predicate::Member(_) => Paper.connection(script, column, at, goal),
+            }
+        }
+    }
+    "a term without a record: not compared in reductions" AnyUnrecordedReduced {
+        fn reduces(&self, script: &Script, frame: &Frame, goal: &Goal) -> bool {
+            AnyUnrecorded.reduces(script, frame, goal)
         }
     }
     "a role's second term not compared" FirstTerm {

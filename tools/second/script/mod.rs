@@ -20,6 +20,7 @@ mod samples;
 mod steps;
 mod table;
 mod towers;
+mod unrecorded;
 mod walks;
 mod writer;
 

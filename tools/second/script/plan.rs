@@ -33,7 +33,8 @@ pub struct Plan {
     pub random: Random,
 }
 
-/// All cases. With a seed of its own a run leaves out the samples, which are the same in every run.
+/// All cases. With a seed of its own a run leaves out the samples and the terms without a record, which
+/// are the same in every run.
 pub fn all(seed: Seed) -> Vec<Planned> {
     let mut plan = Plan {
         cases: Vec::new(),
@@ -50,6 +51,9 @@ pub fn all(seed: Seed) -> Vec<Planned> {
     plan.walks();
     plan.high_towers();
     plan.long();
+    if seed.is_none() {
+        plan.unrecorded();
+    }
     plan.cases
 }
 
