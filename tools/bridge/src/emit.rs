@@ -1,0 +1,206 @@
+//! The reasoners' input: OWL 2 functional syntax for Konclude, a TBox of LISP-like forms for FaCT++.
+//!
+//! Each compound term is a named class, defined once, so that the text stays linear in the records.
+
+use std::collections::BTreeSet;
+use std::fmt::Write;
+
+use crate::vocabulary::{Record, Vocabulary};
+use Record::{AllTo, And, Bottom, Name, Not, Or, SomeTo, Statement, Top};
+
+/// A reasoner's language.
+#[derive(Clone, Copy, Debug, PartialEq, Eq)]
+pub enum Language {
+    /// OWL 2 functional syntax.
+    Konclude,
+    /// The forms that the FaCT++ program reads.
+    Fact,
+}
+
+use Language::{Fact, Konclude};
+
+/// What the names of the functional syntax begin with.
+pub const PREFIX: &str = "http://vocabulary.example/#";
+
+/// The chained statements, the terms that they and the query need, and a class Q of the elements that are in just one of
+/// `a` and `b`: the two are equal exactly when Q is not satisfiable.
+pub fn query(language: Language, vocabulary: &Vocabulary, a: u16, b: u16) -> String {
+    let mut roots = vec![a, b];
+    roots.extend(vocabulary.statements().into_iter().flat_map(|(a, b)| [a, b]));
+    let terms = needed(vocabulary, &roots);
+    let question = definition(language, "Q", &apart(language, a, b));
+    document(language, vocabulary, &terms, &question)
+}
+
+/// The chained statements and all terms as named classes, for a classification.
+pub fn table(language: Language, vocabulary: &Vocabulary) -> String {
+    document(language, vocabulary, &vocabulary.terms().into_iter().collect(), "")
+}
+
+/// The options that FaCT++ takes: the TBox's file, and the class to ask about; without one it classifies.
+pub fn fact_options(tbox: &str, target: Option<&str>) -> String {
+    let target = target.map_or_else(String::new, |target| format!("Target = {target}\n"));
+    format!("[LeveLogger]\nfile = reasoning.log\nallowedLevel = 0\n[Tuning]\n[Query]\nTBox = {tbox}\n{target}")
+}
+
+/// The terms that the roots are made of, themselves included.
+fn needed(vocabulary: &Vocabulary, roots: &[u16]) -> BTreeSet<u16> {
+    let mut found: BTreeSet<u16> = roots.iter().copied().collect();
+    let mut left = roots.to_vec();
+    while let Some(number) = left.pop() {
+        let parts = vocabulary.record(number).map_or_else(Vec::new, Record::parts);
+        left.extend(parts.into_iter().filter(|part| found.insert(*part)));
+    }
+    found
+}
+
+fn document(language: Language, vocabulary: &Vocabulary, terms: &BTreeSet<u16>, question: &str) -> String {
+    let mut text = String::new();
+    let records: Vec<(u16, Record)> = vocabulary
+        .records()
+        .filter(|(number, _)| terms.contains(number))
+        .collect();
+    for (number, record) in &records {
+        if language == Konclude || matches!(record, Name(_)) {
+            text += &declaration(language, &class(language, *number));
+        }
+    }
+    text += &roles(language, &records);
+    for (number, record) in &records {
+        if let Some(meaning) = expression(language, *record) {
+            text += &definition(language, &format!("T{number}"), &meaning);
+        }
+    }
+    for (a, b) in vocabulary.statements() {
+        text += &inclusion(language, &class(language, a), &class(language, b));
+    }
+    framed(language, &(text + question))
+}
+
+/// What stands around a document.
+fn framed(language: Language, text: &str) -> String {
+    match language {
+        Fact => text.to_owned(),
+        Konclude => format!(
+            "Prefix(:=<{PREFIX}>)\nPrefix(owl:=<http://www.w3.org/2002/07/owl#>)\nOntology(<http://vocabulary.example/>\n{text})\n"
+        ),
+    }
+}
+
+fn class(language: Language, number: u16) -> String {
+    match language {
+        Konclude => format!(":T{number}"),
+        Fact => format!("T{number}"),
+    }
+}
+
+fn role(language: Language, number: u16) -> String {
+    match language {
+        Konclude => format!(":R{number}"),
+        Fact => format!("R{number}"),
+    }
+}
+
+fn declaration(language: Language, class: &str) -> String {
+    match language {
+        Konclude => format!("Declaration(Class({class}))\n"),
+        Fact => format!("(defprimconcept {class})\n"),
+    }
+}
+
+/// The declarations of the roles that the records use.
+fn roles(language: Language, records: &[(u16, Record)]) -> String {
+    let used: BTreeSet<u16> = records
+        .iter()
+        .filter_map(|(_, record)| match record {
+            SomeTo(role, _) | AllTo(role, _) => Some(*role),
+            _ => None,
+        })
+        .collect();
+    let mut text = String::new();
+    for number in used {
+        let role = role(language, number);
+        let _ = match language {
+            Konclude => writeln!(text, "Declaration(ObjectProperty({role}))"),
+            Fact => writeln!(text, "(defprimrole {role})"),
+        };
+    }
+    text
+}
+
+fn definition(language: Language, name: &str, meaning: &str) -> String {
+    match language {
+        Konclude if name == "Q" => format!("Declaration(Class(:Q))\nEquivalentClasses(:Q {meaning})\n"),
+        Konclude => format!("EquivalentClasses(:{name} {meaning})\n"),
+        Fact => format!("(equal_c {name} {meaning})\n"),
+    }
+}
+
+fn inclusion(language: Language, a: &str, b: &str) -> String {
+    match language {
+        Konclude => format!("SubClassOf({a} {b})\n"),
+        Fact => format!("(implies_c {a} {b})\n"),
+    }
+}
+
+/// What a term is made of; nothing for a name, which is primitive, and for a statement.
+fn expression(language: Language, record: Record) -> Option<String> {
+    let (top, bottom, some, all) = match language {
+        Konclude => (
+            "owl:Thing",
+            "owl:Nothing",
+            "ObjectSomeValuesFrom",
+            "ObjectAllValuesFrom",
+        ),
+        Fact => ("*TOP*", "*BOTTOM*", "some", "all"),
+    };
+    let class = |number| class(language, number);
+    let role = |number| role(language, number);
+    Some(match record {
+        Top => top.to_owned(),
+        Bottom => bottom.to_owned(),
+        Not(a) => not(language, &class(a)),
+        And(a, b) => joined(language, true, class(a), class(b)),
+        Or(a, b) => joined(language, false, class(a), class(b)),
+        SomeTo(r, b) => form(language, some, &[&role(r), &class(b)]),
+        AllTo(r, b) => form(language, all, &[&role(r), &class(b)]),
+        Name(_) | Statement(..) => return None,
+    })
+}
+
+fn not(language: Language, a: &str) -> String {
+    match language {
+        Konclude => form(language, "ObjectComplementOf", &[a]),
+        Fact => form(language, "not", &[a]),
+    }
+}
+
+/// The conjunction or disjunction of two; functional syntax has none of one class with itself.
+fn joined(language: Language, both: bool, a: String, b: String) -> String {
+    let word = match (language, both) {
+        (Konclude, true) => "ObjectIntersectionOf",
+        (Konclude, false) => "ObjectUnionOf",
+        (Fact, true) => "and",
+        (Fact, false) => "or",
+    };
+    if a == b {
+        a
+    } else {
+        form(language, word, &[&a, &b])
+    }
+}
+
+fn form(language: Language, word: &str, parts: &[&str]) -> String {
+    match language {
+        Konclude => format!("{word}({})", parts.join(" ")),
+        Fact => format!("({word} {})", parts.join(" ")),
+    }
+}
+
+/// The elements that are in just one of the two.
+fn apart(language: Language, a: u16, b: u16) -> String {
+    let (a, b) = (class(language, a), class(language, b));
+    let one_way = joined(language, true, a.clone(), not(language, &b));
+    let other_way = joined(language, true, b, not(language, &a));
+    joined(language, false, one_way, other_way)
+}

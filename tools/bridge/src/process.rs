@@ -1,0 +1,49 @@
+//! A process with a time limit, its output and its wall time.
+
+use std::io::Read;
+use std::process::Command;
+use std::sync::mpsc;
+use std::thread;
+use std::time::{Duration, Instant};
+
+use crate::failure::Failure;
+
+/// What a process did.
+pub struct Run {
+    /// What it wrote to standard output and standard error; empty where it was ended.
+    pub text: String,
+    /// From its start to its end, or to the time limit.
+    pub time: Duration,
+    /// Its exit status, if it ended by itself.
+    pub status: Option<i32>,
+    /// Whether it was ended at the time limit.
+    pub ended: bool,
+}
+
+/// Runs a command; past the limit it is killed. Its output's end is waited for, since a process cannot be waited for
+/// with a limit; the program must not leave its output to others.
+pub fn run(mut command: Command, limit: Duration) -> Result<Run, Failure> {
+    let failed = |error| Failure::process(&error);
+    let (mut reader, writer) = std::io::pipe().map_err(failed)?;
+    command.stdout(writer.try_clone().map_err(failed)?).stderr(writer);
+    let begin = Instant::now();
+    let mut child = command.spawn().map_err(failed)?;
+    drop(command); // its ends of the pipe
+    let (sender, receiver) = mpsc::channel();
+    thread::spawn(move || {
+        let mut bytes = Vec::new();
+        let _ = reader.read_to_end(&mut bytes);
+        let _ = sender.send(bytes);
+    });
+    let output = receiver.recv_timeout(limit).ok();
+    if output.is_none() {
+        child.kill().map_err(failed)?;
+    }
+    let status = child.wait().map_err(failed)?;
+    Ok(Run {
+        time: begin.elapsed(),
+        status: status.code(),
+        ended: output.is_none(),
+        text: String::from_utf8_lossy(&output.unwrap_or_default()).into_owned(),
+    })
+}

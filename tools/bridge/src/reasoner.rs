@@ -1,0 +1,194 @@
+//! The reasoners' programs: their files, their commands and their answers.
+
+use std::fs;
+use std::path::Path;
+use std::process::{Command, Stdio};
+
+use crate::arguments::Arguments;
+use crate::emit::{self, Language};
+use crate::failure::Failure;
+use crate::process::Run;
+use crate::question::Question;
+use crate::vocabulary::Vocabulary;
+use Language::{Fact, Konclude};
+
+/// A reasoner's program.
+pub struct Reasoner {
+    /// The language it reads.
+    pub language: Language,
+    program: String,
+}
+
+/// What a reasoner says of two terms.
+#[derive(Clone, Copy, Debug, PartialEq, Eq)]
+pub enum Reply {
+    /// They are equal: the class Q is not satisfiable, or the whole is inconsistent.
+    Equal,
+    /// They are not.
+    Different,
+    /// Nothing, within the time limit or at all.
+    NoAnswer,
+}
+
+impl Reasoner {
+    /// The reasoner of a language, where its program can be started.
+    fn find(language: Language, path: Option<&str>) -> Result<Reasoner, Failure> {
+        let (usual, package) = match language {
+            Konclude => ("Konclude", "konclude"),
+            Fact => ("FaCT++", "fact++"),
+        };
+        let program = path.unwrap_or(usual).to_owned();
+        let started = Command::new(&program)
+            .arg("-h")
+            .stdout(Stdio::null())
+            .stderr(Stdio::null())
+            .status();
+        match started {
+            Ok(_) => Ok(Reasoner { language, program }),
+            Err(error) => Err(Failure::missing(format!(
+                "the reasoner {program} cannot be started ({error}); the Debian package {package} has it"
+            ))),
+        }
+    }
+
+    /// Both reasoners, where the options or the search path have them.
+    pub fn both(arguments: &Arguments) -> Result<Vec<Reasoner>, Failure> {
+        Ok(vec![
+            Reasoner::find(Fact, arguments.text("fact"))?,
+            Reasoner::find(Konclude, arguments.text("konclude"))?,
+        ])
+    }
+
+    /// Its name.
+    pub fn name(&self) -> &'static str {
+        match self.language {
+            Konclude => "Konclude",
+            Fact => "FaCT++",
+        }
+    }
+
+    /// The command that asks whether the two terms are equal. It runs where its files are, since FaCT++ writes others.
+    pub fn query(&self, stem: &Path) -> Command {
+        let mut command = self.command(stem);
+        match self.language {
+            Konclude => command
+                .args(["satisfiability", "-w", "2", "-x", &format!("{}Q", emit::PREFIX), "-i"])
+                .arg(named(stem, "ofn")),
+            Fact => command.arg(named(stem, "options")),
+        };
+        command
+    }
+
+    /// The command that classifies.
+    pub fn classify(&self, stem: &Path) -> Command {
+        let mut command = self.command(stem);
+        match self.language {
+            Konclude => command
+                .args(["classification", "-w", "2", "-i"])
+                .arg(named(stem, "ofn"))
+                .arg("-o")
+                .arg(named(stem, "classes")),
+            Fact => command.arg(named(stem, "options")),
+        };
+        command
+    }
+
+    fn command(&self, stem: &Path) -> Command {
+        let mut command = Command::new(&self.program);
+        command
+            .current_dir(stem.parent().unwrap_or(Path::new(".")))
+            .stdin(Stdio::null());
+        command
+    }
+
+    /// What a query's output says. An inconsistent whole makes all terms equal, and neither reasoner goes on then.
+    pub fn reply(&self, run: &Run) -> Reply {
+        let (different, equal, inconsistent) = match self.language {
+            Konclude => ("answered with 'Yes'", "answered with 'No'", "is inconsistent"),
+            Fact => (
+                "concept is satisfiable",
+                "concept is unsatisfiable",
+                "KB is inconsistent",
+            ),
+        };
+        if run.text.contains(inconsistent) || run.text.contains(equal) {
+            Reply::Equal
+        } else if run.text.contains(different) {
+            Reply::Different
+        } else {
+            Reply::NoAnswer
+        }
+    }
+
+    /// The classes that a classification found equal, in groups of term numbers; empty where it found none.
+    pub fn groups(&self, stem: &Path) -> Result<Vec<Vec<u16>>, Failure> {
+        let directory = stem.parent().unwrap_or(Path::new("."));
+        Ok(match self.language {
+            // A line begins with its class, or with all that are equal in parentheses: ("T3"="T7") {..
+            Fact => {
+                let text = read(&directory.join("Taxonomy.log"))?;
+                let heads = text.lines().filter_map(|line| line.strip_prefix('('));
+                heads
+                    .filter_map(|line| line.split(')').next())
+                    .map(|head| numbers(head, "\"T"))
+                    .collect()
+            }
+            Konclude => {
+                let text = read(&stem.with_extension("classes"))?;
+                let blocks = text.split("<EquivalentClasses>").skip(1);
+                blocks
+                    .filter_map(|block| block.split("</EquivalentClasses>").next())
+                    .map(|block| numbers(block, "#T"))
+                    .collect()
+            }
+        })
+    }
+}
+
+/// Writes the files that ask whether two terms are equal: `stem` and the endings that the language's program wants.
+pub fn write_query(language: Language, stem: &Path, question: &Question) -> Result<(), Failure> {
+    let text = emit::query(language, &question.vocabulary, question.a, question.b);
+    write_input(language, stem, &text, Some("Q"))
+}
+
+/// Writes the files of a classification.
+pub fn write_table(language: Language, stem: &Path, vocabulary: &Vocabulary) -> Result<(), Failure> {
+    write_input(language, stem, &emit::table(language, vocabulary), None)
+}
+
+fn write_input(language: Language, stem: &Path, text: &str, target: Option<&str>) -> Result<(), Failure> {
+    match language {
+        // With the ending .owl the program tries XML first.
+        Konclude => write(&stem.with_extension("ofn"), text),
+        Fact => {
+            let tbox = stem.with_extension("tbox");
+            let name = tbox.file_name().unwrap_or_default().to_string_lossy();
+            write(&stem.with_extension("options"), emit::fact_options(&name, target))?;
+            write(&tbox, text)
+        }
+    }
+}
+
+/// The file's name after a stem and an ending, without its directory.
+fn named(stem: &Path, ending: &str) -> std::ffi::OsString {
+    stem.with_extension(ending).file_name().unwrap_or_default().to_owned()
+}
+
+/// The numbers that stand after a mark.
+fn numbers(text: &str, mark: &str) -> Vec<u16> {
+    let digits = |rest: &str| rest.chars().take_while(char::is_ascii_digit).collect::<String>();
+    text.split(mark)
+        .skip(1)
+        .filter_map(|rest| digits(rest).parse().ok())
+        .collect()
+}
+
+/// Writes a file.
+pub fn write(path: &Path, content: impl AsRef<[u8]>) -> Result<(), Failure> {
+    fs::write(path, content).map_err(|error| Failure::file(path, &error))
+}
+
+/// Reads a file.
+pub fn read(path: &Path) -> Result<String, Failure> {
+    fs::read_to_string(path).map_err(|error| Failure::file(path, &error))
+}
