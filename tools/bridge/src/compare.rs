@@ -35,6 +35,7 @@ struct Score {
     same: usize,
     steady: usize,
     unsteady: usize,
+    out_of_time: usize,
     no_answer: usize,
 }
 
@@ -80,9 +81,14 @@ impl Trial {
             Reply::Different
         };
         match self.ask(reasoner)? {
+            Reply::OutOfTime => {
+                score.out_of_time += 1;
+                let what = format!("no answer within {} s", self.limit.as_secs());
+                self.keep(number, question, reasoner, &what)?;
+            }
             Reply::NoAnswer => {
                 score.no_answer += 1;
-                self.keep(number, question, reasoner, "no answer")?;
+                self.keep(number, question, reasoner, "ended without an answer")?;
             }
             reply if reply == expected => score.same += 1,
             reply => {
@@ -175,15 +181,18 @@ impl Shares {
 }
 
 fn print_scores(reasoners: &[Reasoner], scores: &[Score], questions: usize) {
-    println!("| reasoner | questions | as the library | otherwise, steadily | otherwise, unsteadily | no answer |");
-    println!("|---|---:|---:|---:|---:|---:|");
+    println!(
+        "| reasoner | questions | as the library | otherwise, steadily | otherwise, unsteadily | out of time | ended \
+         without an answer |\n|---|---:|---:|---:|---:|---:|---:|"
+    );
     for (reasoner, score) in reasoners.iter().zip(scores) {
         println!(
-            "| {} | {questions} | {} | {} | {} | {} |",
+            "| {} | {questions} | {} | {} | {} | {} | {} |",
             reasoner.name(),
             score.same,
             score.steady,
             score.unsteady,
+            score.out_of_time,
             score.no_answer
         );
     }

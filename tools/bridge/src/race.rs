@@ -308,11 +308,36 @@ fn run_table(entry: &Entry, reasoners: &[Reasoner], limit: Duration, times: &mut
     times.all.add(&all, all.status != Some(0));
     for (reasoner, side) in reasoners.iter().zip(&mut times.classified) {
         let stem = beside(&entry.stem, "table");
+        reasoner.clear(&stem);
         let run = process::run(reasoner.classify(&stem), limit)?;
-        let wrong = !run.ended && pairs_of(&reasoner.groups(&stem)?) != all.text;
-        side.add(&run, wrong);
+        let told = reasoner.groups(&stem).map(|groups| pairs_of(&groups));
+        side.add(&run, told.as_ref() != Some(&all.text));
+        say_difference(reasoner, &stem, &run, &all.text, told.as_deref());
     }
     Ok(())
+}
+
+/// Says on standard error which pairs a classification answers otherwise, since a reasoner may not do it again.
+fn say_difference(reasoner: &Reasoner, stem: &Path, run: &Run, ours: &str, theirs: Option<&str>) {
+    let (name, stem) = (reasoner.name(), stem.display());
+    let Some(theirs) = theirs else {
+        eprintln!(
+            "{name}, {stem}: no table, status {:?}; it said:\n{}",
+            run.status, run.text
+        );
+        return;
+    };
+    let only = |here: &str, there: &str| {
+        let lines = here.lines().filter(|pair| !there.lines().any(|other| other == *pair));
+        lines.collect::<Vec<_>>().join(", ")
+    };
+    if ours != theirs {
+        eprintln!(
+            "{name}, {stem}: equal for the library only: {}; equal for {name} only: {}",
+            only(ours, theirs),
+            only(theirs, ours)
+        );
+    }
 }
 
 /// The equal pairs that groups of equal terms say, as `answer` prints them.

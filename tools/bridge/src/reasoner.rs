@@ -1,7 +1,7 @@
 //! The reasoners' programs: their files, their commands and their answers.
 
 use std::fs;
-use std::path::Path;
+use std::path::{Path, PathBuf};
 use std::process::{Command, Stdio};
 
 use crate::arguments::Arguments;
@@ -26,7 +26,9 @@ pub enum Reply {
     Equal,
     /// They are not.
     Different,
-    /// Nothing, within the time limit or at all.
+    /// Nothing: it was ended at the time limit.
+    OutOfTime,
+    /// Nothing, though it ended by itself.
     NoAnswer,
 }
 
@@ -38,16 +40,12 @@ impl Reasoner {
             Fact => ("FaCT++", "fact++"),
         };
         let program = path.unwrap_or(usual).to_owned();
-        let started = Command::new(&program)
-            .arg("-h")
-            .stdout(Stdio::null())
-            .stderr(Stdio::null())
-            .status();
-        match started {
-            Ok(_) => Ok(Reasoner { language, program }),
-            Err(error) => Err(Failure::missing(format!(
-                "the reasoner {program} cannot be started ({error}); the Debian package {package} has it"
-            ))),
+        if is_found(&program) {
+            Ok(Reasoner { language, program })
+        } else {
+            Err(Failure::missing(format!(
+                "there is no reasoner {program}; the Debian package {package} has it"
+            )))
         }
     }
 
@@ -111,7 +109,9 @@ impl Reasoner {
                 "KB is inconsistent",
             ),
         };
-        if run.text.contains(inconsistent) || run.text.contains(equal) {
+        if run.ended {
+            Reply::OutOfTime
+        } else if run.text.contains(inconsistent) || run.text.contains(equal) {
             Reply::Equal
         } else if run.text.contains(different) {
             Reply::Different
@@ -120,28 +120,40 @@ impl Reasoner {
         }
     }
 
-    /// The classes that a classification found equal, in groups of term numbers; empty where it found none.
-    pub fn groups(&self, stem: &Path) -> Result<Vec<Vec<u16>>, Failure> {
-        let directory = stem.parent().unwrap_or(Path::new("."));
-        Ok(match self.language {
+    /// The file that a classification writes.
+    fn classes(&self, stem: &Path) -> PathBuf {
+        match self.language {
+            Konclude => stem.with_extension("classes"),
+            Fact => stem.with_file_name("Taxonomy.log"),
+        }
+    }
+
+    /// Removes what an earlier classification wrote.
+    pub fn clear(&self, stem: &Path) {
+        let _ = fs::remove_file(self.classes(stem));
+    }
+
+    /// The classes that a classification found equal, in groups of term numbers; nothing where it wrote no file.
+    pub fn groups(&self, stem: &Path) -> Option<Vec<Vec<u16>>> {
+        let text = read(&self.classes(stem)).ok()?;
+        let (begin, end, mark) = match self.language {
+            Konclude => ("<EquivalentClasses>", "</EquivalentClasses>", "#T"),
             // A line begins with its class, or with all that are equal in parentheses: ("T3"="T7") {..
-            Fact => {
-                let text = read(&directory.join("Taxonomy.log"))?;
-                let heads = text.lines().filter_map(|line| line.strip_prefix('('));
-                heads
-                    .filter_map(|line| line.split(')').next())
-                    .map(|head| numbers(head, "\"T"))
-                    .collect()
-            }
-            Konclude => {
-                let text = read(&stem.with_extension("classes"))?;
-                let blocks = text.split("<EquivalentClasses>").skip(1);
-                blocks
-                    .filter_map(|block| block.split("</EquivalentClasses>").next())
-                    .map(|block| numbers(block, "#T"))
-                    .collect()
-            }
-        })
+            Fact => ("\n(", ")", "\"T"),
+        };
+        let groups = text.split(begin).skip(1).filter_map(|rest| rest.split(end).next());
+        Some(groups.map(|group| numbers(group, mark)).collect())
+    }
+}
+
+/// Whether a program is there, by its path or on the search path. It is not started: `Konclude -h` hung once.
+fn is_found(program: &str) -> bool {
+    let paths = std::env::var_os("PATH").unwrap_or_default();
+    let on_path = || std::env::split_paths(&paths).any(|directory| directory.join(program).is_file());
+    if program.contains('/') {
+        Path::new(program).is_file()
+    } else {
+        on_path()
     }
 }
 
