@@ -4,7 +4,9 @@ use std::time::Duration;
 
 use crate::failure::Failure;
 
-const OPTIONS: [&str; 8] = ["seed", "count", "limit", "to", "ours", "repeats", "konclude", "fact"];
+const OPTIONS: [&str; 9] = [
+    "form", "seed", "count", "limit", "to", "ours", "repeats", "konclude", "fact",
+];
 
 /// The words of a command, and its options, each with the word after it.
 pub struct Arguments {

@@ -7,6 +7,7 @@ use judge::Verdict;
 
 use crate::arguments::Arguments;
 use crate::draw;
+use crate::emit::Form;
 use crate::failure::Failure;
 use crate::process;
 use crate::question::Question;
@@ -35,8 +36,26 @@ struct Score {
     same: usize,
     steady: usize,
     unsteady: usize,
+    /// No answer with the terms named: past the time limit, and before it.
     out_of_time: usize,
     no_answer: usize,
+    /// No answer with the terms written out either.
+    silent: usize,
+}
+
+impl Score {
+    fn count(&mut self, form: Form, reply: Reply) {
+        match (form, reply) {
+            (Form::Named, Reply::OutOfTime) => self.out_of_time += 1,
+            (Form::Named, Reply::NoAnswer) => self.no_answer += 1,
+            (Form::WrittenOut, Reply::OutOfTime | Reply::NoAnswer) => self.silent += 1,
+            (_, Reply::Equal | Reply::Different) => {}
+        }
+    }
+}
+
+fn is_answer(reply: Reply) -> bool {
+    matches!(reply, Reply::Equal | Reply::Different)
 }
 
 /// A run of the comparison.
@@ -72,40 +91,34 @@ pub fn run(arguments: &Arguments) -> Result<(), Failure> {
 }
 
 impl Trial {
-    /// Puts a question to a reasoner.
+    /// Puts a question to a reasoner; where it has no answer, again with all terms written out.
     fn put(&self, number: u64, question: &Question, reasoner: &Reasoner, score: &mut Score) -> Result<(), Failure> {
-        reasoner::write_query(reasoner.language, &self.stem(), question)?;
         let expected = if question.is_equal()? {
             Reply::Equal
         } else {
             Reply::Different
         };
-        match self.ask(reasoner)? {
-            Reply::OutOfTime => {
-                score.out_of_time += 1;
-                let what = format!("no answer within {} s", self.limit.as_secs());
-                self.keep(number, question, reasoner, &what)?;
+        let mut reply = Reply::NoAnswer;
+        for form in [Form::Named, Form::WrittenOut] {
+            if !is_answer(reply) && reasoner::write_query(reasoner.language, form, &self.stem(), question)? {
+                reply = self.ask(reasoner)?;
+                score.count(form, reply);
             }
-            Reply::NoAnswer => {
-                score.no_answer += 1;
-                self.keep(number, question, reasoner, "ended without an answer")?;
-            }
-            reply if reply == expected => score.same += 1,
-            reply => {
-                let as_before = self.ask_again(reasoner, reply)?;
-                let count = if as_before == AGAIN {
-                    &mut score.steady
-                } else {
-                    &mut score.unsteady
-                };
-                *count += 1;
-                self.keep(
-                    number,
-                    question,
-                    reasoner,
-                    &format!("{reply:?}, again in {as_before} of {AGAIN} runs"),
-                )?;
-            }
+        }
+        if !is_answer(reply) {
+            self.keep(number, question, reasoner, "no answer, in neither form")?;
+        } else if reply == expected {
+            score.same += 1;
+        } else {
+            let as_before = self.ask_again(reasoner, reply)?;
+            let count = if as_before == AGAIN {
+                &mut score.steady
+            } else {
+                &mut score.unsteady
+            };
+            *count += 1;
+            let what = format!("{reply:?}, again in {as_before} of {AGAIN} runs");
+            self.keep(number, question, reasoner, &what)?;
         }
         Ok(())
     }
@@ -180,20 +193,24 @@ impl Shares {
     }
 }
 
+/// What a row of the table counts.
+type Count = fn(&Score) -> usize;
+
 fn print_scores(reasoners: &[Reasoner], scores: &[Score], questions: usize) {
-    println!(
-        "| reasoner | questions | as the library | otherwise, steadily | otherwise, unsteadily | out of time | ended \
-         without an answer |\n|---|---:|---:|---:|---:|---:|---:|"
-    );
-    for (reasoner, score) in reasoners.iter().zip(scores) {
-        println!(
-            "| {} | {questions} | {} | {} | {} | {} | {} |",
-            reasoner.name(),
-            score.same,
-            score.steady,
-            score.unsteady,
-            score.out_of_time,
-            score.no_answer
-        );
+    print!("| of {questions} answers |");
+    reasoners.iter().for_each(|reasoner| print!(" {} |", reasoner.name()));
+    println!("\n|---|{}", "---:|".repeat(reasoners.len()));
+    let rows: [(&str, Count); 6] = [
+        ("as the library", |score| score.same),
+        ("otherwise, the same in ten more runs", |score| score.steady),
+        ("otherwise, not the same in ten more runs", |score| score.unsteady),
+        ("none in either form", |score| score.silent),
+        ("past the time limit with the terms named", |score| score.out_of_time),
+        ("ended without an answer with the terms named", |score| score.no_answer),
+    ];
+    for (what, count) in rows {
+        print!("| {what} |");
+        scores.iter().for_each(|score| print!(" {} |", count(score)));
+        println!();
     }
 }

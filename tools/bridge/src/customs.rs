@@ -5,7 +5,7 @@ use std::fmt::Write;
 use std::path::Path;
 
 use crate::arguments::Arguments;
-use crate::emit::Language;
+use crate::emit::{Form, Language};
 use crate::failure::Failure;
 use crate::question::{choose, Question, Wanted};
 use crate::random::Random;
@@ -49,7 +49,7 @@ fn write_question(random: &mut Random, stem: &Path, question: &Question) -> Resu
     write(&stem.with_extension("some"), lines(&some))?;
     write(&stem.with_extension("all"), lines(&all))?;
     for language in [Language::Fact, Language::Konclude] {
-        write_query(language, &beside(stem, "query"), question)?;
+        write_query(language, Form::Named, &beside(stem, "query"), question)?;
         write_table(language, &beside(stem, "table"), &question.vocabulary)?;
     }
     Ok(())

@@ -1,8 +1,9 @@
 //! The reasoners' input: OWL 2 functional syntax for Konclude, a TBox of LISP-like forms for FaCT++.
 //!
-//! Each compound term is a named class, defined once, so that the text stays linear in the records.
+//! Each compound term is a named class, defined once, so that the text stays linear in the records; or, where a reasoner
+//! has no answer to that, each is written out wherever it stands.
 
-use std::collections::BTreeSet;
+use std::collections::{BTreeMap, BTreeSet};
 use std::fmt::Write;
 
 use crate::vocabulary::{Record, Vocabulary};
@@ -19,22 +20,36 @@ pub enum Language {
 
 use Language::{Fact, Konclude};
 
+/// How compound terms stand in a document.
+#[derive(Clone, Copy, Debug, PartialEq, Eq)]
+pub enum Form {
+    /// By a name that is defined once.
+    Named,
+    /// In full; the text may grow with each use.
+    WrittenOut,
+}
+
+/// The most bytes that a term written out may have.
+const LONGEST: usize = 1 << 20;
+
 /// What the names of the functional syntax begin with.
 pub const PREFIX: &str = "http://vocabulary.example/#";
 
 /// The chained statements, the terms that they and the query need, and a class Q of the elements that are in just one of
-/// `a` and `b`: the two are equal exactly when Q is not satisfiable.
-pub fn query(language: Language, vocabulary: &Vocabulary, a: u16, b: u16) -> String {
+/// `a` and `b`: the two are equal exactly when Q is not satisfiable. Nothing where a term written out is too long.
+pub fn query(language: Language, form: Form, vocabulary: &Vocabulary, a: u16, b: u16) -> Option<String> {
     let mut roots = vec![a, b];
     roots.extend(vocabulary.statements().into_iter().flat_map(|(a, b)| [a, b]));
-    let terms = needed(vocabulary, &roots);
-    let question = definition(language, "Q", &apart(language, a, b));
-    document(language, vocabulary, &terms, &question)
+    let terms = Terms::new(language, form, vocabulary, &needed(vocabulary, &roots))?;
+    let question = definition(language, "Q", &apart(language, terms.of(a), terms.of(b)));
+    Some(document(language, vocabulary, &terms, &question))
 }
 
 /// The chained statements and all terms as named classes, for a classification.
 pub fn table(language: Language, vocabulary: &Vocabulary) -> String {
-    document(language, vocabulary, &vocabulary.terms().into_iter().collect(), "")
+    let all = vocabulary.terms().into_iter().collect();
+    let terms = Terms::new(language, Form::Named, vocabulary, &all);
+    terms.map_or_else(String::new, |terms| document(language, vocabulary, &terms, ""))
 }
 
 /// The options that FaCT++ takes: the TBox's file, and the class to ask about; without one it classifies.
@@ -54,25 +69,61 @@ fn needed(vocabulary: &Vocabulary, roots: &[u16]) -> BTreeSet<u16> {
     found
 }
 
-fn document(language: Language, vocabulary: &Vocabulary, terms: &BTreeSet<u16>, question: &str) -> String {
+/// The terms of a document.
+struct Terms {
+    /// How each stands where it is used.
+    texts: BTreeMap<u16, String>,
+    /// The records of those that have a class of their own.
+    classes: Vec<(u16, Record)>,
+    /// The records of all.
+    records: Vec<(u16, Record)>,
+}
+
+impl Terms {
+    fn new(language: Language, form: Form, vocabulary: &Vocabulary, numbers: &BTreeSet<u16>) -> Option<Terms> {
+        let records: Vec<(u16, Record)> = vocabulary
+            .records()
+            .filter(|(number, _)| numbers.contains(number))
+            .collect();
+        let mut terms = Terms {
+            texts: BTreeMap::new(),
+            classes: Vec::new(),
+            records: records.clone(),
+        };
+        for (number, record) in records {
+            let written = expression(language, record, &terms).filter(|_| form == Form::WrittenOut);
+            if written.is_none() {
+                terms.classes.push((number, record));
+            }
+            let text = written.unwrap_or_else(|| class(language, number));
+            if text.len() > LONGEST {
+                return None;
+            }
+            terms.texts.insert(number, text);
+        }
+        Some(terms)
+    }
+
+    fn of(&self, number: u16) -> &str {
+        self.texts.get(&number).map_or("", String::as_str)
+    }
+}
+
+fn document(language: Language, vocabulary: &Vocabulary, terms: &Terms, question: &str) -> String {
     let mut text = String::new();
-    let records: Vec<(u16, Record)> = vocabulary
-        .records()
-        .filter(|(number, _)| terms.contains(number))
-        .collect();
-    for (number, record) in &records {
+    for (number, record) in &terms.classes {
         if language == Konclude || matches!(record, Name(_)) {
             text += &declaration(language, &class(language, *number));
         }
     }
-    text += &roles(language, &records);
-    for (number, record) in &records {
-        if let Some(meaning) = expression(language, *record) {
+    text += &roles(language, &terms.records);
+    for (number, record) in &terms.classes {
+        if let Some(meaning) = expression(language, *record, terms) {
             text += &definition(language, &format!("T{number}"), &meaning);
         }
     }
     for (a, b) in vocabulary.statements() {
-        text += &inclusion(language, &class(language, a), &class(language, b));
+        text += &inclusion(language, terms.of(a), terms.of(b));
     }
     framed(language, &(text + question))
 }
@@ -144,7 +195,7 @@ fn inclusion(language: Language, a: &str, b: &str) -> String {
 }
 
 /// What a term is made of; nothing for a name, which is primitive, and for a statement.
-fn expression(language: Language, record: Record) -> Option<String> {
+fn expression(language: Language, record: Record, terms: &Terms) -> Option<String> {
     let (top, bottom, some, all) = match language {
         Konclude => (
             "owl:Thing",
@@ -154,29 +205,28 @@ fn expression(language: Language, record: Record) -> Option<String> {
         ),
         Fact => ("*TOP*", "*BOTTOM*", "some", "all"),
     };
-    let class = |number| class(language, number);
     let role = |number| role(language, number);
     Some(match record {
         Top => top.to_owned(),
         Bottom => bottom.to_owned(),
-        Not(a) => not(language, &class(a)),
-        And(a, b) => joined(language, true, class(a), class(b)),
-        Or(a, b) => joined(language, false, class(a), class(b)),
-        SomeTo(r, b) => form(language, some, &[&role(r), &class(b)]),
-        AllTo(r, b) => form(language, all, &[&role(r), &class(b)]),
+        Not(a) => not(language, terms.of(a)),
+        And(a, b) => joined(language, true, terms.of(a), terms.of(b)),
+        Or(a, b) => joined(language, false, terms.of(a), terms.of(b)),
+        SomeTo(r, b) => applied(language, some, &[&role(r), terms.of(b)]),
+        AllTo(r, b) => applied(language, all, &[&role(r), terms.of(b)]),
         Name(_) | Statement(..) => return None,
     })
 }
 
 fn not(language: Language, a: &str) -> String {
     match language {
-        Konclude => form(language, "ObjectComplementOf", &[a]),
-        Fact => form(language, "not", &[a]),
+        Konclude => applied(language, "ObjectComplementOf", &[a]),
+        Fact => applied(language, "not", &[a]),
     }
 }
 
 /// The conjunction or disjunction of two; functional syntax has none of one class with itself.
-fn joined(language: Language, both: bool, a: String, b: String) -> String {
+fn joined(language: Language, both: bool, a: &str, b: &str) -> String {
     let word = match (language, both) {
         (Konclude, true) => "ObjectIntersectionOf",
         (Konclude, false) => "ObjectUnionOf",
@@ -184,13 +234,13 @@ fn joined(language: Language, both: bool, a: String, b: String) -> String {
         (Fact, false) => "or",
     };
     if a == b {
-        a
+        a.to_owned()
     } else {
-        form(language, word, &[&a, &b])
+        applied(language, word, &[a, b])
     }
 }
 
-fn form(language: Language, word: &str, parts: &[&str]) -> String {
+fn applied(language: Language, word: &str, parts: &[&str]) -> String {
     match language {
         Konclude => format!("{word}({})", parts.join(" ")),
         Fact => format!("({word} {})", parts.join(" ")),
@@ -198,9 +248,8 @@ fn form(language: Language, word: &str, parts: &[&str]) -> String {
 }
 
 /// The elements that are in just one of the two.
-fn apart(language: Language, a: u16, b: u16) -> String {
-    let (a, b) = (class(language, a), class(language, b));
-    let one_way = joined(language, true, a.clone(), not(language, &b));
-    let other_way = joined(language, true, b, not(language, &a));
-    joined(language, false, one_way, other_way)
+fn apart(language: Language, a: &str, b: &str) -> String {
+    let one_way = joined(language, true, a, &not(language, b));
+    let other_way = joined(language, true, b, &not(language, a));
+    joined(language, false, &one_way, &other_way)
 }

@@ -21,12 +21,12 @@ use std::path::Path;
 use std::process::ExitCode;
 
 use arguments::Arguments;
-use emit::Language;
+use emit::{Form, Language};
 use failure::Failure;
 use question::Question;
 use vocabulary::Vocabulary;
 
-const USAGE: &str = "usage: bridge emit konclude|fact VOCABULARY A B
+const USAGE: &str = "usage: bridge emit konclude|fact VOCABULARY A B [--form named|written-out]
        bridge emit options TBOX
        bridge answer VOCABULARY A B
        bridge answer VOCABULARY PAIRS
@@ -49,7 +49,7 @@ fn main() -> ExitCode {
 fn run(arguments: &Arguments) -> Result<(), Failure> {
     match arguments.words().as_slice() {
         ["emit", "options", tbox] => print!("{}", emit::fact_options(tbox, Some("Q"))),
-        ["emit", language, path, a, b] => emit_query(language, &asked(path, a, b)?)?,
+        ["emit", language, path, a, b] => emit_query(language, arguments, &asked(path, a, b)?)?,
         ["answer", path, a, b] => println!(
             "{}",
             if asked(path, a, b)?.is_equal()? {
@@ -69,15 +69,22 @@ fn run(arguments: &Arguments) -> Result<(), Failure> {
     Ok(())
 }
 
-fn emit_query(language: &str, question: &Question) -> Result<(), Failure> {
+/// Prints a reasoner's input.
+fn emit_query(language: &str, arguments: &Arguments, question: &Question) -> Result<(), Failure> {
     let language = match language {
         "konclude" => Language::Konclude,
         "fact" => Language::Fact,
         _ => return Err(Failure::usage(USAGE)),
     };
+    let form = match arguments.text("form") {
+        None | Some("named") => Form::Named,
+        Some("written-out") => Form::WrittenOut,
+        Some(_) => return Err(Failure::usage(USAGE)),
+    };
+    let text = emit::query(language, form, &question.vocabulary, question.a, question.b);
     print!(
         "{}",
-        emit::query(language, &question.vocabulary, question.a, question.b)
+        text.ok_or_else(|| Failure::refused("a term written out is too long"))?
     );
     Ok(())
 }

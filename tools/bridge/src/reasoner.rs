@@ -5,7 +5,7 @@ use std::path::{Path, PathBuf};
 use std::process::{Command, Stdio};
 
 use crate::arguments::Arguments;
-use crate::emit::{self, Language};
+use crate::emit::{self, Form, Language};
 use crate::failure::Failure;
 use crate::process::Run;
 use crate::question::Question;
@@ -158,9 +158,12 @@ fn is_found(program: &str) -> bool {
 }
 
 /// Writes the files that ask whether two terms are equal: `stem` and the endings that the language's program wants.
-pub fn write_query(language: Language, stem: &Path, question: &Question) -> Result<(), Failure> {
-    let text = emit::query(language, &question.vocabulary, question.a, question.b);
-    write_input(language, stem, &text, Some("Q"))
+/// False where the text would be too long.
+pub fn write_query(language: Language, form: Form, stem: &Path, question: &Question) -> Result<bool, Failure> {
+    match emit::query(language, form, &question.vocabulary, question.a, question.b) {
+        Some(text) => write_input(language, stem, &text, Some("Q")).map(|()| true),
+        None => Ok(false),
+    }
 }
 
 /// Writes the files of a classification.

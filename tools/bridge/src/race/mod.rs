@@ -1,0 +1,143 @@
+//! The times of the library and of the reasoners: wall time of whole processes, one run, alternating.
+
+mod one;
+mod table;
+mod worst;
+
+pub use one::one;
+pub use table::{answer_pairs, table};
+pub use worst::worst;
+
+use std::path::{Path, PathBuf};
+use std::process::Command;
+use std::time::Instant;
+
+use judge::SURVIVOR_BYTES;
+
+use crate::arguments::Arguments;
+use crate::failure::Failure;
+use crate::process::Run;
+use crate::question::Question;
+use crate::reasoner::{read, Reply};
+use crate::report::{median, milliseconds};
+
+/// A question of a directory's list.
+struct Entry {
+    /// The path of its files without their endings.
+    stem: PathBuf,
+    question: Question,
+}
+
+/// The times of one side, and how often it did not answer as the library did.
+#[derive(Clone, Default)]
+struct Times {
+    figures: Vec<f64>,
+    wrong: usize,
+    no_answer: usize,
+    ended: usize,
+}
+
+impl Times {
+    /// Adds a run, and whether its answer was right, if it gave one.
+    fn add(&mut self, run: &Run, right: Option<bool>) {
+        self.figures.push(milliseconds(run.time));
+        self.wrong += usize::from(right == Some(false));
+        self.no_answer += usize::from(right.is_none());
+        self.ended += usize::from(run.ended);
+    }
+
+    fn median(&self) -> f64 {
+        median(&self.figures)
+    }
+}
+
+/// The questions in a directory that `customs` wrote.
+fn entries(directory: &Path) -> Result<Vec<Entry>, Failure> {
+    let list = read(&directory.join("list"))?;
+    let mut entries = Vec::new();
+    for line in list.lines() {
+        let mut words = line.split(' ');
+        let (Some(name), Some(a), Some(b)) = (words.next(), words.next(), words.next()) else {
+            return Err(Failure::refused(format!("no question: {line}")));
+        };
+        let stem = directory.join(name);
+        let question = crate::asked(&stem.with_extension("vocabulary").to_string_lossy(), a, b)?;
+        entries.push(Entry { stem, question });
+    }
+    Ok(entries)
+}
+
+/// The command of the library's side: a program that takes a vocabulary and two terms and says equal or different.
+fn ours(arguments: &Arguments, vocabulary: &Path, a: u16, b: u16) -> Result<Command, Failure> {
+    let program = arguments
+        .text("ours")
+        .ok_or_else(|| Failure::usage("--ours has to name a program"))?;
+    let mut command = Command::new(program);
+    command.arg(vocabulary).arg(a.to_string()).arg(b.to_string());
+    Ok(command)
+}
+
+/// What the library's side said.
+fn reply(run: &Run) -> Reply {
+    if run.text.contains("different") {
+        Reply::Different
+    } else if run.text.contains("equal") {
+        Reply::Equal
+    } else {
+        Reply::NoAnswer
+    }
+}
+
+fn expected(question: &Question) -> Result<Reply, Failure> {
+    Ok(if question.is_equal()? {
+        Reply::Equal
+    } else {
+        Reply::Different
+    })
+}
+
+/// Whether a reply is the right one, if it is an answer at all.
+fn judged(reply: Reply, expected: Reply) -> Option<bool> {
+    match reply {
+        Reply::Equal | Reply::Different => Some(reply == expected),
+        Reply::OutOfTime | Reply::NoAnswer => None,
+    }
+}
+
+/// The time of a call alone, in a process that runs: the median of 21, in milliseconds.
+fn call_alone(question: &Question) -> f64 {
+    let mut figures = Vec::new();
+    for _ in 0..21 {
+        let mut survivors = [0; SURVIVOR_BYTES];
+        let begin = Instant::now();
+        let answer = judge::compare(&question.bytes, question.a.into(), question.b.into(), &mut survivors);
+        figures.push(milliseconds(begin.elapsed()));
+        std::hint::black_box((answer.is_ok(), survivors));
+    }
+    median(&figures)
+}
+
+/// The medians of a side, one for each question.
+fn medians(sides: &[Vec<Times>], place: usize) -> Vec<f64> {
+    sides
+        .iter()
+        .filter_map(|sides| sides.get(place))
+        .map(Times::median)
+        .collect()
+}
+
+/// Median, least and most of figures, as the cells of a table.
+fn spread(figures: &[f64], digits: usize) -> String {
+    let least = figures.iter().copied().fold(f64::INFINITY, f64::min);
+    let most = figures.iter().copied().fold(0.0, f64::max);
+    format!("{:.digits$} | {least:.digits$} | {most:.digits$}", median(figures))
+}
+
+/// The wrong answers of a side, and its runs without one.
+fn failures(sides: &[Vec<Times>], place: usize) -> String {
+    let all = || sides.iter().filter_map(|sides| sides.get(place));
+    let runs: usize = all().map(|times| times.figures.len()).sum();
+    let wrong: usize = all().map(|times| times.wrong).sum();
+    let without: usize = all().map(|times| times.no_answer).sum();
+    format!("{wrong} of {runs} | {without}")
+}

@@ -1,0 +1,169 @@
+//! A table of questions over one vocabulary.
+
+use std::path::Path;
+use std::process::Command;
+use std::time::Duration;
+
+use judge::SURVIVOR_BYTES;
+
+use super::{entries, failures, medians, spread, Entry, Times};
+use crate::arguments::Arguments;
+use crate::customs::{beside, PAIRS};
+use crate::failure::Failure;
+use crate::process::{self, Run};
+use crate::reasoner::{read, Reasoner};
+use crate::report::median;
+use crate::vocabulary::Vocabulary;
+
+/// The answers to the pairs in a file, a line for each that is equal: all calls of one process.
+pub fn answer_pairs(vocabulary: &Vocabulary, pairs: &Path) -> Result<(), Failure> {
+    let bytes = vocabulary.bytes();
+    let mut survivors = [0; SURVIVOR_BYTES];
+    for (a, b) in read_pairs(pairs)? {
+        let answer = judge::compare(&bytes, a.into(), b.into(), &mut survivors).map_err(Failure::refused)?;
+        if answer.verdict == judge::Verdict::Equal {
+            println!("{a} {b}");
+        }
+    }
+    Ok(())
+}
+
+fn read_pairs(path: &Path) -> Result<Vec<(u16, u16)>, Failure> {
+    let text = read(path)?;
+    let pair = |line: &str| {
+        line.split_once(' ')
+            .and_then(|(a, b)| Some((a.parse().ok()?, b.parse().ok()?)))
+    };
+    text.lines()
+        .map(|line| pair(line).ok_or_else(|| Failure::refused(format!("no pair: {line}"))))
+        .collect()
+}
+
+/// The figures of a table: ours for some pairs and for all, and the reasoners'.
+#[derive(Clone, Default)]
+struct TableTimes {
+    some: Times,
+    all: Times,
+    classified: Vec<Times>,
+}
+
+/// Tables of questions over one vocabulary: all calls in one process beside one classification.
+pub fn table(directory: &Path, arguments: &Arguments) -> Result<(), Failure> {
+    let (reasoners, limit) = (Reasoner::both(arguments)?, arguments.limit(60)?);
+    let entries = entries(directory)?;
+    let start = TableTimes {
+        classified: vec![Times::default(); reasoners.len()],
+        ..TableTimes::default()
+    };
+    let mut times = vec![start; entries.len()];
+    for _ in 0..arguments.number("repeats", 5)? {
+        for (entry, times) in entries.iter().zip(&mut times) {
+            run_table(entry, &reasoners, limit, times)?;
+        }
+    }
+    print_tables(&entries, &reasoners, &times)
+}
+
+fn run_table(entry: &Entry, reasoners: &[Reasoner], limit: Duration, times: &mut TableTimes) -> Result<(), Failure> {
+    let program = std::env::current_exe().map_err(|error| Failure::process(&error))?;
+    let answer = |ending: &str| {
+        let mut command = Command::new(&program);
+        command
+            .arg("answer")
+            .arg(entry.stem.with_extension("vocabulary"))
+            .arg(entry.stem.with_extension(ending));
+        process::run(command, limit)
+    };
+    let some = answer("some")?;
+    times.some.add(&some, (some.status == Some(0)).then_some(true));
+    let all = answer("all")?;
+    times.all.add(&all, (all.status == Some(0)).then_some(true));
+    for (reasoner, side) in reasoners.iter().zip(&mut times.classified) {
+        let stem = beside(&entry.stem, "table");
+        reasoner.clear(&stem);
+        let run = process::run(reasoner.classify(&stem), limit)?;
+        let told = reasoner.groups(&stem).map(|groups| pairs_of(&groups));
+        side.add(&run, told.as_ref().map(|told| *told == all.text));
+        say_difference(reasoner, &stem, &run, &all.text, told.as_deref());
+    }
+    Ok(())
+}
+
+/// Says on standard error which pairs a classification answers otherwise, since a reasoner may not do it again.
+fn say_difference(reasoner: &Reasoner, stem: &Path, run: &Run, ours: &str, theirs: Option<&str>) {
+    let (name, stem) = (reasoner.name(), stem.display());
+    let Some(theirs) = theirs else {
+        eprintln!(
+            "{name}, {stem}: no table, status {:?}; it said:\n{}",
+            run.status, run.text
+        );
+        return;
+    };
+    let only = |here: &str, there: &str| {
+        let lines = here.lines().filter(|pair| !there.lines().any(|other| other == *pair));
+        lines.collect::<Vec<_>>().join(", ")
+    };
+    if ours != theirs {
+        eprintln!(
+            "{name}, {stem}: equal for the library only: {}; equal for {name} only: {}",
+            only(ours, theirs),
+            only(theirs, ours)
+        );
+    }
+}
+
+/// The equal pairs that groups of equal terms say, as `answer` prints them.
+fn pairs_of(groups: &[Vec<u16>]) -> String {
+    let mut pairs: Vec<(u16, u16)> = Vec::new();
+    for group in groups {
+        pairs.extend(
+            group
+                .iter()
+                .flat_map(|a| group.iter().filter(move |b| a < b).map(|b| (*a, *b))),
+        );
+    }
+    pairs.sort_unstable();
+    pairs.iter().map(|(a, b)| format!("{a} {b}\n")).collect()
+}
+
+fn print_tables(entries: &[Entry], reasoners: &[Reasoner], times: &[TableTimes]) -> Result<(), Failure> {
+    let numbers = entries
+        .iter()
+        .map(|entry| Ok(read_pairs(&entry.stem.with_extension("all"))?.len() as f64));
+    let pairs = median(&numbers.collect::<Result<Vec<f64>, Failure>>()?);
+    let column = |pick: fn(&TableTimes) -> &Times| vec_of(times, |times| Some(pick(times)));
+    let (some, all) = (column(|times| &times.some), column(|times| &times.all));
+    let (some_median, all_median) = (median(&medians(&some, 0)), median(&medians(&all, 0)));
+    println!("| a table over one vocabulary | median, ms | least, ms | most, ms | times {PAIRS} pairs | times all pairs | wrong tables | no answer |");
+    println!("|---|---:|---:|---:|---:|---:|---:|---:|");
+    let rows = [
+        (format!("library, {PAIRS} pairs"), some),
+        (format!("library, all pairs (median {pairs:.0})"), all),
+    ];
+    let theirs = (0..).zip(reasoners).map(|(place, reasoner)| {
+        (
+            format!("{}, classification", reasoner.name()),
+            vec_of(times, |times| times.classified.get(place)),
+        )
+    });
+    for (name, sides) in rows.into_iter().chain(theirs) {
+        let figures = medians(&sides, 0);
+        println!(
+            "| {name} | {} | {:.2} | {:.2} | {} |",
+            spread(&figures, 2),
+            median(&figures) / some_median,
+            median(&figures) / all_median,
+            failures(&sides, 0)
+        );
+    }
+    println!();
+    Ok(())
+}
+
+/// One side of the tables, in the shape that the other functions take.
+fn vec_of<'t>(times: &'t [TableTimes], pick: impl Fn(&'t TableTimes) -> Option<&'t Times>) -> Vec<Vec<Times>> {
+    times
+        .iter()
+        .map(|times| pick(times).cloned().into_iter().collect())
+        .collect()
+}
