@@ -117,7 +117,8 @@ impl Trial {
                 &mut score.unsteady
             };
             *count += 1;
-            let what = format!("{reply:?}, again in {as_before} of {AGAIN} runs");
+            let out = self.ask_written_out(reasoner, question)?;
+            let what = format!("{reply:?}, again in {as_before} of {AGAIN} runs; written out: {out:?}");
             self.keep(number, question, reasoner, &what)?;
         }
         Ok(())
@@ -138,6 +139,15 @@ impl Trial {
             count += usize::from(self.ask(reasoner)? == before);
         }
         Ok(count)
+    }
+
+    /// What a reasoner answers where all terms are written out: another answer than before is a fault of its own.
+    fn ask_written_out(&self, reasoner: &Reasoner, question: &Question) -> Result<Reply, Failure> {
+        if reasoner::write_query(reasoner.language, Form::WrittenOut, &self.stem(), question)? {
+            self.ask(reasoner)
+        } else {
+            Ok(Reply::NoAnswer)
+        }
     }
 
     /// Keeps the vocabulary of a disagreement, and says what it is.
