@@ -1,7 +1,7 @@
 //! The reasoners' input: OWL 2 functional syntax for Konclude, a TBox of LISP-like forms for FaCT++.
 //!
-//! Each compound term is a named class, defined once, so that the text stays linear in the records; or, where a reasoner
-//! has no answer to that, each is written out wherever it stands.
+//! Each compound term is a named class, defined once, so that the text stays linear in the records; or, where a
+//! reasoner has no answer to that, each is written out wherever it stands.
 
 use std::collections::{BTreeMap, BTreeSet};
 use std::fmt::Write;
@@ -35,8 +35,8 @@ const LONGEST: usize = 1 << 20;
 /// What the names of the functional syntax begin with.
 pub const PREFIX: &str = "http://vocabulary.example/#";
 
-/// The chained statements, the terms that they and the query need, and a class Q of the elements that are in just one of
-/// `a` and `b`: the two are equal exactly when Q is not satisfiable. Nothing where a term written out is too long.
+/// The chained statements, the terms that they and the query need, and a class Q of the elements that are in just one
+/// of `a` and `b`: the two are equal exactly when Q is not satisfiable. Nothing where a term written out is too long.
 pub fn query(language: Language, form: Form, vocabulary: &Vocabulary, a: u16, b: u16) -> Option<String> {
     let mut roots = vec![a, b];
     roots.extend(vocabulary.statements().into_iter().flat_map(|(a, b)| [a, b]));
@@ -133,7 +133,8 @@ fn framed(language: Language, text: &str) -> String {
     match language {
         Fact => text.to_owned(),
         Konclude => format!(
-            "Prefix(:=<{PREFIX}>)\nPrefix(owl:=<http://www.w3.org/2002/07/owl#>)\nOntology(<http://vocabulary.example/>\n{text})\n"
+            "Prefix(:=<{PREFIX}>)\nPrefix(owl:=<http://www.w3.org/2002/07/owl#>)\n\
+             Ontology(<http://vocabulary.example/>\n{text})\n"
         ),
     }
 }

@@ -1,5 +1,5 @@
-//! A bridge from vocabularies to the reasoners FaCT++ and Konclude: their input, their answers beside the library's, and
-//! the times of all three. README.md says how it is run.
+//! A bridge from vocabularies to the reasoners FaCT++ and Konclude: their input, their answers beside the library's,
+//! and the times of all three. README.md says how it is run.
 
 mod arguments;
 mod compare;

@@ -53,7 +53,10 @@ fn run_all(
 }
 
 fn print_by_atoms(entries: &[Entry], sides: &[Vec<Times>], calls: &[f64]) {
-    println!("| atoms | vocabularies | records | the call alone, ms | library, ms | FaCT++, ms | times | Konclude, ms | times |");
+    println!(
+        "| atoms | vocabularies | records | the call alone, ms | library, ms | FaCT++, ms | times | Konclude, ms | \
+         times |"
+    );
     println!("|---:|---:|---:|---:|---:|---:|---:|---:|---:|");
     for atoms in 6..=12 {
         let here = |place: &usize| {
@@ -89,7 +92,10 @@ fn print_by_atoms(entries: &[Entry], sides: &[Vec<Times>], calls: &[f64]) {
 
 fn print_whole(reasoners: &[Reasoner], sides: &[Vec<Times>], calls: &[f64]) {
     let library = median(&medians(sides, 0));
-    println!("| all vocabularies | median, ms | least, ms | most, ms | times the library's | to reach | wrong answers | no answer |");
+    println!(
+        "| all vocabularies | median, ms | least, ms | most, ms | times the library's | to reach | wrong answers | \
+         no answer |"
+    );
     println!("|---|---:|---:|---:|---:|---:|---:|---:|");
     println!(
         "| library, the call alone | {} | {:.3} | | | |",

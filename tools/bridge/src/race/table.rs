@@ -134,7 +134,10 @@ fn print_tables(entries: &[Entry], reasoners: &[Reasoner], times: &[TableTimes])
     let column = |pick: fn(&TableTimes) -> &Times| vec_of(times, |times| Some(pick(times)));
     let (some, all) = (column(|times| &times.some), column(|times| &times.all));
     let (some_median, all_median) = (median(&medians(&some, 0)), median(&medians(&all, 0)));
-    println!("| a table over one vocabulary | median, ms | least, ms | most, ms | times {PAIRS} pairs | times all pairs | wrong tables | no answer |");
+    println!(
+        "| a table over one vocabulary | median, ms | least, ms | most, ms | times {PAIRS} pairs | times all pairs | \
+         wrong tables | no answer |"
+    );
     println!("|---|---:|---:|---:|---:|---:|---:|---:|");
     let rows = [
         (format!("library, {PAIRS} pairs"), some),
