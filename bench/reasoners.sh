@@ -20,7 +20,7 @@ fi
 [ "$mode" = time ] || fail "usage: ${0##*/} [--quick] [ARCHIVE]"
 
 # The library's program for one question is the example's, so that its process is as small as a caller's can be.
-gcc -O2 -Wall -Wextra -Werror -I "$root/include" -o "$build/compare" "$root/examples/compare.c" "$archive"
+gcc -O2 -Wall -Wextra -Werror -I "$root/include" -o "$build/settle" "$root/examples/settle.c" "$archive"
 JUDGE_LIB=$(CDPATH='' cd -- "$(dirname -- "$archive")" && pwd)
 export JUDGE_LIB
 (cd "$root" && cargo build --quiet --release -p bridge --target-dir "$build/cargo")
@@ -29,8 +29,8 @@ bridge=$build/cargo/release/bridge
 "$bridge" customs "$build/customs" --count 21 --seed 1
 
 printf '### One question, one process\n\n'
-"$bridge" race one "$build/customs" --ours "$build/compare" --repeats "$repeats"
+"$bridge" race one "$build/customs" --ours "$build/settle" --repeats "$repeats"
 printf '### A table of questions\n\n'
 "$bridge" race table "$build/customs" --repeats "$tables"
 printf '### The worst known\n\n'
-"$bridge" race worst "$bench/data" --ours "$build/compare" --limit "$limit"
+"$bridge" race worst "$bench/data" --ours "$build/settle" --limit "$limit"

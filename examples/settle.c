@@ -54,15 +54,11 @@ static int compare(const char *name, const uint8_t *vocabulary, size_t length, u
     if (judge_refusal(answer))
         return refused(name, answer);
     printf("%s: terms %u and %u are ", name, a, b);
-    if (judge_different(answer))
-        printf("different at element %u", judge_element(answer));
-    else
+    if (!judge_different(answer))
         printf("equal");
-    printf("; %u rounds, %u survivors:", judge_rounds(answer), judge_survivors(answer));
-    for (uint32_t type = 0; type < 8 * JUDGE_SURVIVOR_BYTES; type++)
-        if (judge_survives(survivors, type))
-            printf(" %u", type);
-    printf("\n");
+    else if (judge_survives(survivors, judge_element(answer)))
+        printf("different at element %u, which was written", judge_element(answer));
+    printf("; %u rounds, %u survivors\n", judge_rounds(answer), judge_survivors(answer));
     return judge_different(answer);
 }
 

@@ -1,6 +1,7 @@
 -- The run's loop: the walk along the chain, with the machine's frames in a table.
 --   Running                                       what holds before each step
---   whole-from, Begun, begun, running-start       the run after a start; its table; what holds before its first step
+--   begun-literal, begun-next, begun-size         the table that a run begins with
+--   whole-from, Begun, running-start              the run after a start; its table; what holds before its first step
 --   running-step, running-placed, running-room    the walk stands at a step, the goals stand in the table, its place is free
 --   after-first, after-second                     the step's literals, in the table they are written to
 --   after-frames, after-placed                    which has the same frames
@@ -46,8 +47,19 @@ empty-place zero i = refl
 empty-place (suc n) zero = refl
 empty-place (suc n) (suc i) = empty-place n i
 
-blank-length : length (blank 4096) ≡ 4096
-blank-length = length-replicate {A = ℕ} 4096 0
+-- The start's literal is written, and no other.
+module _ (n i g : ℕ) where
+  begun-room : 2 * i + 1 < n → 2 * i < length (blank n)
+  begun-room h = omega (arith, length-replicate {A = ℕ} n 0)
+
+  pub begun-literal : 2 * i + 1 < n → getD (set (blank n) (2 * i) g) (2 * i) 0 ≡ g
+  begun-literal h = getD-set-same (blank n) (2 * i) g 0 (begun-room h)
+
+  pub begun-next : getD (set (blank n) (2 * i) g) (2 * i + 1) 0 ≡ 0
+  begun-next = getD-set-other (blank n) (2 * i) (2 * i + 1) g 0 (λ e. absurd (omega arith)) ∙ empty-place n (2 * i + 1)
+
+  pub begun-size : length (set (blank n) (2 * i) g) ≡ n
+  begun-size = length-set (blank n) (2 * i) g ∙ length-replicate {A = ℕ} n 0
 
 -- The table that a run begins with.
 pub record Begun (table : List ℕ) (first g : ℕ) : Type 0 where
@@ -79,20 +91,8 @@ module _ (v s : List ℕ) (f : Formed v s) where
       at (inl z) = absurd (n (e ∙ z))
       at (inr a) = rw e (a .later)
 
-  -- The start's literal is written, and the machine is started there.
+  -- The machine is started at the start's literal.
   module _ (first g : ℕ) (t : IsStep s first) where
-    begun-room : 2 * first + 1 < length (blank 4096)
-    begun-room = omega (arith, blank-length, t .within, entries-few)
-
-    pub begun : Begun (set (blank 4096) (2 * first) g) first g
-    begun =
-        record {
-          literal = getD-set-same (blank 4096) (2 * first) g 0 (omega (arith, begun-room));
-          next = getD-set-other (blank 4096) (2 * first) (2 * first + 1) g 0 (λ e. absurd (omega arith))
-              ∙ empty-place 4096 (2 * first + 1);
-          size = length-set (blank 4096) (2 * first) g ∙ blank-length;
-        }
-
     pub running-start : (table : List ℕ) → Begun table first g → 0 < g → (goals₀ goals : List ℕ) (depth₀ depth x : ℕ)
         → depth₀ ≡ 0 → x ≡ nextStep s first
         → ((table : List ℕ) → 0 < getD table (2 * first) 0 → 2 * first % 2 ≡ 0

@@ -227,6 +227,18 @@ fn advance(machine: Machine, table: &[u64; Machine::PLACES], reduces: bool, plac
     machine.extend(table, place)
 }
 
+// The table that a run begins with: the start's literal, and no other.
+fn first_table(first: usize, goal: u64) -> [u64; Machine::PLACES]
+    requires { ⌜ first < 2048 ⌝ }
+    ensures { λ r. ⌜ getD r (2 * first) 0 ≡ goal ⌝ }
+    ensures { λ r. ⌜ getD r (2 * first + 1) 0 ≡ 0 ⌝ }
+    ensures { λ r. ⌜ length r ≡ 4096 ⌝ }
+{
+    let mut table = [0; Machine::PLACES];
+    table[2 * first] = goal;
+    table
+}
+
 // The steps after a start, record `first`, whose column is one literal.
 fn run_steps(v: &[u8], marks: &[bool; Record::LIMIT], s: &[u8], first: usize, goal: u64) -> Judged
     requires { ⌜ Ready (now v) (now s) (now marks) ⌝ }
@@ -234,8 +246,7 @@ fn run_steps(v: &[u8], marks: &[bool; Record::LIMIT], s: &[u8], first: usize, go
     requires { ⌜ 0 < goal ⌝ }
     ensures { λ r. ⌜ judged r ≡ (numberRun (now (v .entry)) (now (s .entry)) ((goal ∷ []) ∷ []) first (chainFrom (now (s .entry)) (nextStep (now (s .entry)) first)) then accepted (suc (length (chainFrom (now (s .entry)) (nextStep (now (s .entry)) first))))) ⌝ }
 {
-    let mut table = [0; Machine::PLACES];
-    table[2 * first] = goal;
+    let mut table = first_table(first, goal);
     let mut state = Machine::empty().start((2 * first) as u16);
     let mut last = first;
     let mut at = read_entry(s, first).w7 as usize;

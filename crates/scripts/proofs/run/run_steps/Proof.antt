@@ -15,7 +15,7 @@ use Rattle.scripts.specs.Ready.{IsStep}
 use Rattle.scripts.specs.declared.entry.Entry.{Entry}
 use Rattle.scripts.proofs.Formed.{Formed, formed}
 use Rattle.scripts.proofs.Walking.{walk-refused, walk-done, walk-falls}
-use Rattle.scripts.proofs.Running.{Running, whole-from, begun, running-start, running-step, running-placed, running-next}
+use Rattle.scripts.proofs.Running.{Running, whole-from, running-start, running-step, running-placed, running-next}
 use Rattle.scripts.proofs.Running.{after-first, after-placed}
 use Rattle.scripts.proofs.run.run_steps.Statement.{statement}
 use Rattle.scripts.proofs.run.run_steps.Tie as tie
@@ -35,7 +35,7 @@ first-small : (c : tie.Start Inv-loop μ-loop) → c .args .first < 2048
 first-small c = omega (arith, c .pre .1 .0 .within, form c .sized .most)
 
 abbrev start : tie.In-loop Inv-loop μ-loop → tie.Start Inv-loop μ-loop
-start c = c .before .before .before .before .before .before .before .before
+start c = c .before .before .before .before .before .before .before .before .before
 
 -- the step that the walk stands at
 here : (c : tie.In-loop Inv-loop μ-loop) → IsStep (now (start c .args .s)) (c .before .loop .at)
@@ -44,29 +44,23 @@ here c = running-step _ _ (form (start c)) _ _ _ _ _ _ _ (c .before .loop .inv) 
 at-small : (c : tie.In-loop Inv-loop μ-loop) → c .before .loop .at < 2048
 at-small c = omega (arith, here c .within, form (start c) .sized .most)
 
-mul-table : tie.Need-mul-table Inv-loop μ-loop
-mul-table c = omega (arith, first-small (c .before .before))
-
-mul-table-2 : tie.Need-mul-table-2 Inv-loop μ-loop
-mul-table-2 c = omega (arith, first-small (c .before .before))
-
-array-write-table : tie.Need-array-write-table Inv-loop μ-loop
-array-write-table c = omega (arith, first-small (c .before .before))
+first-table-requires : tie.Need-first-table-requires Inv-loop μ-loop
+first-table-requires c κs = first-small (c .before .before)
 
 empty-requires : tie.Need-empty-requires Inv-loop μ-loop
 empty-requires c κs = tt
 
 mul-start : tie.Need-mul-start Inv-loop μ-loop
-mul-start c = omega (arith, first-small (c .before .before .before))
+mul-start c = omega (arith, first-small (c .before .before .before .before))
 
 cast-start : tie.Need-cast-start Inv-loop μ-loop
-cast-start c = omega (arith, first-small (c .before .before .before))
+cast-start c = omega (arith, first-small (c .before .before .before .before))
 
 start-requires : tie.Need-start-requires Inv-loop μ-loop
 start-requires c κs = omega (arith, c .empty .ensures)
 
 read-entry-requires : tie.Need-read-entry-requires Inv-loop μ-loop
-read-entry-requires c κs = omega (arith, c .before .before .before .before .pre .1 .0 .within)
+read-entry-requires c κs = omega (arith, c .before .before .before .before .before .pre .1 .0 .within)
 
 cast-at : tie.Need-cast-at Inv-loop μ-loop
 cast-at c = omega arith
@@ -74,10 +68,10 @@ cast-at c = omega arith
 loop-holds : tie.Need-loop-holds Inv-loop μ-loop
 loop-holds c =
     let m = c .before .before in
-    let b = m .before .before .before .before in
-    let first = b .pre .1 .0 in
-    running-start (now (b .args .v)) (now (b .args .s)) (form b) _ _ first _
-    (begun (now (b .args .v)) (now (b .args .s)) (form b) _ _ first) (b .pre .1 .1) _ _ _ _ _ (m .before .empty .ensures)
+    let table = m .before .before .first-table .ensures in
+    let b = m .before .before .before .before .before in
+    running-start (now (b .args .v)) (now (b .args .s)) (form b) _ _ (b .pre .1 .0) _
+    record { literal = table .0; next = table .1 .0; size = table .1 .1 } (b .pre .1 .1) _ _ _ _ _ (m .before .empty .ensures)
     (ap (λ (x : Entry). x .w7) (c .before .read-entry .ensures))
     (m .start .ensures .0) (m .start .ensures .1 .0) (m .start .ensures .1 .1)
 
@@ -109,26 +103,26 @@ returns c =
 abbrev stood : tie.After-enum-told Inv-loop μ-loop → tie.In-loop Inv-loop μ-loop
 stood c = c .before .before .before .before .before .before
 
+mul-table : tie.Need-mul-table Inv-loop μ-loop
+mul-table c = omega (arith, at-small (stood c))
+
+mul-table-2 : tie.Need-mul-table-2 Inv-loop μ-loop
+mul-table-2 c = omega (arith, at-small (stood c))
+
+array-write-table : tie.Need-array-write-table Inv-loop μ-loop
+array-write-table c = omega (arith, at-small (stood c))
+
 mul-table-3 : tie.Need-mul-table-3 Inv-loop μ-loop
 mul-table-3 c = omega (arith, at-small (stood c))
+
+add-table : tie.Need-add-table Inv-loop μ-loop
+add-table c = omega (arith, at-small (stood c))
 
 mul-table-4 : tie.Need-mul-table-4 Inv-loop μ-loop
 mul-table-4 c = omega (arith, at-small (stood c))
 
 array-write-table-2 : tie.Need-array-write-table-2 Inv-loop μ-loop
 array-write-table-2 c = omega (arith, at-small (stood c))
-
-mul-table-5 : tie.Need-mul-table-5 Inv-loop μ-loop
-mul-table-5 c = omega (arith, at-small (stood c))
-
-add-table : tie.Need-add-table Inv-loop μ-loop
-add-table c = omega (arith, at-small (stood c))
-
-mul-table-6 : tie.Need-mul-table-6 Inv-loop μ-loop
-mul-table-6 c = omega (arith, at-small (stood c))
-
-array-write-table-3 : tie.Need-array-write-table-3 Inv-loop μ-loop
-array-write-table-3 c = omega (arith, at-small (stood c))
 
 read-entry-requires-2 : tie.Need-read-entry-requires-2 Inv-loop μ-loop
 read-entry-requires-2 c κs = omega (arith, here (stood c) .within)
@@ -218,7 +212,7 @@ judge-after-requires-2 c κs = tt
 returns-2 : tie.Need-returns-2 Inv-loop μ-loop
 returns-2 c =
     let l = c .before .before in
-    let a = l .before .before .before .before .before .before .before .before .args in
+    let a = l .before .before .before .before .before .before .before .before .before .args in
     walk-done (now (a .v)) (now (a .s)) _ _ _ _ _ _ _ (l .before .loop .inv .walk) (l .loop-test .left) _ _
     (c .before .pass-if .ensures) (c .judge-after2 .ensures)
 
@@ -228,9 +222,7 @@ run-steps-spec =
     (tie.spec
     Inv-loop
     μ-loop
-    mul-table
-    mul-table-2
-    array-write-table
+    first-table-requires
     empty-requires
     mul-start
     cast-start
@@ -243,13 +235,13 @@ run-steps-spec =
     enum-told-2
     judge-after-requires
     returns
+    mul-table
+    mul-table-2
+    array-write-table
     mul-table-3
+    add-table
     mul-table-4
     array-write-table-2
-    mul-table-5
-    add-table
-    mul-table-6
-    array-write-table-3
     read-entry-requires-2
     mul-advance
     cast-advance
