@@ -1,14 +1,8 @@
-// The columns of a record, as the paper lists them: the kind selects the group, a number the column.
-use crate::literal::pack_concept;
-use crate::literal::pack_role;
-use records::fields::Record;
+// A column with its terms put in, and the terms.
 ghost use mathlib.Core.Path.{_≡_};
 ghost use mathlib.Core.List.{[]};
-ghost use Prim.Native.Nat.{ℕ, _<_, _^_};
-ghost use lib.ListN.{length, getD};
-ghost use Rattle.records.specs.Kinds.{constructOf, negation, inclusion};
-ghost use Rattle.columns.specs.Columns.{columnsOf, takesY};
-ghost use Rattle.columns.specs.Packed.{packedAt, listed, constantGroup, junctionGroup, restrictionGroup};
+ghost use lib.ListN.{length};
+ghost use Rattle.columns.specs.Packed.{listed};
 
 // Up to three literals; 0 stands for none.
 pub struct Column {
@@ -50,126 +44,5 @@ impl Column {
             return 2;
         }
         3
-    }
-}
-
-// Top and bottom.
-fn constant_column(sign: bool, i: u16, n: u16, at: Terms) -> Column
-    ensures { λ r. ⌜ listed (r .first) (r .second) (r .third) ≡ packedAt (at .x) (at .y) (at .fx) (getD (constantGroup sign i) n []) ⌝ }
-{
-    if n == 0 {
-        return Column {
-            first: pack_concept(sign, i, at.x),
-            second: 0,
-            third: 0,
-        };
-    }
-    Column::none()
-}
-
-fn negation_column(i: u16, j: u16, n: u16, at: Terms) -> Column
-    ensures { λ r. ⌜ listed (r .first) (r .second) (r .third) ≡ packedAt (at .x) (at .y) (at .fx) (getD (columnsOf i (negation j)) n []) ⌝ }
-{
-    if n < 2 {
-        let sign = n == 0;
-        return Column {
-            first: pack_concept(sign, i, at.x),
-            second: pack_concept(sign, j, at.x),
-            third: 0,
-        };
-    }
-    Column::none()
-}
-
-// And, or.
-fn junction_column(sign: bool, i: u16, j: u16, k: u16, n: u16, at: Terms) -> Column
-    ensures { λ r. ⌜ listed (r .first) (r .second) (r .third) ≡ packedAt (at .x) (at .y) (at .fx) (getD (junctionGroup sign i j k) n []) ⌝ }
-{
-    match n {
-        0 => Column {
-            first: pack_concept(sign, i, at.x),
-            second: pack_concept(!sign, j, at.x),
-            third: 0,
-        },
-        1 => Column {
-            first: pack_concept(sign, i, at.x),
-            second: pack_concept(!sign, k, at.x),
-            third: 0,
-        },
-        2 => Column {
-            first: pack_concept(!sign, i, at.x),
-            second: pack_concept(sign, j, at.x),
-            third: pack_concept(sign, k, at.x),
-        },
-        _ => Column::none(),
-    }
-}
-
-// Some, all.
-fn restriction_column(sign: bool, i: u16, r: u16, j: u16, n: u16, at: Terms) -> Column
-    requires { ⌜ at .x < 2 ^ 20 ⌝ }
-    requires { ⌜ at .y < 2 ^ 20 ⌝ }
-    requires { ⌜ at .fx < 2 ^ 20 ⌝ }
-    ensures { λ c. ⌜ listed (c .first) (c .second) (c .third) ≡ packedAt (at .x) (at .y) (at .fx) (getD (restrictionGroup sign i r j) n []) ⌝ }
-{
-    match n {
-        0 => Column {
-            first: pack_concept(sign, i, at.x),
-            second: pack_role(false, r, at.x, at.fx),
-            third: 0,
-        },
-        1 => Column {
-            first: pack_concept(sign, i, at.x),
-            second: pack_concept(!sign, j, at.fx),
-            third: 0,
-        },
-        2 => Column {
-            first: pack_concept(!sign, i, at.x),
-            second: pack_role(true, r, at.x, at.y),
-            third: pack_concept(sign, j, at.y),
-        },
-        _ => Column::none(),
-    }
-}
-
-fn inclusion_column(j: u16, k: u16, n: u16, at: Terms) -> Column
-    ensures { λ r. ⌜ listed (r .first) (r .second) (r .third) ≡ packedAt (at .x) (at .y) (at .fx) (getD (columnsOf 0 (inclusion j k)) n []) ⌝ }
-{
-    if n == 0 {
-        return Column {
-            first: pack_concept(true, j, at.x),
-            second: pack_concept(false, k, at.x),
-            third: 0,
-        };
-    }
-    Column::none()
-}
-
-// Column n of record i, which is of these fields: the kind selects the group.
-pub fn group_column(fields: Record, i: u16, n: u16, at: Terms) -> Column
-    requires { ⌜ at .x < 2 ^ 20 ⌝ }
-    requires { ⌜ at .y < 2 ^ 20 ⌝ }
-    requires { ⌜ at .fx < 2 ^ 20 ⌝ }
-    ensures { λ r. ⌜ listed (r .first) (r .second) (r .third) ≡ packedAt (at .x) (at .y) (at .fx) (getD (columnsOf i (constructOf fields)) n []) ⌝ }
-{
-    let kind = fields.kind;
-    match kind {
-        1..=2 => constant_column(kind == 2, i, n, at),
-        4 => negation_column(i, fields.a, n, at),
-        5..=6 => junction_column(kind == 5, i, fields.a, fields.b, n, at),
-        7..=8 => restriction_column(kind == 7, i, fields.a, fields.b, n, at),
-        9 => inclusion_column(fields.a, fields.b, n, at),
-        _ => Column::none(),
-    }
-}
-
-// Whether y stands in column n of a record of this kind.
-pub fn group_takes_y(fields: Record, n: u16) -> bool
-    ensures { λ r. ⌜ ((i : ℕ) → r ≡ takesY (getD (columnsOf i (constructOf fields)) n [])) ⌝ }
-{
-    let kind = fields.kind;
-    match kind {
-        7..=8 => n == 2,
-        _ => false,
     }
 }

@@ -1,5 +1,6 @@
 // Columns: the columns of each owner, at given terms.
 pub mod column;
+mod group;
 mod literal;
 mod owner;
 

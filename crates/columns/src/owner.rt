@@ -1,8 +1,8 @@
 // The columns of an owner: 0 is the query, others are records of the vocabulary.
 use crate::column::Column;
 use crate::column::Terms;
-use crate::column::group_column;
-use crate::column::group_takes_y;
+use crate::group::group_column;
+use crate::group::group_takes_y;
 use crate::literal::pack_concept;
 use records::fields::Record;
 use records::fields::read_at;

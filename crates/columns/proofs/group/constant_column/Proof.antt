@@ -1,4 +1,4 @@
--- `columns::column::constant_column` meets its contract. One column, of one literal.
+-- `columns::group::constant_column` meets its contract. One column, of one literal.
 -- Assumes nothing.
 use native.Mathlib.Omega.{arith}
 use mathlib.Core.Path.{_∙_}
@@ -7,8 +7,8 @@ use Rattle.columns.specs.Literals.{concept}
 use Rattle.columns.specs.Packed.{constantGroup}
 use Rattle.columns.proofs.Packing.{lists-one}
 use Rattle.columns.proofs.Groups.{past-at}
-use Rattle.columns.proofs.column.constant_column.Statement.{statement}
-use Rattle.columns.proofs.column.constant_column.Tie as tie
+use Rattle.columns.proofs.group.constant_column.Statement.{statement}
+use Rattle.columns.proofs.group.constant_column.Tie as tie
 
 pack-concept-requires : tie.Need-pack-concept-requires
 pack-concept-requires c κs = search needs

@@ -1,16 +1,16 @@
--- `columns::column::inclusion_column` meets its contract. One column, of two literals.
+-- `columns::group::negation_column` meets its contract. Two columns, of two literals each, that differ in signs.
 -- Assumes nothing.
 use native.Mathlib.Omega.{arith}
 use mathlib.Core.Path.{_∙_}
-use mathlib.Core.Bool.{true, false}
+use lib.Dec.{eqb}
 use borrow.Author.Needs.{needs}
-use Rattle.records.specs.Kinds.{inclusion}
+use Rattle.records.specs.Kinds.{negation}
 use Rattle.columns.specs.Literals.{concept}
 use Rattle.columns.specs.Columns.{columnsOf}
 use Rattle.columns.proofs.Packing.{lists-two}
-use Rattle.columns.proofs.Groups.{past-at}
-use Rattle.columns.proofs.column.inclusion_column.Statement.{statement}
-use Rattle.columns.proofs.column.inclusion_column.Tie as tie
+use Rattle.columns.proofs.Groups.{past-at, negation-at}
+use Rattle.columns.proofs.group.negation_column.Statement.{statement}
+use Rattle.columns.proofs.group.negation_column.Tie as tie
 
 pack-concept-requires : tie.Need-pack-concept-requires
 pack-concept-requires c κs = search needs
@@ -21,9 +21,9 @@ pack-concept-requires-2 c κs = search needs
 returns : tie.Need-returns
 returns c =
     let a = c .before .before .before .args in
-    rw (c .before .before .if1 .taken)
-    (lists-two (concept true (a .j) (a .at .x)) (concept false (a .k) (a .at .x)) _ _ (c .before .pack-concept .ensures)
-    (c .pack-concept2 .ensures))
+    lists-two (concept (eqb (a .n) 0) (a .i) (a .at .x)) (concept (eqb (a .n) 0) (a .j) (a .at .x)) _ _
+    (c .before .pack-concept .ensures) (c .pack-concept2 .ensures)
+    ∙ negation-at _ _ _ _ _ _ (c .before .before .if1 .taken)
 
 none-requires : tie.Need-none-requires
 none-requires c κs = search needs
@@ -31,9 +31,9 @@ none-requires c κs = search needs
 returns-2 : tie.Need-returns-2
 returns-2 c =
     let a = c .before .before .args in
-    c .none .ensures ∙ past-at (columnsOf 0 (inclusion (a .j) (a .k))) _ _ _ (a .n) (omega (arith, c .before .if1 .left))
+    c .none .ensures ∙ past-at (columnsOf (a .i) (negation (a .j))) _ _ _ (a .n) (omega (arith, c .before .if1 .left))
 
-pub inclusion-column-spec : {M : Type 1} → statement M
-inclusion-column-spec =
+pub negation-column-spec : {M : Type 1} → statement M
+negation-column-spec =
     tie.close
     (tie.spec pack-concept-requires pack-concept-requires-2 returns none-requires returns-2)

@@ -1,4 +1,4 @@
--- `columns::column::group_column` meets its contract. The kind of the record says which columns it has, if any.
+-- `columns::group::group_column` meets its contract. The kind of the record says which columns it has, if any.
 -- Assumes nothing.
 use Prim.Native.Nat.{_≤_}
 use native.Mathlib.Omega.{arith}
@@ -7,8 +7,8 @@ use mathlib.Core.Logic.{⊎-elim}
 use borrow.Author.Needs.{needs}
 use Rattle.columns.proofs.Groups.{none-at, same-at, group-constant, group-junction, group-restriction, group-negation}
 use Rattle.columns.proofs.Groups.{group-inclusion, group-low, group-name, group-high}
-use Rattle.columns.proofs.column.group_column.Statement.{statement}
-use Rattle.columns.proofs.column.group_column.Tie as tie
+use Rattle.columns.proofs.group.group_column.Statement.{statement}
+use Rattle.columns.proofs.group.group_column.Tie as tie
 
 negation-column-requires : tie.Need-negation-column-requires
 negation-column-requires c κs = search needs

@@ -1,4 +1,4 @@
--- `columns::column::junction_column` meets its contract. Three columns; there is none past them.
+-- `columns::group::junction_column` meets its contract. Three columns; there is none past them.
 -- Assumes nothing.
 use native.Mathlib.Omega.{arith}
 use mathlib.Core.Path.{_∙_}
@@ -8,8 +8,8 @@ use Rattle.columns.specs.Literals.{concept}
 use Rattle.columns.specs.Packed.{junctionGroup}
 use Rattle.columns.proofs.Packing.{lists-two, lists-three}
 use Rattle.columns.proofs.Groups.{past-at}
-use Rattle.columns.proofs.column.junction_column.Statement.{statement}
-use Rattle.columns.proofs.column.junction_column.Tie as tie
+use Rattle.columns.proofs.group.junction_column.Statement.{statement}
+use Rattle.columns.proofs.group.junction_column.Tie as tie
 
 pack-concept-requires : tie.Need-pack-concept-requires
 pack-concept-requires c κs = search needs

@@ -1,4 +1,4 @@
--- `columns::column::restriction_column` meets its contract. Three columns; there is none past them.
+-- `columns::group::restriction_column` meets its contract. Three columns; there is none past them.
 -- Assumes nothing.
 use native.Mathlib.Omega.{arith}
 use mathlib.Core.Path.{_∙_}
@@ -8,8 +8,8 @@ use Rattle.columns.specs.Literals.{concept, role}
 use Rattle.columns.specs.Packed.{restrictionGroup}
 use Rattle.columns.proofs.Packing.{lists-two, lists-three}
 use Rattle.columns.proofs.Groups.{past-at}
-use Rattle.columns.proofs.column.restriction_column.Statement.{statement}
-use Rattle.columns.proofs.column.restriction_column.Tie as tie
+use Rattle.columns.proofs.group.restriction_column.Statement.{statement}
+use Rattle.columns.proofs.group.restriction_column.Tie as tie
 
 pack-concept-requires : tie.Need-pack-concept-requires
 pack-concept-requires c κs = search needs
