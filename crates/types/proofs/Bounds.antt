@@ -22,6 +22,7 @@ use Rattle.types.specs.Compare.{queryCheck, comparison}
 use Rattle.types.proofs.Sets.{members-bound}
 use Rattle.types.proofs.Bits.{digit-small}
 use Rattle.types.proofs.Turns.{types-bound}
+use Rattle.types.proofs.Truths.{rank-bound}
 use Rattle.types.proofs.Largest.{stage-length, survivors-serving}
 use Rattle.types.proofs.Verdicts.{answered}
 use Rattle.types.proofs.Comparison.{counts, different-first}
@@ -31,12 +32,6 @@ abbrev pub SmallVerdict : ℕ → Outcome Verdict → Type 0
 SmallVerdict m (accepted (equal s n)) = (s ≤ 4096) × (n ≤ 4096)
 SmallVerdict m (accepted (different t s n)) = (t < 4096) × (s ≤ 4096) × (n ≤ 4096)
 SmallVerdict m (refused n p) = Near m n p
-
--- no record counts as two atoms
-rank-bound : (v : List ℕ) (i : ℕ) → rank v i ≤ i
-unfolding rank
-rank-bound v zero = omega arith
-rank-bound v (suc i) = omega (arith, rank-bound v i, digit-small (isAtom (recordAt v i .kind)))
 
 members-types : (v : List ℕ) → members (survivors v) ≤ types v
 unfolding survivors

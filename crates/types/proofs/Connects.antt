@@ -1,5 +1,6 @@
 -- The truth rules of the code are the paper's.
 --   rule-range, rule-low, rule-high, first-.., second-..   the tables of shapes by the ranges of a `match`
+--   first-atom                     an atom finds its own bit
 --   select-..                      what each rule selects
 --   rule-connects                  what a record says, by its rule
 --   operands-earlier               its operands come no later than the record
@@ -16,6 +17,7 @@ use borrow.Author.Tests.{ne-eqb}
 use Rattle.records.specs.Kinds.{kindOf, constructOf, isAtom}
 use Rattle.records.specs.declared.fields.Record.{Record}
 use Rattle.records.proofs.Ranges.{between}
+use Rattle.records.proofs.Passed.{clash}
 use Rattle.records.proofs.Constructs.{Earlier, kind-past}
 use Rattle.types.specs.Below.{bit}
 use Rattle.types.specs.Meaning.{connect}
@@ -45,23 +47,42 @@ rule-low (suc (suc (suc (suc (suc (suc (suc k))))))) h a b c d e = absurd (omega
 pub rule-high : (k : ℕ) → 10 ≤ k → 0 ≡ ruleOf k
 rule-high k h = sym (ap (λ (s : Shape). s .rule) (shape-past k h))
 
-module _ (x : ℕ) where
-  pub first-operand : (k : ℕ) → 4 ≤ k → k < 7 → x ≡ firstOf k x
+module _ (x n : ℕ) where
+  pub first-operand : (k : ℕ) → 4 ≤ k → k < 7 → x ≡ firstOf k x n
   unfolding shapeOf
-  first-operand = between (λ k. x ≡ firstOf k x) 3 4 (refl, (refl, (refl, tt)))
+  first-operand = between (λ k. x ≡ firstOf k x n) 3 4 (refl, (refl, (refl, tt)))
 
-  pub first-low : (k : ℕ) → k < 4 → 0 ≡ firstOf k x
+  pub first-low : (k : ℕ) → k < 4 → n ≡ firstOf k x n
   unfolding shapeOf
-  first-low k h = between (λ k. 0 ≡ firstOf k x) 4 0 (refl, (refl, (refl, (refl, tt)))) k (omega arith) h
+  first-low k h = between (λ k. n ≡ firstOf k x n) 4 0 (refl, (refl, (refl, (refl, tt)))) k (omega arith) h
 
-  pub first-above : (k : ℕ) → 7 ≤ k → (k ≡ 9 → ⊥) → 0 ≡ firstOf k x
+  pub first-above : (k : ℕ) → 7 ≤ k → (k ≡ 9 → ⊥) → n ≡ firstOf k x n
   unfolding shapeOf
-  first-above k l n = at (decLt k 9)
+  first-above k l m = at (decLt k 9)
     where
-      at : Dec (k < 9) → 0 ≡ firstOf k x
-      at (yes h) = between (λ k. 0 ≡ firstOf k x) 2 7 (refl, (refl, tt)) k l h
+      at : Dec (k < 9) → n ≡ firstOf k x n
+      at (yes h) = between (λ k. n ≡ firstOf k x n) 2 7 (refl, (refl, tt)) k l h
       at (no h) = rw (shape-past k (omega arith))
 
+  pub first-atom : (k : ℕ) → isAtom k ≡ true → firstOf k x n ≡ n
+  unfolding shapeOf
+  first-atom k = at (decLt k 10)
+    where
+      Same : ℕ → Type 0
+      Same k = isAtom k ≡ true → firstOf k x n ≡ n
+
+      none : false ≡ true → x ≡ n
+      none e = absurd (clash (cc))
+
+      at : Dec (k < 10) → Same k
+      at (yes h) =
+          between Same 10 0 (
+            λ e. refl,
+            (λ e. refl, (λ e. refl, (λ e. refl, (none, (none, (none, (λ e. refl, (λ e. refl, (none, tt))))))))),
+          ) k (omega arith) h
+      at (no m) = λ e. rw (shape-past k (omega arith))
+
+module _ (x : ℕ) where
   pub second-operand : (k : ℕ) → 5 ≤ k → k < 10 → x ≡ secondOf k x
   unfolding shapeOf
   second-operand = between (λ k. x ≡ secondOf k x) 5 5 (refl, (refl, (refl, (refl, (refl, tt)))))
@@ -124,24 +145,24 @@ module _ (x y z : Bool) where
   unfolding select bit
   select-implies = agree (select 221) (λ x y z. not x || y) (refl, refl, refl, refl, refl, refl, refl, refl) x y z
 
-pub rule-connects : (r : Record) (z : Bool) (f : ℕ → Bool)
-    → select (ruleOf (r .kind)) (f (firstOf (r .kind) (r .a))) (f (secondOf (r .kind) (r .b))) z ≡ connect (constructOf r) z f
+pub rule-connects : (r : Record) (n : ℕ) (z : Bool) (f : ℕ → Bool)
+    → select (ruleOf (r .kind)) (f (firstOf (r .kind) (r .a) n)) (f (secondOf (r .kind) (r .b))) z ≡ connect (constructOf r) z f
 unfolding kindOf shapeOf
-rule-connects r z f = at (decLt (r .kind) 10)
+rule-connects r n z f = at (decLt (r .kind) 10)
   where
     Connects : ℕ → Type 0
-    Connects k = select (ruleOf k) (f (firstOf k (r .a))) (f (secondOf k (r .b))) z ≡ connect (kindOf k .says r) z f
+    Connects k = select (ruleOf k) (f (firstOf k (r .a) n)) (f (secondOf k (r .b))) z ≡ connect (kindOf k .says r) z f
 
     at : Dec (r .kind < 10) → Connects (r .kind)
     at (yes h) =
         between Connects 10 0 (
-          select-never (f 0) (f 0) z,
+          select-never (f n) (f 0) z,
           (
-            select-always (f 0) (f 0) z,
+            select-always (f n) (f 0) z,
             (
-              select-never (f 0) (f 0) z,
+              select-never (f n) (f 0) z,
               (
-                select-atom (f 0) (f 0) z,
+                select-atom (f n) (f 0) z,
                 (
                   select-not (f (r .a)) (f 0) z,
                   (
@@ -149,8 +170,8 @@ rule-connects r z f = at (decLt (r .kind) 10)
                     (
                       select-or (f (r .a)) (f (r .b)) z,
                       (
-                        select-atom (f 0) (f (r .b)) z,
-                        (select-atom (f 0) (f (r .b)) z, (select-implies (f (r .a)) (f (r .b)) z, tt)),
+                        select-atom (f n) (f (r .b)) z,
+                        (select-atom (f n) (f (r .b)) z, (select-implies (f (r .a)) (f (r .b)) z, tt)),
                       ),
                     ),
                   ),
@@ -159,18 +180,18 @@ rule-connects r z f = at (decLt (r .kind) 10)
             ),
           ),
         ) (r .kind) (omega arith) h
-    at (no n) = rw (shape-past (r .kind) (omega arith), kind-past (r .kind) (omega arith)) (select-never (f 0) (f 0) z)
+    at (no m) = rw (shape-past (r .kind) (omega arith), kind-past (r .kind) (omega arith)) (select-never (f n) (f 0) z)
 
-pub operands-earlier : (r : Record) (i : ℕ) → Earlier i (constructOf r)
-    → (firstOf (r .kind) (r .a) ≤ i) × (secondOf (r .kind) (r .b) ≤ i)
+pub operands-earlier : (r : Record) (i n : ℕ) → n ≤ i → Earlier i (constructOf r)
+    → (firstOf (r .kind) (r .a) n ≤ i) × (secondOf (r .kind) (r .b) ≤ i)
 unfolding kindOf shapeOf
-operands-earlier r i = at (decLt (r .kind) 10)
+operands-earlier r i n l = at (decLt (r .kind) 10)
   where
     Bound : ℕ → Type 0
-    Bound k = Earlier i (kindOf k .says r) → (firstOf k (r .a) ≤ i) × (secondOf k (r .b) ≤ i)
+    Bound k = Earlier i (kindOf k .says r) → (firstOf k (r .a) n ≤ i) × (secondOf k (r .b) ≤ i)
 
-    none : Earlier i (kindOf 0 .says r) → (0 ≤ i) × (0 ≤ i)
-    none e = (omega arith, omega arith)
+    none : Earlier i (kindOf 0 .says r) → (n ≤ i) × (0 ≤ i)
+    none e = (l, omega arith)
 
     at : Dec (r .kind < 10) → Bound (r .kind)
     at (yes h) =
@@ -189,8 +210,8 @@ operands-earlier r i = at (decLt (r .kind) 10)
                     (
                       λ e. (omega (arith, e .0), omega (arith, e .1)),
                       (
-                        λ e. (omega arith, omega arith),
-                        (λ e. (omega arith, omega arith), (λ e. (omega (arith, e .0), omega (arith, e .1)), tt)),
+                        λ e. (l, omega arith),
+                        (λ e. (l, omega arith), (λ e. (omega (arith, e .0), omega (arith, e .1)), tt)),
                       ),
                     ),
                   ),
@@ -199,7 +220,7 @@ operands-earlier r i = at (decLt (r .kind) 10)
             ),
           ),
         ) (r .kind) (omega arith) h
-    at (no n) = λ e. rw (shape-past (r .kind) (omega arith)) (omega arith, omega arith)
+    at (no m) = λ e. rw (shape-past (r .kind) (omega arith)) (l, omega arith)
 
 pub rule-atom : (k : ℕ) → eqb (ruleOf k) 240 ≡ isAtom k
 unfolding shapeOf

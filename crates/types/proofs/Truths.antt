@@ -6,7 +6,7 @@
 --   truth-statement, belongs-statement            at a chained statement
 --   belongs-some, belongs-all                     at a restriction
 --   rank-mono, rank-next, rank-same               atoms are numbered in record order
---   atom-within, rank-below                       an atom's number is below their count
+--   atom-within, rank-below, rank-bound           an atom's number is below their count, and no more than its record's
 -- Assumes nothing.
 use Prim.Native.Nat.{ℕ, zero, suc, _+_, _≤_, _<_}
 use native.Mathlib.Omega.{arith}
@@ -28,6 +28,7 @@ use Rattle.types.specs.Meaning.{Interpretation, Restriction, some, all, 
 use Rattle.types.specs.Meaning.{atomAt, extensionRule, belongs}
 use Rattle.types.specs.Types.{rank, atoms, truthRule, truth}
 use Rattle.types.proofs.InOrder.{Local, in-order}
+use Rattle.types.proofs.Bits.{digit-small}
 
 -- The atom's own truth matters to atoms only, and of the operands what they say.
 pub connect-cong : (i : ℕ) (c : Construct) (x y : Bool) (f g : ℕ → Bool) → (atomic c ≡ true → x ≡ y) → Earlier i c
@@ -203,6 +204,12 @@ module _ (v : List ℕ) where
 
   pub rank-below : (i : ℕ) → i < count v → isAtom (recordAt v i .kind) ≡ true → rank v i < atoms v
   rank-below i h e = rank-less i (count v) h e
+
+-- No record counts as two atoms.
+pub rank-bound : (v : List ℕ) (i : ℕ) → rank v i ≤ i
+unfolding rank
+rank-bound v zero = omega arith
+rank-bound v (suc i) = omega (arith, rank-bound v i, digit-small (isAtom (recordAt v i .kind)))
 
 -- There is no atom past the end.
 pub atom-within : (v : List ℕ) → Accepted v → (i : ℕ) → isAtom (recordAt v i .kind) ≡ true → i < count v

@@ -7,6 +7,7 @@ use mathlib.Core.List.{List, [], _∷_}
 use lib.ListN.{getD}
 use Rattle.records.specs.Format.{recordAt, count}
 use Rattle.types.specs.Below.{allBelow, digit, bit}
+use Rattle.types.specs.Types.{rank}
 
 -- A kind's rule as a number of eight bits, and whether A and B are operands.
 pub record Shape : Type 0 where
@@ -38,8 +39,9 @@ shapeOf kind = getD shapes kind (shape 0 false false)
 abbrev pub ruleOf : ℕ → ℕ
 ruleOf kind = shapeOf kind .rule
 
-abbrev pub firstOf : ℕ → ℕ → ℕ
-firstOf kind a = cond (shapeOf kind .first) a 0
+-- A where it is an operand; else n, the number of atoms before the record, so that an atom finds its own bit.
+abbrev pub firstOf : ℕ → ℕ → ℕ → ℕ
+firstOf kind a n = cond (shapeOf kind .first) a n
 
 abbrev pub secondOf : ℕ → ℕ → ℕ
 secondOf kind b = cond (shapeOf kind .second) b 0
@@ -51,7 +53,7 @@ select rule x y z = bit rule (digit x + 2 * digit y + 4 * digit z)
 -- Tables that hold each record's rule and operands.
 pub record Decoded (v rules firsts seconds : List ℕ) : Type 0 where
   pub rule-at : (i : ℕ) → i < count v → getD rules i 0 ≡ ruleOf (recordAt v i .kind)
-  pub first-at : (i : ℕ) → i < count v → getD firsts i 0 ≡ firstOf (recordAt v i .kind) (recordAt v i .a)
+  pub first-at : (i : ℕ) → i < count v → getD firsts i 0 ≡ firstOf (recordAt v i .kind) (recordAt v i .a) (rank v i)
   pub second-at : (i : ℕ) → i < count v → getD seconds i 0 ≡ secondOf (recordAt v i .kind) (recordAt v i .b)
 
 -- Each of n listed records is done true.

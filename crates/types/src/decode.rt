@@ -1,6 +1,8 @@
 // Each record's truth rule and operands, read once for a call.
+use crate::truth::digit;
 use records::fields::Record;
 use records::fields::read_at;
+use records::kinds::is_atom;
 ghost use mathlib.Core.Path.{_≡_};
 ghost use Rattle.records.specs.Outcome.{accepted};
 ghost use Rattle.records.specs.Format.{count};
@@ -24,14 +26,14 @@ pub fn rule(kind: u8) -> u8
     }
 }
 
-// A where it is an operand, else 0.
-fn first_operand(kind: u8, a: u16) -> u16
-    ensures { λ r. ⌜ r ≡ firstOf kind a ⌝ }
+// A where it is an operand, else the number of atoms before the record.
+fn first_operand(kind: u8, a: u16, found: u16) -> u16
+    ensures { λ r. ⌜ r ≡ firstOf kind a found ⌝ }
 {
     match kind {
         4..=6 => a,
         9 => a,
-        _ => 0,
+        _ => found,
     }
 }
 
@@ -60,12 +62,14 @@ pub fn decode(v: &[u8]) -> Rules
     let mut rules = [0; Record::LIMIT];
     let mut firsts = [0; Record::LIMIT];
     let mut seconds = [0; Record::LIMIT];
+    let mut found = 0;
     let mut i = 0;
     while i < records {
         let fields = read_at(v, i);
         rules[i] = rule(fields.kind);
-        firsts[i] = first_operand(fields.kind, fields.a);
+        firsts[i] = first_operand(fields.kind, fields.a, found);
         seconds[i] = second_operand(fields.kind, fields.b);
+        found += digit(is_atom(fields.kind));
         i += 1;
     }
     Rules {

@@ -46,7 +46,8 @@ fn apply(rule: u8, x: bool, y: bool, z: bool) -> bool
     (rule as u16 >> index) % 2 == 1
 }
 
-// Each record's truth at type t, filled in record order. `rest` holds the bits of the atoms still to come.
+// Each record's truth at type t, filled in record order. An atom's first number is the place of its bit; the bit of another
+// record does not matter, so that no record waits for the one before.
 pub fn truths(
     v: &[u8],
     rules: &[u8; Record::LIMIT],
@@ -56,20 +57,17 @@ pub fn truths(
 ) -> [bool; Record::LIMIT]
     requires { ⌜ vocabularyCheck (now v) ≡ accepted (count (now v)) ⌝ }
     requires { ⌜ Decoded (now v) (now rules) (now firsts) (now seconds) ⌝ }
+    requires { ⌜ atoms (now v) ≤ 16 ⌝ }
     ensures { λ r. ⌜ ((i : ℕ) → i < count (now (v .entry)) → getD r i false ≡ truth (now (v .entry)) t i) ⌝ }
 {
     let records = v.len() / Record::SIZE;
     let mut done = [false; Record::LIMIT];
-    let mut rest = t;
     let mut i = 0;
     while i < records {
         let first = firsts[i] as usize;
         let second = seconds[i] as usize;
-        let bit = rest % 2 == 1;
+        let bit = (t >> (first % 16)) % 2 == 1;
         done[i] = apply(rules[i], done[first], done[second], bit);
-        if rules[i] == 240 {
-            rest = rest / 2;
-        }
         i += 1;
     }
     done

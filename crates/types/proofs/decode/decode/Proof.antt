@@ -1,30 +1,35 @@
--- `types::decode::decode` meets its contract. The loop's invariant: the three tables are right below `i`.
+-- `types::decode::decode` meets its contract. The loop's invariant: the three tables are right below `i`, before which there are `found` atoms.
 -- Assumes nothing.
-use Prim.Native.Nat.{ℕ, _-_, _≤_, _<_}
+use Prim.Native.Nat.{ℕ, _+_, _-_, _≤_, _<_}
 use native.Mathlib.Omega.{arith}
 use mathlib.Core.List.{List}
-use mathlib.Core.Path.{_≡_, refl, ap, _∙_}
+use mathlib.Core.Path.{_≡_, refl, sym, ap, _∙_}
 use borrow.Author.Needs.{needs}
 use denote.Ref.{now}
 use Rattle.records.proofs.Accepted.{accepted-vocabulary}
 use Rattle.records.specs.Format.{count, recordAt}
 use Rattle.records.specs.declared.fields.Record.{Record}
+use Rattle.records.specs.Kinds.{isAtom}
 use Rattle.types.specs.Rules.{ruleOf, firstOf, secondOf}
-use Rattle.types.proofs.Turns.{Filled, fill-start, fill-turn}
+use Rattle.types.specs.Types.{rank}
+use Rattle.types.proofs.Bits.{digit-small}
+use Rattle.types.proofs.Truths.{rank-bound}
+use Rattle.types.proofs.Turns.{Filled, fill-start, fill-turn, rank-turn}
 use Rattle.types.proofs.decode.decode.Statement.{statement}
 use Rattle.types.proofs.decode.decode.Tie as tie
 
-record Decoding (v rules firsts seconds : List ℕ) (i : ℕ) : Type 0 where
+record Decoding (v rules firsts seconds : List ℕ) (found i : ℕ) : Type 0 where
   within : i ≤ count v
+  found-at : found ≡ rank v i
   rules-filled : Filled 0 512 rules (λ j. ruleOf (recordAt v j .kind)) i
-  firsts-filled : Filled 0 512 firsts (λ j. firstOf (recordAt v j .kind) (recordAt v j .a)) i
+  firsts-filled : Filled 0 512 firsts (λ j. firstOf (recordAt v j .kind) (recordAt v j .a) (rank v j)) i
   seconds-filled : Filled 0 512 seconds (λ j. secondOf (recordAt v j .kind) (recordAt v j .b)) i
 
 abbrev Inv-loop : tie.InvT-loop
-Inv-loop v records rules₀ firsts₀ seconds₀ i₀ rules firsts seconds i = Decoding v rules firsts seconds i
+Inv-loop v records rules₀ firsts₀ seconds₀ found₀ i₀ rules firsts seconds found i = Decoding v rules firsts seconds found i
 
 abbrev μ-loop : tie.MeasureT-loop
-μ-loop v records rules₀ firsts₀ seconds₀ i₀ rules firsts seconds i = count v - i
+μ-loop v records rules₀ firsts₀ seconds₀ found₀ i₀ rules firsts seconds found i = count v - i
 
 -- the record is in the tables
 inside : (c : tie.In-loop Inv-loop μ-loop) → c .before .loop .i < 512
@@ -36,9 +41,11 @@ inside c =
     )
 
 loop-holds : tie.Need-loop-holds Inv-loop μ-loop
+unfolding rank
 loop-holds c =
     record {
       within = omega arith;
+      found-at = refl;
       rules-filled = fill-start _ _ _ _ refl;
       firsts-filled = fill-start _ _ _ _ refl;
       seconds-filled = fill-start _ _ _ _ refl;
@@ -71,33 +78,44 @@ mul-seconds c = omega (arith, inside (c .before .before .before .before))
 array-write-seconds : tie.Need-array-write-seconds Inv-loop μ-loop
 array-write-seconds c = inside (c .before .before .before .before)
 
+is-atom-requires : tie.Need-is-atom-requires Inv-loop μ-loop
+is-atom-requires c κs = search needs
+
+digit-requires : tie.Need-digit-requires Inv-loop μ-loop
+digit-requires c κs = search needs
+
+add-found : tie.Need-add-found Inv-loop μ-loop
+add-found c =
+    let w = c .before .before .before .before .before .before in
+    let l = w .before .loop in
+    let v = now (w .before .before .before .args .v) in
+    omega (arith, inside w, l .inv .found-at, rank-bound v (l .i), digit-small (c .before .is-atom .result), c .digit .ensures)
+
 add-i : tie.Need-add-i Inv-loop μ-loop
-add-i c = omega (arith, inside (c .before .before .before .before))
+add-i c = omega (arith, inside (c .before .before .before .before .before .before))
 
 loop-less : tie.Need-loop-less Inv-loop μ-loop
 loop-less c = omega arith
 
 loop-again : tie.Need-loop-again Inv-loop μ-loop
 loop-again c =
-    let l = c .before .before .before .before .before .loop in
+    let r = c .before .before .before .before .before in
+    let l = r .before .before .loop in
+    let b = r .before .before .before .before in
+    let v = now (b .args .v) in
     let w = l .inv in
-    let at : l .i < 512 = omega (
-      arith,
-      w .within,
-      (accepted-vocabulary
-          (now (c .before .before .before .before .before .before .before .args .v)) _
-          (c .before .before .before .before .before .before .before .pre)) .sized .most,
-    ) in record {
+    let at : l .i < 512 = omega (arith, w .within, accepted-vocabulary v _ (b .pre) .sized .most) in
+    let read = r .read-at .ensures in record {
       within = omega arith;
+      found-at = ap (λ (n : ℕ). l .found + n) (c .digit .ensures) ∙ rank-turn v (l .i) (l .found) _ (w .found-at)
+          (sym (c .before .is-atom .ensures ∙ ap (λ (r : Record). isAtom (r .kind)) read));
       rules-filled = fill-turn _ _ _ _ _ _ at (w .rules-filled)
-          (c .before .before .rule .ensures ∙ ap (λ (r : Record). ruleOf (r .kind))
-          (c .before .before .before .read-at .ensures));
+          (c .before .before .before .before .rule .ensures ∙ ap (λ (r : Record). ruleOf (r .kind)) read);
       firsts-filled = fill-turn _ _ _ _ _ _ at (w .firsts-filled)
-          (c .before .first-operand .ensures ∙ ap (λ (r : Record). firstOf (r .kind) (r .a))
-          (c .before .before .before .read-at .ensures));
+          (c .before .before .before .first-operand .ensures ∙ ap (λ (r : Record). firstOf (r .kind) (r .a) (l .found)) read
+          ∙ ap (firstOf (recordAt v (l .i) .kind) (recordAt v (l .i) .a)) (w .found-at));
       seconds-filled = fill-turn _ _ _ _ _ _ at (w .seconds-filled)
-          (c .second-operand .ensures ∙ ap (λ (r : Record). secondOf (r .kind) (r .b))
-          (c .before .before .before .read-at .ensures));
+          (c .before .before .second-operand .ensures ∙ ap (λ (r : Record). secondOf (r .kind) (r .b)) read);
     }
 
 returns : tie.Need-returns Inv-loop μ-loop
@@ -125,6 +143,9 @@ decode-spec =
     second-operand-requires
     mul-seconds
     array-write-seconds
+    is-atom-requires
+    digit-requires
+    add-found
     add-i
     loop-less
     loop-again

@@ -11,7 +11,7 @@ use Rattle.types.proofs.profile.profile_of.Statement.{statement}
 use Rattle.types.proofs.profile.profile_of.Tie as tie
 
 truths-requires : tie.Need-truths-requires
-truths-requires c κs = (c .before .pre .0 .accepts, c .before .pre .0 .decoded)
+truths-requires c κs = let p = c .before .pre .0 in (p .accepts, (p .decoded, omega (arith, p .few)))
 
 statements-hold-requires : tie.Need-statements-hold-requires
 statements-hold-requires c κs =

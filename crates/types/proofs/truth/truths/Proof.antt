@@ -1,64 +1,61 @@
--- `types::truth::truths` meets its contract. The loop's invariant: the truths are right below `i`, and `rest` has the
--- bits of the atoms from there on.
+-- `types::truth::truths` meets its contract. The loop's invariant: the truths are right below `i`.
 -- Assumes nothing.
-use Prim.Native.Nat.{_%_, ℕ, _+_, _-_, _/_, _^_, _≤_, _<_}
-use native.Mathlib.Numerals.{add-one}
+use Prim.Native.Nat.{ℕ, _-_, _%_, _≤_, _<_}
 use native.Mathlib.Omega.{arith}
 use mathlib.Core.Bool.{Bool, true, false}
 use mathlib.Core.List.{List}
-use mathlib.Core.Logic.{⊎-elim}
-use mathlib.Core.Path.{_≡_, refl, sym, ap, _∙_}
-use lib.Dec.{eqb}
+use mathlib.Core.Path.{_≡_, refl, sym, ap, ap₂, _∙_}
 use lib.ListN.{getD}
-use lib.Pow.{shr-shr}
 use borrow.Author.Needs.{needs}
-use borrow.Author.Tests.{eq-eqb, ne-eqb}
 use denote.Ref.{now}
 use Rattle.records.proofs.Accepted.{Accepted, accepted-vocabulary}
-use Rattle.records.proofs.Constructs.{construct-earlier}
+use Rattle.records.proofs.Constructs.{construct-earlier, construct-atom}
 use Rattle.records.specs.Format.{count, recordAt}
-use Rattle.records.specs.Kinds.{constructOf}
-use Rattle.types.specs.Below.{bit, digit}
-use Rattle.types.specs.Rules.{Decoded, select}
-use Rattle.types.specs.Types.{rank, truth}
-use Rattle.types.proofs.Connects.{rule-connects, operands-earlier, rule-atom}
-use Rattle.types.proofs.Truths.{truth-eq, connect-cong}
+use Rattle.records.specs.Kinds.{constructOf, isAtom}
+use Rattle.types.specs.Below.{bit}
+use Rattle.types.specs.Rules.{Decoded, select, ruleOf, secondOf}
+use Rattle.types.specs.Types.{rank, atoms, truth}
+use Rattle.types.proofs.Connects.{rule-connects, operands-earlier, first-atom}
+use Rattle.types.proofs.Truths.{truth-eq, connect-cong, rank-below, rank-bound}
 use Rattle.types.proofs.Turns.{Filled, fill-start, fill-turn}
 use Rattle.types.proofs.truth.truths.Statement.{statement}
 use Rattle.types.proofs.truth.truths.Tie as tie
 
-record Filling (v : List ℕ) (t : ℕ) (done : List Bool) (rest i : ℕ) : Type 0 where
+record Filling (v : List ℕ) (t : ℕ) (done : List Bool) (i : ℕ) : Type 0 where
   within : i ≤ count v
-  left : rest ≡ t / 2 ^ rank v i
   filled : Filled false 512 done (truth v t) i
 
-module _ (v rules firsts seconds : List ℕ) (good : Accepted v) (d : Decoded v rules firsts seconds) (t : ℕ) where
+module _ (v rules firsts seconds : List ℕ) (good : Accepted v) (d : Decoded v rules firsts seconds) (few : atoms v ≤ 16)
+    (t : ℕ) where
+  -- an atom's first number is the place of its bit
+  place : (i : ℕ) → i < count v → isAtom (recordAt v i .kind) ≡ true → getD firsts i 0 % 16 ≡ rank v i
+  place i h e =
+      ap (λ (n : ℕ). n % 16) (d .first-at i h ∙ first-atom (recordAt v i .a) (rank v i) (recordAt v i .kind) e)
+      ∙ small (rank v i) (omega (arith, rank-below v i h e))
+    where
+      small : (n : ℕ) → n < 16 → n % 16 ≡ n
+      small n l = omega arith
+
   -- the rule gives the truth
-  next : (done : List Bool) (rest i : ℕ) → Filling v t done rest i → i < count v
-      → select (getD rules i 0) (getD done (getD firsts i 0) false) (getD done (getD seconds i 0) false) (eqb (rest % 2) 1) ≡
-      truth v t i
-  unfolding bit
-  next done rest i f h =
-      rw (d .rule-at i h, d .first-at i h, d .second-at i h, f .left)
-      (rule-connects (recordAt v i) (bit t (rank v i)) (λ j. getD done j false)
-      ∙ connect-cong i (constructOf (recordAt v i)) (bit t (rank v i)) (bit t (rank v i)) (λ j. getD done j false) (truth v t)
-      (λ a. refl) (construct-earlier v good i) (f .filled .right)
-      ∙ sym (truth-eq v good t i))
-
-  -- the rule tells an atom
-  atom : (i : ℕ) → i < count v → (b : Bool) → eqb (getD rules i 0) 240 ≡ b → rank v (i + 1) ≡ rank v i + digit b
-  unfolding rank
-  atom i h b e = rw (add-one i) (ap (λ (x : Bool). rank v i + digit x)
-      (sym (rule-atom (recordAt v i .kind)) ∙ ap (λ (x : ℕ). eqb x 240) (sym (d .rule-at i h)) ∙ e))
-
-  halved : (rest i : ℕ) → rest ≡ t / 2 ^ rank v i → rank v (i + 1) ≡ rank v i + 1 → rest / 2 ≡ t / 2 ^ rank v (i + 1)
-  halved rest i e r = rw (e, r) (shr-shr t (rank v i) 1)
+  next : (done : List Bool) (i : ℕ) → Filling v t done i → i < count v
+      → select (getD rules i 0) (getD done (getD firsts i 0) false) (getD done (getD seconds i 0) false)
+      (bit t (getD firsts i 0 % 16)) ≡ truth v t i
+  next done i f h =
+      ap₂ (λ (r s : ℕ). select r (getD done (getD firsts i 0) false) (getD done s false) (bit t (getD firsts i 0 % 16)))
+      (d .rule-at i h) (d .second-at i h)
+      ∙ ap (λ (n : ℕ). select (ruleOf (recordAt v i .kind)) (getD done n false)
+      (getD done (secondOf (recordAt v i .kind) (recordAt v i .b)) false) (bit t (getD firsts i 0 % 16))) (d .first-at i h)
+      ∙ rule-connects (recordAt v i) (rank v i) (bit t (getD firsts i 0 % 16)) (λ j. getD done j false)
+      ∙ connect-cong i (constructOf (recordAt v i)) (bit t (getD firsts i 0 % 16)) (bit t (rank v i))
+      (λ j. getD done j false) (truth v t)
+      (λ a. ap (bit t) (place i h (construct-atom (recordAt v i) ∙ a))) (construct-earlier v good i) (f .filled .right)
+      ∙ sym (truth-eq v good t i)
 
 abbrev Inv-loop : tie.InvT-loop
-Inv-loop v rules firsts seconds t records done₀ rest₀ i₀ done rest i = Filling v t done rest i
+Inv-loop v rules firsts seconds t records done₀ i₀ done i = Filling v t done i
 
 abbrev μ-loop : tie.MeasureT-loop
-μ-loop v rules firsts seconds t records done₀ rest₀ i₀ done rest i = count v - i
+μ-loop v rules firsts seconds t records done₀ i₀ done i = count v - i
 
 -- the record is in the tables, and its operands no later
 inside : (c : tie.In-loop Inv-loop μ-loop) → c .before .loop .i < 512
@@ -76,14 +73,13 @@ operands c =
     let p = c .before .before .before .pre in
     let v = now (c .before .before .before .args .v) in
     let i = c .before .loop .i in
-    let early = operands-earlier (recordAt v i) i (construct-earlier v (accepted-vocabulary v _ (p .0)) i) in (
-      omega (arith, inside c, p .1 .first-at i (c .loop-test .taken), early .0),
-      omega (arith, inside c, p .1 .second-at i (c .loop-test .taken), early .1),
+    let early = operands-earlier (recordAt v i) i (rank v i) (rank-bound v i) (construct-earlier v (accepted-vocabulary v _ (p .0)) i) in (
+      omega (arith, inside c, p .1 .0 .first-at i (c .loop-test .taken), early .0),
+      omega (arith, inside c, p .1 .0 .second-at i (c .loop-test .taken), early .1),
     )
 
 loop-holds : tie.Need-loop-holds Inv-loop μ-loop
-unfolding rank
-loop-holds c = record { within = omega arith; left = omega arith; filled = fill-start _ _ _ _ refl }
+loop-holds c = record { within = omega arith; filled = fill-start _ _ _ _ refl }
 
 mul-first : tie.Need-mul-first Inv-loop μ-loop
 mul-first c = omega (arith, inside c)
@@ -103,6 +99,9 @@ element-copy-out-second c = inside (c .before)
 cast-second : tie.Need-cast-second Inv-loop μ-loop
 cast-second c = omega (arith, operands (c .before .before) .1)
 
+shr-bit : tie.Need-shr-bit Inv-loop μ-loop
+shr-bit c = omega arith
+
 element-copy-out-apply : tie.Need-element-copy-out-apply Inv-loop μ-loop
 element-copy-out-apply c = inside (c .before .before)
 
@@ -118,35 +117,24 @@ apply-requires c κs = search needs
 array-write-done : tie.Need-array-write-done Inv-loop μ-loop
 array-write-done c = inside (c .before .before .before .before)
 
-element-copy-out-if1 : tie.Need-element-copy-out-if1 Inv-loop μ-loop
-element-copy-out-if1 c = inside (c .before .before .before .before)
-
 add-i : tie.Need-add-i Inv-loop μ-loop
-add-i c = omega (arith, inside (c .before .before .before .before .before .before))
+add-i c = omega (arith, inside (c .before .before .before .before))
 
 loop-less : tie.Need-loop-less Inv-loop μ-loop
-loop-less c = omega (arith, c .before .before .before .before .before .before .before .loop .inv .within)
+loop-less c = omega (arith, c .before .before .before .before .before .loop .inv .within)
 
 loop-again : tie.Need-loop-again Inv-loop μ-loop
+unfolding bit
 loop-again c =
-    let l = c .before .before .before .before .before .before .before .loop in
-    let p = c .before .before .before .before .before .before .before .before .before .pre in
-    let a = c .before .before .before .before .before .before .before .before .before .args in
-    let w = l .inv in
-    let rules = now (a .rules) in
-    let atom-at = atom (now (a .v)) rules (now (a .firsts)) (now (a .seconds))
-    (accepted-vocabulary (now (a .v)) _ (p .0)) (p .1) (a .t) (l .i)
-    (c .before .before .before .before .before .before .loop-test .taken) in record {
-      within = omega (arith, w .within);
-      left = ⊎-elim (λ x. x .1 ∙ halved (now (a .v)) rules (now (a .firsts))
-          (now (a .seconds)) (accepted-vocabulary (now (a .v)) _ (p .0)) (p .1) (a .t) _ (l .i) (w .left)
-          (atom-at true (eq-eqb _ 240 (x .0 .taken)))) (λ x. x .1 ∙ w .left ∙ ap (λ (n : ℕ). a .t / 2 ^ n)
-          (omega (arith, atom-at false (ne-eqb _ 240 (x .0 .left))))) (c .if1 .came);
-      filled = fill-turn _ _ _ _ _ _
-          (omega (arith, l .inv .within, (accepted-vocabulary (now (a .v)) _ (p .0)) .sized .most)) (w .filled)
-          (c .before .before .apply .ensures ∙ next (now (a .v)) rules (now (a .firsts)) (now (a .seconds))
-          (accepted-vocabulary (now (a .v)) _ (p .0)) (p .1) (a .t) _ _ (l .i) w
-          (c .before .before .before .before .before .before .loop-test .taken));
+    let w = c .before .before .before .before in
+    let l = w .before .loop in
+    let a = w .before .before .before .args in
+    let p = w .before .before .before .pre in
+    let good = accepted-vocabulary (now (a .v)) _ (p .0) in record {
+      within = omega (arith, l .inv .within);
+      filled = fill-turn _ _ _ _ _ _ (omega (arith, l .inv .within, good .sized .most)) (l .inv .filled)
+          (c .apply .ensures ∙ next (now (a .v)) (now (a .rules)) (now (a .firsts)) (now (a .seconds)) good (p .1 .0) (p .1 .1)
+          (a .t) _ (l .i) (l .inv) (w .loop-test .taken));
     }
 
 returns : tie.Need-returns Inv-loop μ-loop
@@ -165,12 +153,12 @@ truths-spec =
     mul-second
     element-copy-out-second
     cast-second
+    shr-bit
     element-copy-out-apply
     array-read-apply
     array-read-apply-2
     apply-requires
     array-write-done
-    element-copy-out-if1
     add-i
     loop-less
     loop-again
