@@ -89,6 +89,56 @@ fn links<T>(read: &[Linked<T>]) -> Vec<u16> {
     read.iter().enumerate().map(link).collect()
 }
 
+/// The records of a text whose header is read: `read` takes a line, with the records before it, and `set` gives the record
+/// of a number its link. A record that is not linked, as a term, keeps what is written.
+fn read_records<'a, T: Copy>(
+    header: Linked<T>,
+    lines: impl Iterator<Item = Cursor<'a>>,
+    read: impl Fn(&mut Cursor, &[T]) -> Result<Linked<T>, Fault>,
+    set: impl Fn(&mut T, usize, u16),
+) -> Result<Vec<T>, Fault> {
+    let mut records = vec![header.record];
+    let mut all = vec![header];
+    for mut line in lines {
+        own_number(&mut line, all.len())?;
+        let linked = read(&mut line, &records)?;
+        line.end()?;
+        records.push(linked.record);
+        all.push(linked);
+    }
+    for (number, link) in links(&all).into_iter().enumerate() {
+        let is_linked = number == 0 || all.get(number).is_some_and(|linked| linked.on || linked.link.is_some());
+        if let Some(record) = records.get_mut(number).filter(|_| is_linked) {
+            set(record, number, link);
+        }
+    }
+    Ok(records)
+}
+
+/// The first record after the header that is equal to this.
+fn find<T: PartialEq>(records: &[T], wanted: &T) -> Option<usize> {
+    let after_header = records.iter().skip(1).position(|record| record == wanted);
+    after_header.map(|place| place + 1)
+}
+
+/// A text of the header's line and the lines of the other records.
+fn whole(header: &str, records: usize, line: impl Fn(usize) -> String) -> String {
+    let mut text = format!("{header}\n");
+    for number in 1..records {
+        text.push_str(&format!("{number}: {}\n", line(number)));
+    }
+    text
+}
+
+/// The line of a statement or step.
+fn linked_line(text: &str, chained: &[bool], number: usize, link: u16) -> String {
+    if chained.get(number) == Some(&true) {
+        let default = crate::chain::default_link(chained, number);
+        return format!("{text}{}", link_words("next", link, default));
+    }
+    format!("off {text}{}", link_words("next", link, 0))
+}
+
 /// The end of a line that says where a link leads, where `links` would not find it.
 fn link_words(word: &str, link: u16, default: u16) -> String {
     if link == default {

@@ -1,7 +1,7 @@
 //! Scripts as text.
 
 use super::cursor::{Cursor, Fault};
-use super::{link_words, links, own_number, Linked, NESTING, WRITTEN_OUT};
+use super::{find, link_words, linked_line, read_records, whole, Linked, NESTING, WRITTEN_OUT};
 use crate::chain::default_link;
 use crate::script::{bytes, chained, Entry, Extension, Words, HEADER_WORD};
 
@@ -35,7 +35,7 @@ impl Written {
     fn term_text(&self, number: usize) -> Option<String> {
         let words = self.get(number);
         let entry = Entry::read(words).filter(|entry| number > 0 && !entry.is_step())?;
-        if find(&self.records, entry) != Some(number) {
+        if find(&self.records, &entry.words(0)) != Some(number) {
             return None;
         }
         Some(self.entry_text(number, entry)).filter(|text| text.len() <= WRITTEN_OUT)
@@ -105,20 +105,12 @@ impl Written {
         if !entry.is_step() {
             return text;
         }
-        if self.chained.get(number) == Some(&true) {
-            let link = link_words("next", next, default_link(&self.chained, number));
-            return format!("{text}{link}");
-        }
-        format!("off {text}{}", link_words("next", next, 0))
+        linked_line(&text, &self.chained, number, next)
     }
 
     /// The whole text.
     pub fn text(&self) -> String {
-        let mut text = self.header() + "\n";
-        for number in 1..self.records.len() {
-            text.push_str(&format!("{number}: {}\n", self.line(number)));
-        }
-        text
+        whole(&self.header(), self.records.len(), |number| self.line(number))
     }
 }
 
@@ -128,36 +120,14 @@ fn raw(words: Words) -> String {
     format!("raw {}", words.join(" "))
 }
 
-/// The first record after the header that says this term.
-fn find(records: &[Words], wanted: Entry) -> Option<usize> {
-    let words = wanted.words(0);
-    let mut after_header = records.iter().enumerate().skip(1);
-    after_header
-        .find(|(_, record)| **record == words)
-        .map(|(number, _)| number)
-}
-
 /// The bytes of a script's text, of whose header the first word is taken.
 pub fn read<'a>(header: Cursor<'a>, lines: impl Iterator<Item = Cursor<'a>>) -> Result<Vec<u8>, Fault> {
-    let mut read = vec![read_header(header)?];
-    let mut records = vec![Words::default()];
-    for mut line in lines {
-        own_number(&mut line, read.len())?;
-        let linked = read_record(&mut line, &records)?;
-        line.end()?;
-        records.push(linked.record);
-        read.push(linked);
-    }
-    let links = links(&read);
-    for (number, (linked, link)) in read.iter_mut().zip(links).enumerate() {
-        let [_, _, _, first, .., next] = &mut linked.record;
-        match number {
-            0 => *first = link,
-            _ if linked.on || linked.link.is_some() => *next = link,
-            _ => {}
-        }
-    }
-    Ok(read.iter().flat_map(|linked| bytes(&linked.record)).collect())
+    let set_link = |[_, _, _, first, .., next]: &mut Words, number: usize, link: u16| match number {
+        0 => *first = link,
+        _ => *next = link,
+    };
+    let records = read_records(read_header(header)?, lines, read_record, set_link)?;
+    Ok(records.iter().flat_map(bytes).collect())
 }
 
 fn read_header(mut line: Cursor) -> Result<Linked<Words>, Fault> {
@@ -277,6 +247,6 @@ fn term(line: &mut Cursor, before: &[Words], nesting: usize) -> Result<u16, Faul
     }
     let fault = line.fault("no earlier line says this term; give it a line of its own before, or name a record, as #2");
     let entry = read_term(line, before, nesting)?;
-    let found = find(before, entry).and_then(|number| u16::try_from(number).ok());
+    let found = find(before, &entry.words(0)).and_then(|number| u16::try_from(number).ok());
     found.ok_or(fault)
 }

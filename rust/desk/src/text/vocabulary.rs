@@ -1,7 +1,7 @@
 //! Vocabularies as text, in OWL 2 functional syntax where a record has a form there.
 
 use super::cursor::{Cursor, Fault};
-use super::{link_words, links, own_number, Linked, NESTING, WRITTEN_OUT};
+use super::{find, link_words, linked_line, read_records, whole, Linked, NESTING, WRITTEN_OUT};
 use crate::chain::default_link;
 use crate::json::Json;
 use crate::report::plain;
@@ -48,7 +48,7 @@ impl Written {
     /// The text of a term as an operand: written out where it is short and no earlier record says the same.
     fn operand_text(&self, number: usize) -> Option<String> {
         let record = self.vocabulary.get(number);
-        if !record.is_term() || find(&self.vocabulary.records, record) != Some(number) {
+        if !record.is_term() || find(&self.vocabulary.records, &record) != Some(number) {
             return None;
         }
         self.expression(number).filter(|text| text.len() <= WRITTEN_OUT)
@@ -122,20 +122,14 @@ impl Written {
         if record.kind != STATEMENT_KIND {
             return text;
         }
-        if self.chained.get(number) == Some(&true) {
-            let link = link_words("next", record.next, default_link(&self.chained, number));
-            return format!("{text}{link}");
-        }
-        format!("off {text}{}", link_words("next", record.next, 0))
+        linked_line(&text, &self.chained, number, record.next)
     }
 
     /// The whole text.
     pub fn text(&self) -> String {
-        let mut text = self.header() + "\n";
-        for number in 1..self.vocabulary.records.len() {
-            text.push_str(&format!("{number}: {}\n", self.line(number)));
-        }
-        text
+        whole(&self.header(), self.vocabulary.records.len(), |number| {
+            self.line(number)
+        })
     }
 }
 
@@ -147,35 +141,14 @@ fn raw(record: Record) -> String {
     )
 }
 
-/// The first record after the header that is equal to this.
-fn find(records: &[Record], wanted: Record) -> Option<usize> {
-    let mut after_header = records.iter().enumerate().skip(1);
-    after_header
-        .find(|(_, record)| **record == wanted)
-        .map(|(number, _)| number)
-}
-
 /// The bytes of a vocabulary's text, of whose header the first word is taken.
 pub fn read<'a>(header: Cursor<'a>, lines: impl Iterator<Item = Cursor<'a>>) -> Result<Vec<u8>, Fault> {
-    let mut read = vec![read_header(header)?];
-    let mut records = vec![Record::default()];
-    for mut line in lines {
-        own_number(&mut line, read.len())?;
-        let linked = read_record(&mut line, &records)?;
-        line.end()?;
-        records.push(linked.record);
-        read.push(linked);
-    }
-    let links = links(&read);
-    for (number, (linked, link)) in read.iter_mut().zip(links).enumerate() {
-        match linked.record {
-            // Of a raw record the link is a field as it is written.
-            _ if linked.link.is_none() && !linked.on && number > 0 => {}
-            _ if number == 0 => linked.record.a = link,
-            _ => linked.record.next = link,
-        }
-    }
-    Ok(read.iter().flat_map(|linked| linked.record.bytes()).collect())
+    let set_link = |record: &mut Record, number: usize, link: u16| match number {
+        0 => record.a = link,
+        _ => record.next = link,
+    };
+    let records = read_records(read_header(header)?, lines, read_record, set_link)?;
+    Ok(records.into_iter().flat_map(Record::bytes).collect())
 }
 
 fn read_header(mut line: Cursor) -> Result<Linked<Record>, Fault> {
@@ -307,6 +280,6 @@ fn operand(line: &mut Cursor, before: &[Record], nesting: usize) -> Result<u16, 
     }
     let fault = line.fault("no earlier line says this term; give it a line of its own before, or name a record, as #7");
     let said = saying(line, before, nesting)?;
-    let found = find(before, said.record(0)).and_then(|number| u16::try_from(number).ok());
+    let found = find(before, &said.record(0)).and_then(|number| u16::try_from(number).ok());
     found.ok_or(fault)
 }
