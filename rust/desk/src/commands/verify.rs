@@ -8,6 +8,7 @@ use crate::report::{counted, Failure, Report, Status, Style};
 use crate::script;
 use crate::text::vocabulary::Written;
 use crate::trace;
+use judge::{Refusal, Rule};
 
 /// The options.
 pub const FLAGS: &[Flag] = &[
@@ -30,7 +31,7 @@ pub fn run(arguments: &Arguments, style: Style) -> Result<Report, Failure> {
         Err(refusal) if refusal.rule.number() <= 8 => {
             Report::refused(style, &vocabulary.name, vocabulary.length, refusal)
         }
-        Err(refusal) => Report::refused(style, &script.name, script.length, refusal),
+        Err(refusal) => refused(style, &script, refusal),
     };
     if arguments.has("--trace") {
         if let Some(trace) = trace::of(&vocabulary.bytes, &script.bytes, verdict)? {
@@ -39,6 +40,15 @@ pub fn run(arguments: &Arguments, style: Style) -> Result<Report, Failure> {
         }
     }
     Ok(report)
+}
+
+/// The refusal of a script. It does not say for which vocabulary it is; what refers to records of another is refused.
+fn refused(style: Style, script: &Input, refusal: Refusal) -> Report {
+    let mut report = Report::refused(style, &script.name, script.length, refusal);
+    if matches!(refusal.rule, Rule::Query | Rule::Term | Rule::Step | Rule::Extension) {
+        report.text = format!("{}; is it a script for this vocabulary?\n", report.text.trim_end());
+    }
+    report
 }
 
 fn accepted(style: Style, written: &Written, script: &Input, steps: u32) -> Report {
