@@ -107,6 +107,7 @@ pub fn refusal_json(refusal: Refusal) -> Json {
         ("number", Json::from(u64::from(refusal.rule.number()))),
         ("place", Json::from(u64::from(refusal.place))),
         ("words", Json::from(refusal.rule.words())),
+        ("condition", Json::from(refusal.rule.condition())),
     ])
 }
 

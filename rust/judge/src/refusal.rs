@@ -86,124 +86,114 @@ pub enum Rule {
 
 use Place::{Asked, Record, ScriptRecord, Whole};
 
-/// The table: rule, place, sentence, in the order of the numbers. include/judge.h has the same sentences.
-const TABLE: [(Rule, Place, &str); 25] = [
-    (
-        Rule::VocabularyLength,
-        Whole,
-        "the vocabulary's length is under 8, over 4,096 or no multiple of 8",
-    ),
-    (
-        Rule::Header,
-        Whole,
-        "the vocabulary's header has a wrong kind, second byte, role count or next",
-    ),
-    (
-        Rule::Kind,
-        Record,
-        "the record's kind is not 1 to 9, or its second byte is not 0",
-    ),
-    (Rule::UnusedField, Record, "an unused field of the record is not zero"),
-    (
-        Rule::TermNumber,
-        Record,
-        "a term number of the record does not name an earlier term",
-    ),
-    (Rule::Role, Record, "the record's role is not below the header's count"),
-    (Rule::Label, Record, "the name has the label of an earlier name"),
-    (
-        Rule::Link,
-        Record,
-        "the first statement, or a statement's next, is not 0 and not a later statement",
-    ),
-    (Rule::RecordNumber, Asked, "the record number is past the end"),
-    (Rule::Query, Asked, "the number asked about is no term record"),
-    (
-        Rule::Atoms,
-        Place::Atoms,
-        "the vocabulary has over 12 atoms, too many to compare",
-    ),
-    (Rule::Lent, Whole, "under 512 bytes are lent for the survivors"),
-    (
-        Rule::ScriptLength,
-        Whole,
-        "the script's length is under 16, over 32,768 or no multiple of 16",
-    ),
-    (
-        Rule::ScriptHeader,
-        Whole,
-        "the script's header has a wrong w0, or w4 to w7 are not zero",
-    ),
-    (Rule::ScriptKind, ScriptRecord, "the script record's kind is not 1 to 5"),
-    (
-        Rule::UnusedWord,
-        ScriptRecord,
-        "an unused word of the script record is not zero",
-    ),
-    (
-        Rule::Term,
-        ScriptRecord,
-        "the term record breaks the term rule, or record 1 is absent or not the constant",
-    ),
-    (
-        Rule::Step,
-        ScriptRecord,
-        "the step names a query column, owner, column, position or term that does not exist for it",
-    ),
-    (
-        Rule::StepLink,
-        ScriptRecord,
-        "the first step, or a step's next, is not 0 and not a later step",
-    ),
-    (
-        Rule::Start,
-        ScriptRecord,
-        "the chain has no first start, or a later one",
-    ),
-    (
-        Rule::Extension,
-        ScriptRecord,
-        "the extension's literal is not the complement of the goal",
-    ),
-    (
-        Rule::Reduction,
-        ScriptRecord,
-        "the reduction's frame is not below the last, or its goal is not the complement",
-    ),
-    (Rule::Frames, ScriptRecord, "the extension would open a 65th frame"),
-    (Rule::Open, ScriptRecord, "the chain ends with a frame left"),
-    (Rule::AllClosed, ScriptRecord, "a step follows after all is closed"),
+/// A row of the table.
+struct Row {
+    rule: Rule,
+    place: Place,
+    condition: &'static str,
+    words: &'static str,
+}
+
+const fn row(rule: Rule, place: Place, condition: &'static str, words: &'static str) -> Row {
+    Row {
+        rule,
+        place,
+        condition,
+        words,
+    }
+}
+
+/// The table, in the order of the numbers: the paper's condition, and a sentence, which include/judge.h has too.
+#[rustfmt::skip]
+const TABLE: [Row; 25] = [
+    row(Rule::VocabularyLength, Whole, "under 8, over 4,096 or no multiple of 8",
+        "the vocabulary's length is under 8, over 4,096 or no multiple of 8"),
+    row(Rule::Header, Whole, "kind, second byte, role count or next",
+        "the vocabulary's header has a wrong kind, second byte, role count or next"),
+    row(Rule::Kind, Record, "kind not 1 to 9, or second byte",
+        "the record's kind is not 1 to 9, or its second byte is not 0"),
+    row(Rule::UnusedField, Record, "unused field not zero",
+        "an unused field of the record is not zero"),
+    row(Rule::TermNumber, Record, "term number",
+        "a term number of the record does not name an earlier term"),
+    row(Rule::Role, Record, "role not below the count",
+        "the record's role is not below the header's count"),
+    row(Rule::Label, Record, "label of an earlier name",
+        "the name has the label of an earlier name"),
+    row(Rule::Link, Record, "not 0 and not a later statement",
+        "the first statement, or a statement's next, is not 0 and not a later statement"),
+    row(Rule::RecordNumber, Asked, "number past the end",
+        "the record number is past the end"),
+    row(Rule::Query, Asked, "no term record",
+        "the number asked about is no term record"),
+    row(Rule::Atoms, Place::Atoms, "k over 12",
+        "the vocabulary has over 12 atoms, too many to compare"),
+    row(Rule::Lent, Whole, "under 512 bytes lent",
+        "under 512 bytes are lent for the survivors"),
+    row(Rule::ScriptLength, Whole, "under 16, over 32,768 or no multiple of 16",
+        "the script's length is under 16, over 32,768 or no multiple of 16"),
+    row(Rule::ScriptHeader, Whole, "w0, or w4 to w7",
+        "the script's header has a wrong w0, or w4 to w7 are not zero"),
+    row(Rule::ScriptKind, ScriptRecord, "kind not 1 to 5",
+        "the script record's kind is not 1 to 5"),
+    row(Rule::UnusedWord, ScriptRecord, "unused word not zero",
+        "an unused word of the script record is not zero"),
+    row(Rule::Term, ScriptRecord, "term rule; record 1 absent or not the constant",
+        "the term record breaks the term rule, or record 1 is absent or not the constant"),
+    row(Rule::Step, ScriptRecord, "start's w1 over 1; extension's owner, column or position not one that exists, w3 or a \
+         needed w4 not an earlier term record, w3 not 1 for owner 0, w4 not 0 without y, or a \
+         statement off the chain",
+        "the step names a query column, owner, column, position or term that does not exist for it"),
+    row(Rule::StepLink, ScriptRecord, "not 0 and not a later step",
+        "the first step, or a step's next, is not 0 and not a later step"),
+    row(Rule::Start, ScriptRecord, "no first start, or a later one",
+        "the chain has no first start, or a later one"),
+    row(Rule::Extension, ScriptRecord, "extension not complementary",
+        "the extension's literal is not the complement of the goal"),
+    row(Rule::Reduction, ScriptRecord, "reduction frame or complement",
+        "the reduction's frame is not below the last, or its goal is not the complement"),
+    row(Rule::Frames, ScriptRecord, "a 65th frame",
+        "the extension would open a 65th frame"),
+    row(Rule::Open, ScriptRecord, "a frame left",
+        "the chain ends with a frame left"),
+    row(Rule::AllClosed, ScriptRecord, "step after all is closed",
+        "a step follows after all is closed"),
 ];
 
 impl Rule {
     /// The rule of a number.
     pub fn of(number: u8) -> Rule {
         let row = usize::from(number).checked_sub(1).and_then(|row| TABLE.get(row));
-        row.map_or(Rule::Unlisted(number), |(rule, ..)| *rule)
+        row.map_or(Rule::Unlisted(number), |row| row.rule)
     }
 
-    /// Its row of the table.
-    fn row(self) -> Option<(usize, &'static (Rule, Place, &'static str))> {
-        TABLE.iter().enumerate().find(|(_, (rule, ..))| *rule == self)
+    /// Its row of the table, with its number.
+    fn row(self) -> Option<(usize, &'static Row)> {
+        (1..).zip(&TABLE).find(|(_, row)| row.rule == self)
     }
 
     /// Its number.
     pub fn number(self) -> u8 {
         match (self, self.row()) {
             (Rule::Unlisted(number), _) => number,
-            (_, row) => row.map_or(0, |(row, _)| row as u8 + 1),
+            (_, row) => row.map_or(0, |(number, _)| number as u8),
         }
     }
 
     /// What the place of its refusals is.
     pub fn place(self) -> Place {
-        self.row().map_or(Whole, |(_, (_, place, _))| *place)
+        self.row().map_or(Whole, |(_, row)| row.place)
     }
 
-    /// The table's condition, as a sentence without its full stop.
+    /// Its condition, in the table's own words.
+    pub fn condition(self) -> &'static str {
+        self.row().map_or("", |(_, row)| row.condition)
+    }
+
+    /// The same as a sentence without its full stop, for people who do not have the table.
     pub fn words(self) -> &'static str {
         self.row()
-            .map_or("a refusal that the table does not have", |(_, (.., words))| words)
+            .map_or("a refusal that the table does not have", |(_, row)| row.words)
     }
 
     /// Whether the chain of a script that keeps the form decides it (20 to 25): the input is fit, and what it claims
