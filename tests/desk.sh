@@ -2,7 +2,7 @@
 # Tests the command `desk` as people call it. tests/desk.expected is a transcript: each line that begins with '$ ' is run
 # in a new directory, in order, and what it prints (both streams) and its exit status have to be what stands below it.
 # The examples of docs/DESK.md (indented lines) are run in the same way, over examples/.
-# On machines with `script`, what a terminal gets is tested, too: colours and the progress bar.
+# Where `script` can make a terminal, what that gets is tested, too: colours and the progress bar.
 # usage: desk.sh [DESK]           tests DESK (default: target/cargo/release/desk)
 #        desk.sh --write [DESK]   makes the transcript again; read the difference before you keep it
 set -eu
@@ -85,7 +85,7 @@ terminal() {
     if grep -q "$escape" "$work/out"; then found=yes; fi
     [ "$found" = "$wanted" ] || { echo "control sequences on a terminal: $found, of: $*" >&2; exit 1; }
 }
-if command -v script > /dev/null; then
+if script -qec true /dev/null < /dev/null > "$work/out" 2>&1; then
     terminal yes env TERM=xterm desk check v.vocabulary
     terminal no env TERM=dumb desk check v.vocabulary
     terminal no env TERM=xterm NO_COLOR=1 desk check v.vocabulary
@@ -95,5 +95,7 @@ if command -v script > /dev/null; then
     terminal no env TERM=dumb desk recheck long.table
     terminal yes env TERM=xterm desk recheck long.table
     grep -q '\[#\{15\}\.\{15\}\] 10000 of 20000 lines, 0 do not hold' "$work/out" || { echo "no progress bar" >&2; exit 1; }
+else
+    echo "desk: terminals are not tested, since \`script\` cannot make one here"
 fi
 echo "desk: $cases commands answer as tests/desk.expected says"
