@@ -90,7 +90,7 @@ if script -qec true /dev/null < /dev/null > "$work/out" 2>&1; then
     terminal no env TERM=dumb desk check v.vocabulary
     terminal no env TERM=xterm NO_COLOR=1 desk check v.vocabulary
     terminal no env TERM=xterm desk check v.vocabulary --json
-    terminal no env TERM=xterm desk check "'$escape[31mred'"
+    terminal no env TERM=xterm desk check "'${escape}[31mred'"
     yes 'v.vocabulary 4 3 different' | head -20000 > long.table
     terminal no env TERM=dumb desk recheck long.table
     terminal yes env TERM=xterm desk recheck long.table
