@@ -1,5 +1,5 @@
 -- The truth rules of the code are the paper's.
---   rule-range, rule-low, rule-high, first-.., second-..   the tables of shapes by the ranges of a `match`
+--   rule-restriction, rule-low, rule-high, first-.., second-..   the tables of shapes by the ranges of a `match`
 --   first-atom                     an atom finds its own bit
 --   select-..                      what each rule selects
 --   rule-connects                  what a record says, by its rule

@@ -115,6 +115,29 @@ fn read_records<'a, T: Copy>(
     Ok(records)
 }
 
+/// The record that a line refers to: by its number, as `example`, or by what an earlier record says, which `read` takes.
+fn reference<T: PartialEq>(
+    line: &mut Cursor,
+    before: &[T],
+    nesting: usize,
+    example: &str,
+    read: impl Fn(&mut Cursor) -> Result<T, Fault>,
+) -> Result<u16, Fault> {
+    if line.peek() == Some('#') {
+        return line.lettered('#', &format!("a record, as {example},"));
+    }
+    if nesting > NESTING {
+        let message = format!("terms are nested too deep here; name one by its record, as {example}");
+        return Err(line.fault(&message));
+    }
+    let fault = line.fault(&format!(
+        "no earlier line says this term; give it a line of its own before, or name a record, as {example}"
+    ));
+    let said = read(line)?;
+    let found = find(before, &said).and_then(|number| u16::try_from(number).ok());
+    found.ok_or(fault)
+}
+
 /// The first record after the header that is equal to this.
 fn find<T: PartialEq>(records: &[T], wanted: &T) -> Option<usize> {
     let after_header = records.iter().skip(1).position(|record| record == wanted);

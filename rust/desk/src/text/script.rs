@@ -1,7 +1,7 @@
 //! Scripts as text.
 
 use super::cursor::{Cursor, Fault};
-use super::{find, link_words, linked_line, read_records, whole, Linked, NESTING, WRITTEN_OUT};
+use super::{find, link_words, linked_line, read_records, reference, whole, Linked, WRITTEN_OUT};
 use crate::chain::default_link;
 use crate::script::{bytes, chained, Entry, Extension, Words, HEADER_WORD};
 
@@ -239,14 +239,7 @@ fn read_term(line: &mut Cursor, before: &[Words], nesting: usize) -> Result<Entr
 
 /// The record of a term: `#2`, or a term that an earlier record says.
 fn term(line: &mut Cursor, before: &[Words], nesting: usize) -> Result<u16, Fault> {
-    if line.peek() == Some('#') {
-        return line.lettered('#', "a term record of the script, as #2,");
-    }
-    if nesting > NESTING {
-        return Err(line.fault("terms are nested too deep here; name one by its record, as #2"));
-    }
-    let fault = line.fault("no earlier line says this term; give it a line of its own before, or name a record, as #2");
-    let entry = read_term(line, before, nesting)?;
-    let found = find(before, &entry.words(0)).and_then(|number| u16::try_from(number).ok());
-    found.ok_or(fault)
+    reference(line, before, nesting, "#2", |line| {
+        Ok(read_term(line, before, nesting)?.words(0))
+    })
 }

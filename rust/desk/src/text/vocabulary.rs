@@ -1,7 +1,7 @@
 //! Vocabularies as text, in OWL 2 functional syntax where a record has a form there.
 
 use super::cursor::{Cursor, Fault};
-use super::{find, link_words, linked_line, read_records, whole, Linked, NESTING, WRITTEN_OUT};
+use super::{find, link_words, linked_line, read_records, reference, whole, Linked, WRITTEN_OUT};
 use crate::chain::default_link;
 use crate::json::Json;
 use crate::report::plain;
@@ -272,14 +272,7 @@ fn saying(line: &mut Cursor, before: &[Record], nesting: usize) -> Result<Saying
 
 /// The record of an operand: `#7`, or a term that an earlier record says.
 fn operand(line: &mut Cursor, before: &[Record], nesting: usize) -> Result<u16, Fault> {
-    if line.peek() == Some('#') {
-        return line.lettered('#', "a record, as #7,");
-    }
-    if nesting > NESTING {
-        return Err(line.fault("terms are nested too deep here; name one by its record, as #7"));
-    }
-    let fault = line.fault("no earlier line says this term; give it a line of its own before, or name a record, as #7");
-    let said = saying(line, before, nesting)?;
-    let found = find(before, &said.record(0)).and_then(|number| u16::try_from(number).ok());
-    found.ok_or(fault)
+    reference(line, before, nesting, "#7", |line| {
+        Ok(saying(line, before, nesting)?.record(0))
+    })
 }
