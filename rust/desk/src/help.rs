@@ -1,7 +1,12 @@
 //! What each command is for, and how it is called.
 
 /// The page of the command as a whole.
-pub const ALL: &str = "\
+pub fn all() -> String {
+    ALL.to_string()
+}
+
+/// The page of the command as a whole.
+const ALL: &str = "\
 desk: the duty vocabulary judge for people and scripts
 
 usage: desk COMMAND .. [--json]

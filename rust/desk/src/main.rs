@@ -1,124 +1,113 @@
 //! `desk`: the duty vocabulary judge as a command. It decides nothing by itself: every verdict is the library's.
 
-mod arguments;
-mod chain;
 mod commands;
+mod console;
+mod display;
 mod files;
 mod help;
+mod input;
 mod json;
+mod refused;
 mod report;
 mod script;
 mod text;
 mod trace;
-mod vocabulary;
 
-use crate::json::Json;
-use crate::report::{plain, Failure, Report, Style, BROKEN_OUTPUT, USAGE};
-use std::ffi::OsString;
-use std::io::{self, ErrorKind, IsTerminal, Write};
+use crate::commands::COMMON;
+use crate::console::{complain, Colour, Console};
+use crate::display::did_you_mean;
+use crate::report::Stop;
+use base::arguments::Arguments;
+use base::{Failure, Status};
+use std::ffi::{OsStr, OsString};
 use std::process::ExitCode;
 
 fn main() -> ExitCode {
-    let mut words: Vec<OsString> = std::env::args_os().skip(1).collect();
-    let has = |option: &str| words.iter().take_while(|word| *word != "--").any(|word| word == option);
-    let (wants_help, as_json) = (has("--help") || has("-h"), has("--json"));
-    // --json may stand before the command, too.
-    let at = words.iter().position(|word| word != "--json");
-    let command = at.map_or_else(OsString::new, |at| words.remove(at));
-    let command = command.to_string_lossy().into_owned();
-    let status = match (command.as_str(), help::page(&command)) {
-        ("--version", _) => say(concat!("desk ", env!("CARGO_PKG_VERSION"), "\n"), 0),
-        ("--help" | "-h", _) => say(help::ALL, 0),
-        ("help", _) => help_on(words.first(), as_json),
-        (_, Some(page)) if wants_help => say(page, 0),
-        (_, Some(_)) => run(&command, words, as_json),
-        ("", _) if at.is_none() => {
-            complain(help::ALL);
-            USAGE
-        }
-        _ => no_command(&command, as_json),
+    call(std::env::args_os().skip(1).collect()).into()
+}
+
+/// Runs the command that the words name. Options that every command has may stand before it, too.
+fn call(mut words: Vec<OsString>) -> Status {
+    let is_word = |word: &OsString| !word.to_string_lossy().starts_with('-');
+    let Some(at) = words.iter().position(is_word) else {
+        return without_command(words);
     };
-    ExitCode::from(status)
-}
-
-fn no_command(command: &str, as_json: bool) -> u8 {
-    let message = format!("there is no command '{command}'; 'desk --help' lists them");
-    fail(as_json, "desk", &Failure::new(USAGE, message))
-}
-
-/// `desk help`, or `desk help COMMAND`.
-fn help_on(command: Option<&OsString>, as_json: bool) -> u8 {
-    let command = command.map(|command| command.to_string_lossy());
-    match command.as_deref() {
-        None | Some("help" | "--help" | "-h" | "--json") => say(help::ALL, 0),
-        Some(command) => help::page(command).map_or_else(|| no_command(command, as_json), |page| say(page, 0)),
+    let name = words.remove(at).to_string_lossy().into_owned();
+    let mut console = Console::new(&name, has(&words, "--json"), false, Colour::Auto);
+    let page = help::page(&name);
+    let wants_help = has(&words, "--help") || has(&words, "-h");
+    if name == "help" {
+        return help_on(&mut console, words.first());
     }
-}
-
-/// Runs a command and prints what it has to say.
-fn run(command: &str, words: Vec<OsString>, as_json: bool) -> u8 {
-    let style = Style {
-        colour: io::stdout().is_terminal() && !as_json && report::allows_colour(),
+    let (Some(page), Some(command)) = (page, commands::find(&name)) else {
+        return no_command(&name, has(&words, "--json"));
     };
-    match commands::run(command, words, style) {
-        Ok(report) if as_json => print_json(command, report),
-        Ok(report) => {
-            let status = say(&report.text, report.status);
-            complain(&report.aside);
-            status
-        }
-        Err(failure) => fail(as_json, command, &failure),
+    if wants_help {
+        return say(&mut console, page);
     }
+    let done = commands::run(command, words, &mut console);
+    finish(&mut console, done, page.lines().next())
 }
 
-fn print_json(command: &str, report: Report) -> u8 {
-    let mut fields = vec![
-        ("command", Json::from(command)),
-        ("status", Json::from(u32::from(report.status))),
-    ];
-    fields.extend(report.json);
-    say(&format!("{}\n", Json::Object(fields)), report.status)
-}
-
-/// Says why there is no answer.
-fn fail(as_json: bool, command: &str, failure: &Failure) -> u8 {
-    if as_json {
-        let status = Json::from(u64::from(failure.status));
-        let message = Json::from(failure.message.as_str());
-        let json = Json::object([
-            ("command", Json::from(command)),
-            ("status", status),
-            ("verdict", Json::from("error")),
-            ("message", message),
-        ]);
-        return say(&format!("{json}\n"), failure.status);
-    }
-    let name = if command == "desk" {
-        "desk".to_string()
-    } else {
-        format!("desk {command}")
+/// Says what stopped a command, if anything did.
+fn finish(console: &mut Console, done: Result<Status, Stop>, usage: Option<&str>) -> Status {
+    let failure = match done {
+        Ok(status) => return status,
+        Err(Stop::Failure(failure)) => failure,
+        Err(Stop::Answer(report)) => match console.answer(*report) {
+            Ok(status) => return status,
+            Err(failure) => failure,
+        },
     };
-    complain(&format!("{name}: {}\n", plain(&failure.message)));
-    if failure.status == USAGE {
-        let usage = help::page(command).and_then(|page| page.lines().next());
-        complain(&usage.map(|line| format!("{line}\n")).unwrap_or_default());
-    }
-    failure.status
+    console.fail(&failure, usage)
 }
 
-/// Writes to standard output, and answers the exit status. A reader that has gone away is no error.
-fn say(text: &str, status: u8) -> u8 {
-    let mut out = io::stdout().lock();
-    match out.write_all(text.as_bytes()).and_then(|()| out.flush()) {
-        Err(error) if error.kind() != ErrorKind::BrokenPipe => {
-            complain(&format!("desk: the answer cannot be written ({error})\n"));
-            BROKEN_OUTPUT
-        }
-        _ => status,
+/// Whether an option is among the words.
+fn has(words: &[OsString], option: &str) -> bool {
+    words.iter().take_while(|word| *word != "--").any(|word| word == option)
+}
+
+/// `desk` without a command.
+fn without_command(words: Vec<OsString>) -> Status {
+    let mut console = Console::new("desk", has(&words, "--json"), false, Colour::Auto);
+    if has(&words, "--version") || has(&words, "-V") {
+        return say(&mut console, concat!("desk ", env!("CARGO_PKG_VERSION"), "\n"));
+    }
+    if has(&words, "--help") || has(&words, "-h") {
+        return say(&mut console, &help::all());
+    }
+    if let Err(failure) = Arguments::read(words, &COMMON) {
+        return console.fail(&failure, None);
+    }
+    complain(&help::all());
+    Status::Usage
+}
+
+fn no_command(name: &str, as_json: bool) -> Status {
+    let names = commands::names().chain(["help"]);
+    let hint = did_you_mean(name, names);
+    let message = format!("there is no command '{name}'{hint}; 'desk --help' lists them");
+    let message = message.replace("?; 'desk", "? 'desk");
+    Console::new("desk", as_json, false, Colour::Never).fail(&Failure::usage(message), None)
+}
+
+/// `desk help`, or `desk help TOPIC`.
+fn help_on(console: &mut Console, topic: Option<&OsString>) -> Status {
+    let topic = topic.map(|topic| OsStr::to_string_lossy(topic));
+    let topic = topic
+        .as_deref()
+        .filter(|topic| !topic.starts_with('-') && *topic != "help");
+    match topic {
+        None => say(console, &help::all()),
+        Some(topic) => match help::page(topic) {
+            Some(page) => say(console, page),
+            None => no_command(topic, console.json),
+        },
     }
 }
 
-/// Writes to standard error, as far as that goes.
-fn complain(text: &str) {
-    let _ = io::stderr().lock().write_all(text.as_bytes());
+/// Says a text that is no verdict.
+fn say(console: &mut Console, text: &str) -> Status {
+    let done = console.bytes(text.as_bytes()).map(|()| Status::Holds);
+    finish(console, done.map_err(Stop::from), None)
 }

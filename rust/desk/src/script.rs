@@ -99,7 +99,7 @@ pub fn chained(records: &[Words]) -> Vec<bool> {
     let get = |number: usize| records.get(number).copied().unwrap_or_default();
     let [_, _, _, first, ..] = get(0);
     let is_step = |number| Entry::read(get(number)).is_some_and(Entry::is_step);
-    crate::chain::followed(records.len(), first, is_step, |number| {
+    base::chain::followed(records.len(), first, is_step, |number| {
         let [.., next] = get(number);
         next
     })

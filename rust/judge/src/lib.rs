@@ -28,6 +28,16 @@ pub const RECORD_BYTES: usize = 8;
 pub const SCRIPT_RECORD_BYTES: usize = 16;
 /// The bytes that a comparison writes, and asks for.
 pub const SURVIVOR_BYTES: usize = 512;
+/// The most records of a vocabulary, header included.
+pub const RECORDS: usize = VOCABULARY_BYTES / RECORD_BYTES;
+/// The most records of a script, header included.
+pub const SCRIPT_RECORDS: usize = SCRIPT_BYTES / SCRIPT_RECORD_BYTES;
+/// The most roles of a vocabulary.
+pub const ROLES: usize = 64;
+/// The most atoms (names and restrictions) of a vocabulary that can be compared.
+pub const ATOMS: usize = 12;
+/// The most frames that may be open together while a script is checked.
+pub const FRAMES: usize = 64;
 /// Stack that is enough for any call, measured (include/judge.h).
 pub const STACK_BYTES: usize = 131_072;
 

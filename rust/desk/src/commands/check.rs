@@ -1,22 +1,30 @@
 //! `desk check`.
 
 use super::read_vocabulary;
-use crate::arguments::Arguments;
-use crate::files::Input;
+use crate::console::Console;
+use crate::display::counted;
+use crate::input::Input;
 use crate::json::Json;
-use crate::report::{counted, Failure, Report, Status, Style};
-use crate::vocabulary::{Vocabulary, STATEMENT_KIND};
+use crate::refused;
+use crate::report::{Report, Stop, Style};
+use base::arguments::Arguments;
+use base::vocabulary::{Vocabulary, STATEMENT_KIND};
+use base::Status;
 
-/// The most atoms of a vocabulary that can be compared.
-const ATOMS: usize = 12;
-
-pub fn run(arguments: &Arguments, style: Style) -> Result<Report, Failure> {
-    let [path] = arguments.words(["VOCABULARY"])?;
-    let input = read_vocabulary(path)?;
-    Ok(match judge::check_vocabulary(&input.bytes) {
-        Err(refusal) => Report::refused(style, &input.name, input.length, refusal),
-        Ok(records) => accepted(style, &input, records),
-    })
+pub fn run(arguments: &Arguments, console: &mut Console) -> Result<Status, Stop> {
+    let mut status = Status::Holds;
+    for path in arguments.some_words("VOCABULARY")? {
+        let input = read_vocabulary(path, console.style)?;
+        let report = match judge::check_vocabulary(&input.bytes) {
+            Err(refusal) => refused::report(console.style, &input, refusal, None),
+            Ok(records) => accepted(console.style, &input, records),
+        };
+        status = status.max(console.answer(report)?);
+        if console.is_gone() {
+            break;
+        }
+    }
+    Ok(status)
 }
 
 fn accepted(style: Style, input: &Input, records: u32) -> Report {
@@ -24,7 +32,7 @@ fn accepted(style: Style, input: &Input, records: u32) -> Report {
     let [names, restrictions, statements, chained] = tally(&vocabulary);
     let roles = vocabulary.get(0).b;
     let atoms = names + restrictions;
-    let comparable = atoms <= ATOMS;
+    let comparable = atoms <= judge::ATOMS;
     let text = format!(
         "{}: {}: {}, {} and {} ({}, {}), {} of {} on the chain, {}\n",
         input.name,

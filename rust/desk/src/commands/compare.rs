@@ -1,42 +1,42 @@
 //! `desk compare`.
 
-use super::{read_vocabulary, written, JSON, WORDS};
-use crate::arguments::{number, Arguments, Flag};
-use crate::files::{self, Input};
+use super::{read_vocabulary, read_words, written, WORDS};
+use crate::console::Console;
+use crate::display::counted;
+use crate::files;
+use crate::input::Input;
 use crate::json::Json;
-use crate::report::{counted, Failure, Report, Status, Style, DEFECT};
+use crate::refused;
+use crate::report::{Report, Stop, Style};
 use crate::text::vocabulary::Written;
+use base::arguments::{number, Arguments, Flag};
+use base::{Failure, Status};
 use judge::{Comparison, Verdict};
 
 /// The options.
-pub const FLAGS: &[Flag] = &[
-    JSON,
-    WORDS,
-    Flag {
-        name: "--survivors",
-        valued: true,
-    },
-];
+pub const FLAGS: &[Flag] = &[WORDS, Flag::valued("--survivors")];
 
 /// The terms that are compared.
 type Pair = [u32; 2];
 
-pub fn run(arguments: &Arguments, style: Style) -> Result<Report, Failure> {
-    let [input_path, a, b] = arguments.words(["VOCABULARY", "A", "B"])?;
+pub fn run(arguments: &Arguments, console: &mut Console) -> Result<Status, Stop> {
+    let [path, a, b] = arguments.words(["VOCABULARY", "A", "B"])?;
     let pair = [number(a, "A")?, number(b, "B")?];
-    let input = read_vocabulary(input_path)?;
+    let input = read_vocabulary(path, console.style)?;
+    let words = read_words(arguments, console.style)?;
     let mut survivors = [0; judge::SURVIVOR_BYTES];
     let [a, b] = pair;
     let answer = match judge::compare(&input.bytes, a, b, &mut survivors) {
-        Err(refusal) => return Ok(Report::refused(style, &input.name, input.length, refusal)),
+        Err(refusal) => return Ok(console.answer(refused::report(console.style, &input, refusal, None))?),
         Ok(answer) => answer,
     };
-    let written = written(&input, arguments)?;
+    let written = written(&input, words.as_ref())?;
+    let report = report(console.style, &input, &written, pair, answer)?;
     if let Some(path) = arguments.value("--survivors") {
-        let words = arguments.value(WORDS.name).unwrap_or(input_path);
-        files::write(path, &survivors, &[input_path, words])?;
+        let inputs = [input.id, words.and_then(|words| words.id)];
+        files::write(path, &survivors, &inputs)?;
     }
-    report(style, &input, &written, pair, answer)
+    Ok(console.answer(report)?)
 }
 
 fn report(style: Style, input: &Input, written: &Written, pair: Pair, answer: Comparison) -> Result<Report, Failure> {
@@ -103,7 +103,7 @@ impl Explained<'_> {
         let [in_a, in_b] = pair.map(|number| self.is_in(number as usize));
         if in_a == in_b {
             let message = "the element belongs to both terms or to none, against what is proved";
-            return Err(Failure::new(DEFECT, message));
+            return Err(Failure::new(Status::Defect, message));
         }
         Ok(in_a)
     }

@@ -8,63 +8,113 @@ mod record;
 mod show;
 mod verify;
 
-use crate::arguments::{Arguments, Flag};
-use crate::files::{self, Input};
-use crate::report::{Failure, Report, Status, Style};
-use crate::text;
+use crate::console::{Colour, Console};
+use crate::files::Access;
+use crate::input::{self, Input};
+use crate::report::{Stop, Style};
 use crate::text::vocabulary::Written;
-use crate::vocabulary::Vocabulary;
+use base::arguments::{Arguments, Flag};
+use base::vocabulary::Vocabulary;
+use base::{Failure, Status};
 use judge::{Refusal, Rule};
 use std::ffi::{OsStr, OsString};
 
-/// A command: its options beside --json, and what it does.
-type Command = (&'static [Flag], fn(&Arguments, Style) -> Result<Report, Failure>);
-
-/// Runs a command, whose name has a page of help.
-pub fn run(name: &str, words: Vec<OsString>, style: Style) -> Result<Report, Failure> {
-    let (flags, command): Command = match name {
-        "check" => (&[JSON], check::run),
-        "show" => (&[JSON], show::run),
-        "record" => (&[JSON], record::run),
-        "compare" => (compare::FLAGS, compare::run),
-        "verify" => (verify::FLAGS, verify::run),
-        "assemble" => (assemble::FLAGS, assemble::run),
-        _ => (&[JSON], recheck::run),
-    };
-    command(&Arguments::read(words.into_iter(), flags)?, style)
+/// A command.
+pub struct Command {
+    /// Its name, which has a page of help.
+    pub name: &'static str,
+    /// Its options beside those of every command.
+    flags: &'static [Flag],
+    /// What it does.
+    run: fn(&Arguments, &mut Console) -> Result<Status, Stop>,
 }
 
-/// The option of every command.
-const JSON: Flag = Flag {
-    name: "--json",
-    valued: false,
-};
+const fn command(
+    name: &'static str,
+    flags: &'static [Flag],
+    run: fn(&Arguments, &mut Console) -> Result<Status, Stop>,
+) -> Command {
+    Command { name, flags, run }
+}
+
+/// The commands, in the order of the help.
+const COMMANDS: [Command; 7] = [
+    command("check", &[], check::run),
+    command("show", &[], show::run),
+    command("record", &[], record::run),
+    command("compare", compare::FLAGS, compare::run),
+    command("verify", verify::FLAGS, verify::run),
+    command("assemble", assemble::FLAGS, assemble::run),
+    command("recheck", &[], recheck::run),
+];
+
+/// The options of every command.
+pub const COMMON: [Flag; 3] = [
+    Flag::switch("--json"),
+    Flag::switch("--quiet").letter('q'),
+    Flag::optional("--color"),
+];
 
 /// The option of commands that name terms.
-const WORDS: Flag = Flag {
-    name: "--words",
-    valued: true,
-};
+const WORDS: Flag = Flag::valued("--words");
 
-/// A vocabulary written out, with the words of its text where one is given by --words.
-fn written(input: &Input, arguments: &Arguments) -> Result<Written, Failure> {
-    let written = Written::new(Vocabulary::read(&input.bytes));
-    let Some(path) = arguments.value(WORDS.name) else {
-        return Ok(written);
-    };
-    let (name, text) = files::read_text(path, text::TEXT_BYTES)?;
-    match text::assemble(&text) {
-        Ok((bytes, false)) if bytes == input.bytes => Ok(written.with_words(text::comments(&text))),
-        _ => {
-            let message = format!("{}: is not the text of {}", name.as_str(), input.name.as_str());
-            Err(Failure::new(Status::Refused as u8, message))
-        }
-    }
+/// The names of the commands.
+pub fn names() -> impl Iterator<Item = &'static str> {
+    COMMANDS.iter().map(|command| command.name)
 }
 
-/// Reads a vocabulary; one that is too long is read so far that the library refuses it.
-fn read_vocabulary(path: &OsStr) -> Result<Input, Failure> {
-    files::read(path, judge::VOCABULARY_BYTES)
+/// The command of a name.
+pub fn find(name: &str) -> Option<&'static Command> {
+    COMMANDS.iter().find(|command| command.name == name)
+}
+
+/// Runs a command over the words after its name.
+pub fn run(command: &Command, words: Vec<OsString>, console: &mut Console) -> Result<Status, Stop> {
+    let flags: Vec<Flag> = command.flags.iter().chain(&COMMON).copied().collect();
+    let arguments = Arguments::read(words, &flags)?;
+    let colour = match arguments.value("--color").and_then(OsStr::to_str) {
+        None if !arguments.has("--color") => Colour::Auto,
+        Some("auto") => Colour::Auto,
+        Some("" | "always") => Colour::Always,
+        Some("never") => Colour::Never,
+        _ => return Err(Failure::usage("--color takes auto, always or never").into()),
+    };
+    *console = Console::new(command.name, arguments.has("--json"), arguments.has("--quiet"), colour);
+    (command.run)(&arguments, console)
+}
+
+/// Reads a vocabulary, from its bytes or its text.
+fn read_vocabulary(path: &OsStr, style: Style) -> Result<Input, Stop> {
+    input::vocabulary(path, Access::Any, style)
+}
+
+/// Reads a script, from its bytes or its text.
+fn read_script(path: &OsStr, style: Style) -> Result<Input, Stop> {
+    input::script(path, Access::Any, style)
+}
+
+/// A vocabulary written out, with the words of its text: its own, or the one that --words names.
+fn written(input: &Input, words: Option<&Input>) -> Result<Written, Failure> {
+    let written = Written::new(Vocabulary::read(&input.bytes));
+    let comments = match words {
+        Some(text) if text.bytes != input.bytes => {
+            let message = format!("{}: is not the text of {}", text.name, input.name);
+            return Err(Failure::new(Status::Refused, message));
+        }
+        Some(text) => text.comments(),
+        None => input.comments(),
+    };
+    Ok(match comments {
+        Some(comments) => written.with_words(comments),
+        None => written,
+    })
+}
+
+/// The text that --words names.
+fn read_words(arguments: &Arguments, style: Style) -> Result<Option<Input>, Stop> {
+    let path = arguments.value(WORDS.name);
+    path.map(|path| input::text(path, style).map(|(input, _)| input))
+        .transpose()
 }
 
 /// The refusal of a script whatever its vocabulary: its length or its header (13 and 14), which the check looks at
@@ -72,9 +122,4 @@ fn read_vocabulary(path: &OsStr) -> Result<Input, Failure> {
 fn refused_script(script: &[u8]) -> Option<Refusal> {
     let refusal = judge::check_script(&[16, 1, 0, 0, 0, 0, 0, 0], script).err();
     refusal.filter(|refusal| matches!(refusal.rule, Rule::ScriptLength | Rule::ScriptHeader))
-}
-
-/// Reads a script; one that is too long is read so far that the library refuses it.
-fn read_script(path: &OsStr) -> Result<Input, Failure> {
-    files::read(path, judge::SCRIPT_BYTES)
 }

@@ -1,11 +1,15 @@
 //! `desk recheck`.
 
-use super::{read_script, read_vocabulary};
-use crate::arguments::{digits, Arguments};
-use crate::files::{self, Input, Length, Name};
+use crate::console::{is_plain_terminal, Console};
+use crate::display::{grouped, plain};
+use crate::files::{self, Access, Name};
+use crate::input::{self, Input};
 use crate::json::Json;
-use crate::report::{grouped, is_plain_terminal, plain, refusal_words, Failure, Report, Status, Style};
+use crate::refused;
+use crate::report::{refusal_status, Report, Stop, Style};
 use crate::script;
+use base::arguments::{digits, Arguments};
+use base::Status;
 use judge::{Refusal, Verdict};
 use std::ffi::{OsStr, OsString};
 use std::io::{self, IsTerminal, Write};
@@ -21,14 +25,16 @@ const BAR: usize = 30;
 /// How a line came out.
 struct Outcome {
     /// The exit status that it asks for.
-    status: u8,
+    status: Status,
     /// Why it does not hold; empty where it does.
     why: String,
 }
 
-pub fn run(arguments: &Arguments, style: Style) -> Result<Report, Failure> {
+pub fn run(arguments: &Arguments, console: &mut Console) -> Result<Status, Stop> {
     let [path] = arguments.words(["TABLE"])?;
-    let (name, text) = files::read_text(path, TABLE_BYTES)?;
+    let source = files::read(path, Access::Any, TABLE_BYTES, |_| TABLE_BYTES)?;
+    let name = source.name;
+    let text = files::text_of(&name, source.bytes, TABLE_BYTES)?;
     let mut checker = Checker {
         directory: directory(path),
         vocabulary: None,
@@ -39,12 +45,12 @@ pub fn run(arguments: &Arguments, style: Style) -> Result<Report, Failure> {
     for (i, (line, row)) in rows.iter().enumerate() {
         progress.show(i, failing.len());
         let outcome = checker.check(row);
-        if outcome.status != 0 {
+        if outcome.status != Status::Holds {
             failing.push((line + 1, *row, outcome));
         }
     }
     progress.clear();
-    Ok(report(style, &name, rows.len(), failing))
+    Ok(console.answer(report(console.style, &name, rows.len(), failing))?)
 }
 
 /// The directory in which the table's files are looked for.
@@ -69,7 +75,7 @@ fn repeated(text: &str) -> String {
 impl Outcome {
     fn new(status: Status, why: impl Into<String>) -> Outcome {
         Outcome {
-            status: status as u8,
+            status,
             why: why.into(),
         }
     }
@@ -84,13 +90,8 @@ impl Outcome {
     }
 
     /// The refusal of an input of this length.
-    fn refused(refusal: Refusal, length: Length) -> Outcome {
-        let status = if refusal.rule.is_of_chain() {
-            Status::DoesNotHold
-        } else {
-            Status::Refused
-        };
-        Outcome::new(status, refusal_words(refusal, length))
+    fn refused(refusal: Refusal, input: &Input) -> Outcome {
+        Outcome::new(refusal_status(refusal), refused::words(input, refusal, None))
     }
 }
 
@@ -125,9 +126,9 @@ impl Checker {
                 repeated(&claim.join(" "))
             ))),
         };
-        outcome.unwrap_or_else(|failure| Outcome {
-            status: failure.status,
-            why: failure.message,
+        outcome.unwrap_or_else(|stop| match stop {
+            Stop::Failure(failure) => Outcome::new(failure.status, failure.message),
+            Stop::Answer(report) => Outcome::new(report.status, report.text.trim_end()),
         })
     }
 
@@ -140,20 +141,20 @@ impl Checker {
         path.into_os_string()
     }
 
-    fn vocabulary(&mut self, file: &str) -> Result<&Input, Failure> {
+    fn vocabulary(&mut self, file: &str) -> Result<&Input, Stop> {
         let kept = self.vocabulary.take().filter(|(name, _)| name == file);
         let input = match kept {
             Some((_, input)) => input,
-            None => read_vocabulary(&self.path(file))?,
+            None => input::vocabulary(&self.path(file), Access::Regular, Style { colour: false })?,
         };
         Ok(&self.vocabulary.insert((file.to_string(), input)).1)
     }
 
-    fn compare(&mut self, file: &str, [a, b]: [u32; 2], equal: bool) -> Result<Outcome, Failure> {
+    fn compare(&mut self, file: &str, [a, b]: [u32; 2], equal: bool) -> Result<Outcome, Stop> {
         let vocabulary = self.vocabulary(file)?;
         let answer = judge::compare(&vocabulary.bytes, a, b, &mut [0; judge::SURVIVOR_BYTES]);
         Ok(match answer.map(|answer| answer.verdict) {
-            Err(refusal) => Outcome::refused(refusal, vocabulary.length),
+            Err(refusal) => Outcome::refused(refusal, vocabulary),
             Ok(Verdict::Equal) if !equal => Outcome::new(Status::DoesNotHold, "the terms are equal"),
             Ok(Verdict::Different { element }) if equal => Outcome::new(
                 Status::DoesNotHold,
@@ -163,13 +164,13 @@ impl Checker {
         })
     }
 
-    fn verify(&mut self, file: &str, [a, b]: [u32; 2], script: &str) -> Result<Outcome, Failure> {
-        let script = read_script(&self.path(script))?;
+    fn verify(&mut self, file: &str, [a, b]: [u32; 2], script: &str) -> Result<Outcome, Stop> {
+        let script = input::script(&self.path(script), Access::Regular, Style { colour: false })?;
         let [_, asked_a, asked_b, ..] = script::read(&script.bytes).first().copied().unwrap_or_default();
         let vocabulary = self.vocabulary(file)?;
         Ok(match judge::check_script(&vocabulary.bytes, &script.bytes) {
-            Err(refusal) if refusal.rule.number() <= 8 => Outcome::refused(refusal, vocabulary.length),
-            Err(refusal) => Outcome::refused(refusal, script.length),
+            Err(refusal) if refusal.rule.number() <= 8 => Outcome::refused(refusal, vocabulary),
+            Err(refusal) => Outcome::refused(refusal, &script),
             Ok(_) if [asked_a, asked_b].map(u32::from) != [a, b] => {
                 let why = format!("the script proves that term {asked_a} lies within term {asked_b}");
                 Outcome::new(Status::DoesNotHold, why)
@@ -186,7 +187,7 @@ fn report(style: Style, name: &Name, rows: usize, failing: Vec<(usize, &str, Out
         Json::object([
             ("line", Json::from(*line)),
             ("text", Json::from(repeated(row))),
-            ("status", Json::from(u32::from(outcome.status))),
+            ("status", Json::from(u32::from(outcome.status.code()))),
             ("why", Json::from(outcome.why.as_str())),
         ])
     };
@@ -204,7 +205,11 @@ fn report(style: Style, name: &Name, rows: usize, failing: Vec<(usize, &str, Out
     }
     text.push_str(&format!("{name}: {}\n", summary(style, held, &failing)));
     Report {
-        status: failing.iter().map(|(.., outcome)| outcome.status).max().unwrap_or(0),
+        status: failing
+            .iter()
+            .map(|(.., outcome)| outcome.status)
+            .max()
+            .unwrap_or(Status::Holds),
         text,
         aside: String::new(),
         json,
@@ -217,7 +222,7 @@ fn summary(style: Style, held: usize, failing: &[(usize, &str, Outcome)]) -> Str
     if rows == 0 {
         return "has no line to recheck".to_string();
     }
-    let with = |statuses: fn(u8) -> bool| {
+    let with = |statuses: fn(Status) -> bool| {
         let count = failing.iter().filter(|(.., outcome)| statuses(outcome.status)).count();
         grouped(count as u64)
     };
@@ -230,9 +235,9 @@ fn summary(style: Style, held: usize, failing: &[(usize, &str, Outcome)]) -> Str
     format!(
         "{}; {} do not hold, {} refused, {} not readable",
         style.paint(status, &holding),
-        with(|status| status == 1),
-        with(|status| status == 2),
-        with(|status| status > 2),
+        with(|status| status == Status::DoesNotHold),
+        with(|status| status == Status::Refused),
+        with(|status| status > Status::Refused),
     )
 }
 

@@ -1,21 +1,25 @@
 //! `desk record`.
 
 use super::read_vocabulary;
-use crate::arguments::{number, Arguments};
-use crate::files::Input;
+use crate::console::Console;
+use crate::input::Input;
 use crate::json::Json;
-use crate::report::{Failure, Report, Status, Style};
+use crate::refused;
+use crate::report::{Report, Stop};
 use crate::text::vocabulary::Written;
-use crate::vocabulary::{Record, Vocabulary};
+use base::arguments::{number, Arguments};
+use base::vocabulary::{Record, Vocabulary};
+use base::Status;
 
-pub fn run(arguments: &Arguments, style: Style) -> Result<Report, Failure> {
+pub fn run(arguments: &Arguments, console: &mut Console) -> Result<Status, Stop> {
     let [path, word] = arguments.words(["VOCABULARY", "N"])?;
     let number = number(word, "N")?;
-    let input = read_vocabulary(path)?;
-    Ok(match judge::record(&input.bytes, number) {
-        Err(refusal) => Report::refused(style, &input.name, input.length, refusal),
+    let input = read_vocabulary(path, console.style)?;
+    let report = match judge::record(&input.bytes, number) {
+        Err(refusal) => refused::report(console.style, &input, refusal, None),
         Ok(part) => found(&input, number, part),
-    })
+    };
+    Ok(console.answer(report)?)
 }
 
 fn found(input: &Input, number: u32, part: &[u8]) -> Report {

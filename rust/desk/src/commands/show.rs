@@ -1,45 +1,54 @@
 //! `desk show`.
 
 use super::refused_script;
-use crate::arguments::Arguments;
-use crate::files::{self, Input};
+use crate::console::Console;
+use crate::input::{self, Input};
 use crate::json::Json;
-use crate::report::{refusal_json, refusal_words, Failure, Report, Status, Style};
-use crate::script::{self, HEADER_WORD};
-use crate::text;
-use crate::vocabulary::Vocabulary;
+use crate::refused;
+use crate::report::{refusal_json, Report, Stop, Style};
+use crate::script;
+use crate::text::{self, Kind};
+use base::arguments::Arguments;
+use base::vocabulary::Vocabulary;
+use base::Status;
 use judge::{Refusal, Rule};
 
-pub fn run(arguments: &Arguments, style: Style) -> Result<Report, Failure> {
-    let [path] = arguments.words(["FILE"])?;
-    let input = files::read(path, judge::SCRIPT_BYTES)?;
-    let is_script = input.bytes.starts_with(&HEADER_WORD.to_le_bytes());
-    let refusal = if is_script {
-        refused_script(&input.bytes)
-    } else {
-        judge::check_vocabulary(&input.bytes).err()
+pub fn run(arguments: &Arguments, console: &mut Console) -> Result<Status, Stop> {
+    let mut status = Status::Holds;
+    for path in arguments.some_words("FILE")? {
+        let (input, kind) = input::either(path, console.style)?;
+        let report = show(console.style, &input, kind);
+        status = status.max(console.answer(report)?);
+    }
+    Ok(status)
+}
+
+fn show(style: Style, input: &Input, kind: Kind) -> Report {
+    let refusal = match kind {
+        Kind::Script => refused_script(&input.bytes),
+        Kind::Vocabulary => judge::check_vocabulary(&input.bytes).err(),
     };
-    Ok(match refusal {
+    match (refusal, kind) {
         // Records can be told apart only where the length is right.
-        Some(refusal) if matches!(refusal.rule, Rule::VocabularyLength | Rule::ScriptLength) => {
-            Report::refused(style, &input.name, input.length, refusal)
+        (Some(refusal), _) if matches!(refusal.rule, Rule::VocabularyLength | Rule::ScriptLength) => {
+            refused::report(style, input, refusal, None)
         }
-        _ if is_script => {
+        (_, Kind::Script) => {
             let text = text::script::Written::new(script::read(&input.bytes)).text();
-            shown(&input, "script", "shown", text, refusal)
+            shown(input, kind, "shown", text, refusal)
         }
-        _ => {
+        (_, Kind::Vocabulary) => {
             let text = text::vocabulary::Written::new(Vocabulary::read(&input.bytes)).text();
-            shown(&input, "vocabulary", "accepted", text, refusal)
+            shown(input, kind, "accepted", text, refusal)
         }
-    })
+    }
 }
 
 /// The text of a file, with the refusal beside it where there is one, else with the verdict.
-fn shown(input: &Input, kind: &str, verdict: &str, text: String, refusal: Option<Refusal>) -> Report {
+fn shown(input: &Input, kind: Kind, verdict: &str, text: String, refusal: Option<Refusal>) -> Report {
     let mut json = vec![
         ("file", Json::from(input.name.as_str())),
-        ("kind", Json::from(kind)),
+        ("kind", Json::from(kind.word())),
         ("lines", Json::list(text.lines())),
     ];
     let Some(refusal) = refusal else {
@@ -48,9 +57,13 @@ fn shown(input: &Input, kind: &str, verdict: &str, text: String, refusal: Option
     };
     json.extend([("verdict", Json::from("refused")), ("refusal", refusal_json(refusal))]);
     Report {
-        status: Status::Refused as u8,
+        status: Status::Refused,
         text,
-        aside: format!("{}: {}\n", input.name, refusal_words(refusal, input.length)),
+        aside: format!(
+            "{}: {}\n",
+            input.at(input.place_of(refusal)),
+            refused::words(input, refusal, None)
+        ),
         json,
     }
 }

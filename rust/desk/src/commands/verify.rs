@@ -1,37 +1,33 @@
 //! `desk verify`.
 
-use super::{read_script, read_vocabulary, written, JSON, WORDS};
-use crate::arguments::{Arguments, Flag};
-use crate::files::Input;
+use super::{read_script, read_vocabulary, read_words, written, WORDS};
+use crate::console::Console;
+use crate::display::counted;
+use crate::input::Input;
 use crate::json::Json;
-use crate::report::{counted, Failure, Report, Status, Style};
+use crate::refused;
+use crate::report::{Report, Stop, Style};
 use crate::script;
 use crate::text::vocabulary::Written;
 use crate::trace;
-use judge::{Refusal, Rule};
+use base::arguments::{Arguments, Flag};
+use base::Status;
+use judge::{Place, Refusal, Rule};
 
 /// The options.
-pub const FLAGS: &[Flag] = &[
-    JSON,
-    WORDS,
-    Flag {
-        name: "--trace",
-        valued: false,
-    },
-];
+pub const FLAGS: &[Flag] = &[WORDS, Flag::switch("--trace")];
 
-pub fn run(arguments: &Arguments, style: Style) -> Result<Report, Failure> {
+pub fn run(arguments: &Arguments, console: &mut Console) -> Result<Status, Stop> {
     let [vocabulary, script] = arguments.words(["VOCABULARY", "SCRIPT"])?;
-    let vocabulary = read_vocabulary(vocabulary)?;
-    let script = read_script(script)?;
-    let written = written(&vocabulary, arguments)?;
+    let vocabulary = read_vocabulary(vocabulary, console.style)?;
+    let script = read_script(script, console.style)?;
+    let words = read_words(arguments, console.style)?;
+    let written = written(&vocabulary, words.as_ref())?;
     let verdict = judge::check_script(&vocabulary.bytes, &script.bytes);
     let mut report = match verdict {
-        Ok(steps) => accepted(style, &written, &script, steps),
-        Err(refusal) if refusal.rule.number() <= 8 => {
-            Report::refused(style, &vocabulary.name, vocabulary.length, refusal)
-        }
-        Err(refusal) => refused(style, &script, refusal),
+        Ok(steps) => accepted(console.style, &written, &script, steps),
+        Err(refusal) if refusal.rule.number() <= 8 => refused::report(console.style, &vocabulary, refusal, None),
+        Err(refusal) => refused_script(console.style, &script, refusal),
     };
     if arguments.has("--trace") {
         if let Some(trace) = trace::of(&vocabulary.bytes, &script.bytes, verdict)? {
@@ -39,16 +35,18 @@ pub fn run(arguments: &Arguments, style: Style) -> Result<Report, Failure> {
             report.json.push(("trace", trace.json));
         }
     }
-    Ok(report)
+    Ok(console.answer(report)?)
 }
 
 /// The refusal of a script. It does not say for which vocabulary it is; what refers to records of another is refused.
-fn refused(style: Style, script: &Input, refusal: Refusal) -> Report {
-    let mut report = Report::refused(style, &script.name, script.length, refusal);
-    if matches!(refusal.rule, Rule::Query | Rule::Term | Rule::Step | Rule::Extension) {
-        report.text = format!("{}; is it a script for this vocabulary?\n", report.text.trim_end());
-    }
-    report
+fn refused_script(style: Style, script: &Input, refusal: Refusal) -> Report {
+    let place = match refusal.rule.place() {
+        Place::Asked => script.line_of(0),
+        _ => script.place_of(refusal),
+    };
+    let foreign = matches!(refusal.rule, Rule::Query | Rule::Term | Rule::Step | Rule::Extension);
+    let detail = foreign.then_some("is it a script for this vocabulary?");
+    refused::at(style, script, place, refusal, detail)
 }
 
 fn accepted(style: Style, written: &Written, script: &Input, steps: u32) -> Report {

@@ -1,5 +1,7 @@
 //! A place in a line of a text.
 
+use super::Line;
+
 /// What is wrong with a text, and where.
 #[derive(Debug, PartialEq, Eq)]
 pub struct Fault {
@@ -43,14 +45,14 @@ impl<'a> Cursor<'a> {
         }
     }
 
-    /// The comment at the end of the line; empty where there is none.
-    pub fn comment(&self) -> &'a str {
-        self.comment
-    }
-
-    /// The number of the line, from 1.
-    pub fn line_number(&self) -> usize {
-        self.number
+    /// Where the line stands, and the comment at its end.
+    pub fn place(&self) -> Line {
+        let Fault { line, column, .. } = self.fault("");
+        Line {
+            number: line,
+            column,
+            comment: self.comment.to_string(),
+        }
     }
 
     /// Whether nothing is left.

@@ -18,39 +18,72 @@ const NESTING: usize = 16;
 /// The longest text of a term that is written out in another; a longer one is named by its record.
 const WRITTEN_OUT: usize = 60;
 
-/// The bytes that a text stands for, and whether they are a script's.
-pub fn assemble(text: &str) -> Result<(Vec<u8>, bool), Fault> {
-    let mut lines = lines(text);
-    let Some(mut header) = lines.next() else {
-        return Err(Fault::at(
-            1,
-            1,
-            "the text is empty; its first line begins with 'vocabulary' or 'script'",
-        ));
+/// What a text is of.
+#[derive(Clone, Copy, Debug, PartialEq, Eq)]
+pub enum Kind {
+    /// A vocabulary.
+    Vocabulary,
+    /// A script.
+    Script,
+}
+
+impl Kind {
+    /// The word for it, which is also the first of its text.
+    pub fn word(self) -> &'static str {
+        match self {
+            Kind::Vocabulary => "vocabulary",
+            Kind::Script => "script",
+        }
+    }
+}
+
+/// What a text stands for.
+#[derive(Clone, Debug, PartialEq, Eq)]
+pub struct Assembled {
+    /// What it is of.
+    pub kind: Kind,
+    /// The bytes.
+    pub bytes: Vec<u8>,
+    /// The line of each record.
+    pub lines: Vec<Line>,
+}
+
+/// The line of a record.
+#[derive(Clone, Debug, PartialEq, Eq)]
+pub struct Line {
+    /// Its number, from 1.
+    pub number: usize,
+    /// The column at which it begins, from 1, in characters.
+    pub column: usize,
+    /// The comment at its end; empty where there is none.
+    pub comment: String,
+}
+
+/// What a text stands for, or what is wrong with it: at least one fault, in the order of the lines.
+pub fn assemble(text: &str) -> Result<Assembled, Vec<Fault>> {
+    let mut cursors = lines(text);
+    let Some(mut header) = cursors.next() else {
+        let message = "the text is empty; its first line begins with 'vocabulary' or 'script'";
+        return Err(vec![Fault::at(1, 1, message)]);
     };
-    if header.keyword("vocabulary") {
-        return Ok((vocabulary::read(header, lines)?, false));
-    }
-    if header.keyword("script") {
-        return Ok((script::read(header, lines)?, true));
-    }
-    Err(header.fault("a text begins with 'vocabulary' or 'script'"))
+    let (kind, bytes) = if header.keyword(Kind::Vocabulary.word()) {
+        (Kind::Vocabulary, vocabulary::read(header, cursors))
+    } else if header.keyword(Kind::Script.word()) {
+        (Kind::Script, script::read(header, cursors))
+    } else {
+        return Err(vec![header.fault("a text begins with 'vocabulary' or 'script'")]);
+    };
+    Ok(Assembled {
+        kind,
+        bytes: bytes.map_err(|fault| vec![fault])?,
+        lines: lines(text).map(|line| line.place()).collect(),
+    })
 }
 
 /// The lines that say something, one for each record.
 fn lines(text: &str) -> impl Iterator<Item = Cursor<'_>> {
     let all = text.lines().enumerate().map(|(i, line)| Cursor::new(i + 1, line));
     all.filter(|line| !line.at_end())
-}
-
-/// The number of the line that says a record.
-pub fn line_of(text: &str, record: usize) -> Option<usize> {
-    lines(text).nth(record).map(|line| line.line_number())
-}
-
-/// The comment on the line of each record; empty where there is none.
-pub fn comments(text: &str) -> Vec<String> {
-    lines(text).map(|line| line.comment().to_string()).collect()
 }
 
 /// Takes the record number that a line may begin with, which has to be its own.
@@ -83,7 +116,7 @@ fn links<T>(read: &[Linked<T>]) -> Vec<u16> {
     let on: Vec<bool> = read.iter().map(|linked| linked.on).collect();
     let link = |(number, linked): (usize, &Linked<T>)| match linked.link {
         Some(link) => link,
-        None if linked.on || number == 0 => crate::chain::default_link(&on, number),
+        None if linked.on || number == 0 => base::chain::default_link(&on, number),
         None => 0,
     };
     read.iter().enumerate().map(link).collect()
@@ -156,7 +189,7 @@ fn whole(header: &str, records: usize, line: impl Fn(usize) -> String) -> String
 /// The line of a statement or step.
 fn linked_line(text: &str, chained: &[bool], number: usize, link: u16) -> String {
     if chained.get(number) == Some(&true) {
-        let default = crate::chain::default_link(chained, number);
+        let default = base::chain::default_link(chained, number);
         return format!("{text}{}", link_words("next", link, default));
     }
     format!("off {text}{}", link_words("next", link, 0))

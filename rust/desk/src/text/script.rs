@@ -2,8 +2,8 @@
 
 use super::cursor::{Cursor, Fault};
 use super::{find, link_words, linked_line, read_records, reference, whole, Linked, WRITTEN_OUT};
-use crate::chain::default_link;
 use crate::script::{bytes, chained, Entry, Extension, Words, HEADER_WORD};
+use base::chain::default_link;
 
 /// A script with the text of each term record.
 pub struct Written {

@@ -2,9 +2,14 @@
 
 #![allow(clippy::unwrap_used, clippy::indexing_slicing, clippy::panic)]
 
-use super::{assemble, cursor::Fault, script, vocabulary};
+use super::{cursor::Fault, script, vocabulary, Kind};
 use crate::script::read as read_script;
-use crate::vocabulary::Vocabulary;
+use base::vocabulary::Vocabulary;
+
+/// The bytes of a text, and whether they are a script's.
+fn assemble(text: &str) -> Result<(Vec<u8>, bool), Vec<Fault>> {
+    super::assemble(text).map(|assembled| (assembled.bytes, assembled.kind == Kind::Script))
+}
 
 /// A file of stored cases that is read from its front.
 struct Cases<'a>(&'a [u8]);
@@ -255,7 +260,7 @@ fn damaged_texts_are_assembled_to_a_fixed_point_or_not_at_all() {
 
 /// The fault of a text.
 fn fault(text: &str) -> (usize, usize, String) {
-    let Fault { line, column, message } = assemble(text).unwrap_err();
+    let Fault { line, column, message } = assemble(text).unwrap_err().remove(0);
     (line, column, message)
 }
 

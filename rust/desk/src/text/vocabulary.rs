@@ -2,10 +2,10 @@
 
 use super::cursor::{Cursor, Fault};
 use super::{find, link_words, linked_line, read_records, reference, whole, Linked, WRITTEN_OUT};
-use crate::chain::default_link;
+use crate::display::plain;
 use crate::json::Json;
-use crate::report::plain;
-use crate::vocabulary::{Record, Saying, Vocabulary, HEADER_KIND, STATEMENT_KIND};
+use base::chain::default_link;
+use base::vocabulary::{Record, Saying, Vocabulary, HEADER_KIND, STATEMENT_KIND};
 
 /// The second byte of the header.
 const EDITION: u8 = 1;

@@ -1,6 +1,6 @@
 //! Literals, and the column list of paper 01.
 
-use crate::vocabulary::Saying;
+use base::vocabulary::Saying;
 
 /// The sign of a literal.
 #[derive(Clone, Copy, Debug, PartialEq, Eq)]

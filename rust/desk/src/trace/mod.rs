@@ -10,9 +10,9 @@ mod words;
 mod tests;
 
 use crate::json::Json;
-use crate::report::{Failure, DEFECT};
-use crate::vocabulary::Vocabulary;
 use crate::{script, text};
+use base::vocabulary::Vocabulary;
+use base::{Failure, Status};
 use judge::Refusal;
 use words::Words;
 
@@ -56,5 +56,5 @@ fn agreed(trace: &run::Trace, verdict: Result<u32, Refusal>) -> Result<(), Failu
         Err((number, place)) => format!("refused, {number}, at script record {place}"),
     };
     let message = format!("an error in desk: the trace comes to '{replay}', and the library says '{library}'");
-    Err(Failure::new(DEFECT, message))
+    Err(Failure::new(Status::Defect, message))
 }

@@ -2,11 +2,8 @@
 
 use super::columns::{columns, query, Column, Literal, Place};
 use crate::script::{chained, Entry, Extension, Words};
-use crate::vocabulary::Vocabulary;
+use base::vocabulary::Vocabulary;
 use judge::Refusal;
-
-/// The most frames.
-pub const FRAMES: usize = 64;
 
 /// A term. One that a record says is always named by that record, and no two records say the same (17), so that
 /// equal values are equal terms.
@@ -192,7 +189,7 @@ impl Machine<'_> {
         let complementary = against.is_some() && against.map(Goal::complement) == self.goal();
         match entry {
             Entry::Extend(_) if !complementary => Some(Why::Extension),
-            Entry::Extend(_) if self.frames.len() >= FRAMES && column.len() > 1 => Some(Why::Frames),
+            Entry::Extend(_) if self.frames.len() >= judge::FRAMES && column.len() > 1 => Some(Why::Frames),
             Entry::Reduce(frame) if usize::from(frame) + 1 >= self.frames.len() => Some(Why::NotBelow),
             Entry::Reduce(_) if !complementary => Some(Why::Reduction),
             _ => None,

@@ -2,9 +2,9 @@
 #![allow(clippy::unwrap_used, clippy::expect_used, clippy::panic, clippy::indexing_slicing)]
 
 use super::{agreed, of, run, Shown};
-use crate::report::DEFECT;
-use crate::vocabulary::Vocabulary;
 use crate::{script, text};
+use base::vocabulary::Vocabulary;
+use base::Status;
 use judge::{check_script, Refusal, Rule};
 use std::collections::BTreeMap;
 
@@ -25,7 +25,7 @@ fn cases() -> Vec<(Vec<u8>, Vec<u8>)> {
 
 /// The bytes of a text.
 fn assembled(text: &str) -> Vec<u8> {
-    text::assemble(text).expect("a text").0
+    text::assemble(text).expect("a text").bytes
 }
 
 /// The trace of a script on which the library gives this verdict: (0, steps), or number and place.
@@ -114,7 +114,10 @@ fn a_replay_that_differs_is_an_error_in_desk() {
     };
     assert!(agreed(&trace, refusal(24, 2)).is_ok());
     for verdict in [refusal(24, 3), refusal(21, 2), Ok(1)] {
-        assert_eq!(agreed(&trace, verdict).expect_err("no agreement").status, DEFECT);
+        assert_eq!(
+            agreed(&trace, verdict).expect_err("no agreement").status,
+            Status::Defect
+        );
     }
     let failure = of(&vocabulary, &script, Ok(3)).err().expect("no agreement");
     assert_eq!(

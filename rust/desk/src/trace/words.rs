@@ -2,7 +2,7 @@
 
 use super::columns::{Literal, Sign};
 use super::run::{others, Frame, Goal, Step, Term, Trace, Why};
-use crate::report::counted;
+use crate::display::counted;
 use crate::script::{Entry, Extension};
 use crate::text;
 

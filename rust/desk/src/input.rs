@@ -1,0 +1,200 @@
+//! Vocabularies and scripts, from their bytes or from their texts.
+
+use crate::display::counted;
+use crate::files::{self, Access, FileId, Length, Name, Source};
+use crate::json::Json;
+use crate::report::{Report, Stop, Style};
+use crate::text::cursor::Fault;
+use crate::text::{self, Assembled, Kind, Line, TEXT_BYTES};
+use base::spelling::nearest;
+use base::{Failure, Status};
+use judge::{Place, Refusal};
+use std::ffi::OsStr;
+
+/// The most faults of a text that are listed.
+const LISTED: usize = 20;
+
+/// A vocabulary or a script.
+pub struct Input {
+    /// The name by which messages call it.
+    pub name: Name,
+    /// Its bytes; where they were read from a file, never more than one over the limit.
+    pub bytes: Vec<u8>,
+    /// Which file it is, if it is a regular one.
+    pub id: Option<FileId>,
+    length: Length,
+    /// Of a text, the line of each record.
+    lines: Option<Vec<Line>>,
+}
+
+impl Input {
+    /// What a text of this name stands for.
+    pub fn assembled(name: &Name, id: Option<FileId>, assembled: Assembled) -> Input {
+        Input {
+            name: name.clone(),
+            length: Length::of(&assembled.bytes),
+            bytes: assembled.bytes,
+            id,
+            lines: Some(assembled.lines),
+        }
+    }
+
+    /// The comment on the line of each record, where there is a text.
+    pub fn comments(&self) -> Option<Vec<String>> {
+        let lines = self.lines.as_ref()?;
+        Some(lines.iter().map(|line| line.comment.clone()).collect())
+    }
+
+    /// The line and column of a record, where there is a text.
+    pub fn line_of(&self, record: u32) -> Option<(usize, usize)> {
+        let line = self.lines.as_ref()?.get(record as usize)?;
+        Some((line.number, line.column))
+    }
+
+    /// The line and column that a refusal is about, where there is a text. A header is record 0.
+    pub fn place_of(&self, refusal: Refusal) -> Option<(usize, usize)> {
+        match (refusal.rule.place(), refusal.rule.number()) {
+            (Place::Record | Place::ScriptRecord, _) => self.line_of(refusal.place),
+            (Place::Whole, 2 | 14) => self.line_of(0),
+            _ => None,
+        }
+    }
+
+    /// The name, with line and column where they are known.
+    pub fn at(&self, place: Option<(usize, usize)>) -> String {
+        match place {
+            Some((line, column)) => format!("{}:{line}:{column}", self.name),
+            None => self.name.to_string(),
+        }
+    }
+
+    /// What is known of the input beside a refusal: its length, and what may have been mistaken for it.
+    pub fn hint(&self, refusal: Refusal) -> String {
+        let number = refusal.rule.number();
+        let size = match number {
+            1 | 13 => format!("; {}", self.length),
+            _ => String::new(),
+        };
+        let begins = match (self.bytes.as_slice(), number) {
+            ([32, 0, ..], 1 | 2) => "; it begins as a script",
+            ([16, 1, ..], 13 | 14) => "; it begins as a vocabulary",
+            _ => "",
+        };
+        format!("{size}{begins}")
+    }
+}
+
+/// Whether bytes begin as a text: with a comment, or with the first word of one, be it misspelt.
+fn is_text(bytes: &[u8]) -> bool {
+    let bytes = bytes
+        .strip_prefix("\u{feff}".as_bytes())
+        .unwrap_or(bytes)
+        .trim_ascii_start();
+    let end = bytes
+        .iter()
+        .position(|byte| !byte.is_ascii_alphabetic())
+        .unwrap_or(bytes.len());
+    let word = String::from_utf8_lossy(bytes.get(..end).unwrap_or_default());
+    let words = [Kind::Vocabulary, Kind::Script].map(Kind::word);
+    bytes.starts_with(b"--") || words.contains(&word.as_ref()) || nearest(&word, words).is_some()
+}
+
+/// Reads a vocabulary or a script; `most` is the length from which the library refuses it.
+fn read(path: &OsStr, access: Access, most: usize) -> Result<Source, Failure> {
+    files::read(
+        path,
+        access,
+        most,
+        |first| if is_text(first) { TEXT_BYTES } else { most },
+    )
+}
+
+/// A vocabulary, from its bytes or its text.
+pub fn vocabulary(path: &OsStr, access: Access, style: Style) -> Result<Input, Stop> {
+    of_kind(read(path, access, judge::VOCABULARY_BYTES)?, Kind::Vocabulary, style)
+}
+
+/// A script, from its bytes or its text.
+pub fn script(path: &OsStr, access: Access, style: Style) -> Result<Input, Stop> {
+    of_kind(read(path, access, judge::SCRIPT_BYTES)?, Kind::Script, style)
+}
+
+/// A vocabulary or a script, and which of the two, from its bytes or its text. Bytes that begin as a script are one.
+pub fn either(path: &OsStr, style: Style) -> Result<(Input, Kind), Stop> {
+    let source = read(path, Access::Any, judge::SCRIPT_BYTES)?;
+    if is_text(&source.bytes) {
+        return read_text(source, style);
+    }
+    let kind = match source.bytes.as_slice() {
+        [32, 0, ..] => Kind::Script,
+        _ => Kind::Vocabulary,
+    };
+    Ok((of_bytes(source), kind))
+}
+
+/// A text, and what it is of.
+pub fn text(path: &OsStr, style: Style) -> Result<(Input, Kind), Stop> {
+    read_text(files::read(path, Access::Any, TEXT_BYTES, |_| TEXT_BYTES)?, style)
+}
+
+fn of_bytes(source: Source) -> Input {
+    Input {
+        name: source.name,
+        bytes: source.bytes,
+        id: source.id,
+        length: source.length,
+        lines: None,
+    }
+}
+
+fn of_kind(source: Source, wanted: Kind, style: Style) -> Result<Input, Stop> {
+    if !is_text(&source.bytes) {
+        return Ok(of_bytes(source));
+    }
+    let (input, kind) = read_text(source, style)?;
+    if kind != wanted {
+        let (name, is, wanted) = (&input.name, kind.word(), wanted.word());
+        let message = format!("{name}: is the text of a {is}, and a {wanted} is needed");
+        return Err(Failure::new(Status::Refused, message).into());
+    }
+    Ok(input)
+}
+
+fn read_text(source: Source, style: Style) -> Result<(Input, Kind), Stop> {
+    let Source { name, bytes, id, .. } = source;
+    let text = files::text_of(&name, bytes, TEXT_BYTES)?;
+    match text::assemble(&text) {
+        Ok(assembled) => {
+            let kind = assembled.kind;
+            Ok((Input::assembled(&name, id, assembled), kind))
+        }
+        Err(faults) => Err(faulty(style, &name, &faults).into()),
+    }
+}
+
+/// The faults of a text.
+fn faulty(style: Style, name: &Name, faults: &[Fault]) -> Report {
+    let word = style.paint(Status::Refused, "fault");
+    let mut text = String::new();
+    for Fault { line, column, message } in faults.iter().take(LISTED) {
+        text.push_str(&format!("{name}:{line}:{column}: {word}: {message}\n"));
+    }
+    if faults.len() > LISTED {
+        let more = counted((faults.len() - LISTED) as u64, "more fault");
+        text.push_str(&format!("{name}: and {more}\n"));
+    }
+    let place = |fault: &Fault| {
+        [
+            ("line", Json::from(fault.line)),
+            ("column", Json::from(fault.column)),
+            ("message", Json::from(fault.message.as_str())),
+        ]
+    };
+    let mut json = vec![("file", Json::from(name.as_str())), ("verdict", Json::from("faulty"))];
+    json.extend(faults.first().into_iter().flat_map(place));
+    json.push((
+        "faults",
+        Json::list(faults.iter().map(|fault| Json::object(place(fault)))),
+    ));
+    Report::new(Status::Refused, text, json)
+}

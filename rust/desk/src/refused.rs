@@ -1,0 +1,41 @@
+//! Refusals of inputs, with what is known of the input.
+
+use crate::input::Input;
+use crate::json::Json;
+use crate::report::{refusal_json, refusal_status, Report, Style};
+use judge::Refusal;
+
+/// A refusal in words, with what is known of the input that it is about, and a reason in detail where there is one.
+pub fn words(input: &Input, refusal: Refusal, detail: Option<&str>) -> String {
+    let detail = detail.map(|detail| format!("; {detail}")).unwrap_or_default();
+    format!("{refusal}{}{detail}", input.hint(refusal))
+}
+
+/// The refusal of an input, at its line where it was a text.
+pub fn report(style: Style, input: &Input, refusal: Refusal, detail: Option<&str>) -> Report {
+    at(style, input, input.place_of(refusal), refusal, detail)
+}
+
+/// The same at a given line and column of its text.
+pub fn at(
+    style: Style,
+    input: &Input,
+    place: Option<(usize, usize)>,
+    refusal: Refusal,
+    detail: Option<&str>,
+) -> Report {
+    let status = refusal_status(refusal);
+    let words = words(input, refusal, detail);
+    let painted = words.replacen("refused", &style.paint(status, "refused"), 1);
+    let text = format!("{}: {painted}\n", input.at(place));
+    let mut json = vec![
+        ("file", Json::from(input.name.as_str())),
+        ("verdict", Json::from("refused")),
+        ("refusal", refusal_json(refusal)),
+    ];
+    if let Some((line, column)) = place {
+        json.extend([("line", Json::from(line)), ("column", Json::from(column))]);
+    }
+    json.extend(detail.map(|detail| ("detail", Json::from(detail))));
+    Report::new(status, text, json)
+}
