@@ -7,6 +7,7 @@ mod recheck;
 mod record;
 mod show;
 mod verify;
+mod within;
 
 use crate::console::{Colour, Console};
 use crate::files::Access;
@@ -38,11 +39,12 @@ const fn command(
 }
 
 /// The commands, in the order of the help.
-const COMMANDS: [Command; 7] = [
+const COMMANDS: [Command; 8] = [
     command("check", &[], check::run),
     command("show", &[], show::run),
     command("record", &[], record::run),
     command("compare", compare::FLAGS, compare::run),
+    command("within", within::FLAGS, within::run),
     command("verify", verify::FLAGS, verify::run),
     command("assemble", assemble::FLAGS, assemble::run),
     command("recheck", &[], recheck::run),
