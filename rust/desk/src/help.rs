@@ -54,7 +54,7 @@ const PAGES: [(&str, &str); 11] = [
 ];
 
 const CHECK: &str = "\
-usage: desk check VOCABULARY .. [--json] [--quiet] [--color[=WHEN]]
+usage: desk check VOCABULARY .. [--json]
 
 Whether each vocabulary is accepted (refusals 1 to 8), with the number of its records, names, restrictions, statements
 and roles, and whether it can be compared (at most 12 atoms). If it can, and nothing satisfies its statements, that is
@@ -64,7 +64,7 @@ exit status: 0 accepted, 2 refused; of several the greatest
 ";
 
 const SHOW: &str = "\
-usage: desk show FILE .. [--json] [--quiet] [--color[=WHEN]]
+usage: desk show FILE .. [--json]
 
 Prints a vocabulary or a script as text, a line for each record: terms and statements in OWL 2 functional syntax, with
 c7 for the name labelled 7, r0 for role 0 and #4 for the term of record 4. 'desk assemble' makes the same bytes of it.
@@ -76,7 +76,7 @@ exit status: 0 shown, 2 refused; of several the greatest
 ";
 
 const RECORD: &str = "\
-usage: desk record VOCABULARY N [--json] [--quiet] [--color[=WHEN]]
+usage: desk record VOCABULARY N [--json]
 
 Prints the bytes and the fields of record N (0 is the header) and what it says. Works for a vocabulary that 'check'
 refuses, too, unless its length is refused.
@@ -85,7 +85,7 @@ exit status: 0 printed, 2 refused (1: length, 9: past the end)
 ";
 
 const COMPARE: &str = "\
-usage: desk compare VOCABULARY A B [--words TEXT] [--survivors FILE] [--json] [--quiet] [--color[=WHEN]]
+usage: desk compare VOCABULARY A B [--words TEXT] [--survivors FILE] [--json]
 
 Whether the terms of records A and B are equal in every finite interpretation that satisfies the statements. If they
 are different, an element tells them apart: the names and restrictions that hold at it are listed, and which of the
@@ -100,7 +100,7 @@ exit status: 0 equal, 1 different, 2 refused
 ";
 
 const WITHIN: &str = "\
-usage: desk within VOCABULARY A B [--words TEXT] [--json] [--quiet] [--color[=WHEN]]
+usage: desk within VOCABULARY A B [--words TEXT] [--json]
 
 Whether the term of record A lies within the term of record B in every finite interpretation that satisfies the
 statements. No script is needed. If it does not, an element of A outside B is named and explained as by 'compare'.
@@ -115,7 +115,7 @@ exit status: 0 within, 1 not within, 2 refused
 ";
 
 const VERIFY: &str = "\
-usage: desk verify VOCABULARY SCRIPT [--trace] [--words TEXT] [--json] [--quiet] [--color[=WHEN]]
+usage: desk verify VOCABULARY SCRIPT [--trace] [--words TEXT] [--json]
 
 Whether the script proves that its first term lies within its second, over the vocabulary: accepted with the number of
 its steps, or the refusal, with what is wrong at the record.
@@ -130,7 +130,7 @@ exit status: 0 accepted, 1 the script keeps the form but its chain is no derivat
 ";
 
 const COLUMNS: &str = "\
-usage: desk columns VOCABULARY [OWNER] [--words TEXT] [--json] [--quiet] [--color[=WHEN]]
+usage: desk columns VOCABULARY [OWNER] [--words TEXT] [--json]
 
 Lists the columns that an extension of a script may name, with their literals by position: those of record OWNER, or of
 every record. Owner 0 is the query. C5(x) says that x is in the term of record 5, r0(x,y) that the pair is in role 0,
@@ -142,7 +142,7 @@ exit status: 0 listed, 2 refused
 ";
 
 const ASSEMBLE: &str = "\
-usage: desk assemble TEXT -o FILE [--force] [--json] [--quiet] [--color[=WHEN]]
+usage: desk assemble TEXT -o FILE [--force] [--json]
 
 Makes the bytes of a vocabulary or a script from its text ('desk help texts'; 'desk show' prints it). A vocabulary that
 the library refuses is not written, nor is one that has a fault in its text: all faults are told, each with its line and
@@ -156,7 +156,7 @@ exit status: 0 written, 2 refused, or a fault in the text
 ";
 
 const RECHECK: &str = "\
-usage: desk recheck TABLE [--strict] [--explain] [--words TEXT] [-j N] [--json] [--quiet] [--color[=WHEN]]
+usage: desk recheck TABLE [--strict] [--explain] [--words TEXT] [-j N] [--json]
 
 Rechecks a filed table, a line each ('desk help tables'). Prints each line that does not hold when it is found, in the
 order of the table, and a summary; a progress bar where standard error is a terminal. Lines that hold only because

@@ -5,7 +5,7 @@
 mod tests;
 
 use base::vocabulary::{Saying, Vocabulary};
-use judge::{Comparison, Refusal};
+use judge::{Comparison, Refusal, Verdict};
 use std::collections::BTreeMap;
 
 /// Questions about a vocabulary, with what is known of it so far.
@@ -60,14 +60,14 @@ impl<'a> Questions<'a> {
             self.compare(a, both)?
         } else if let Some(either) = self.find([or(first, second), or(second, first)]) {
             self.compare(either, b)?
-        } else if a == b {
-            self.compare(a, b)?
         } else if let Some((copy, both)) = self.with(and(first, second)) {
             self.compare_in(&copy, a, both)?
         } else {
-            // Refused, if it is for another reason than the room.
-            self.compare(a, b)?;
-            return Ok(Within::NoRoom);
+            // Equal terms lie within each other; it is refused here, too, if that is for another reason than the room.
+            match self.compare(a, b)? {
+                answer if answer.verdict == Verdict::Equal => answer,
+                _ => return Ok(Within::NoRoom),
+            }
         };
         Ok(Within::Answer(answer))
     }
@@ -94,7 +94,7 @@ impl<'a> Questions<'a> {
             self.compare(term, term)?;
             return Ok(None);
         };
-        Ok(Some(answer.verdict == judge::Verdict::Equal))
+        Ok(Some(answer.verdict == Verdict::Equal))
     }
 
     /// Whether the statements contradict each other, so that no interpretation satisfies them. Refused where the

@@ -102,8 +102,10 @@ fn a_full_vocabulary_is_asked_by_a_record_that_says_it_or_not_at_all() {
     }
     assert_eq!(questions(&full(512, &[Saying::Bottom])), (None, Some(false)));
     let full = full(512, &[]);
-    let same = Questions::new(&full).within(2, 2).unwrap();
-    assert!(matches!(same, Within::Answer(answer) if answer.verdict == Verdict::Equal));
+    for (a, b) in [(2, 2), (1, 3)] {
+        let equal = Questions::new(&full).within(a, b).unwrap();
+        assert!(matches!(equal, Within::Answer(answer) if answer.verdict == Verdict::Equal));
+    }
 }
 
 #[test]
