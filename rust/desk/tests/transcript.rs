@@ -71,44 +71,54 @@ fn with_examples(name: &str) -> Place {
     place
 }
 
-/// A document's fenced blocks that are files (```text file=NAME) are written; its indented lines are handed back.
-fn prepare(place: &Place, document: &str) -> Vec<String> {
-    let (mut indented, mut file, mut fenced) = (Vec::new(), None, false);
+/// A document's lines, each with whether it stands in a fenced block; fenced blocks that are files (```text file=NAME) are
+/// written.
+fn prepare<'a>(place: &Place, document: &'a str) -> Vec<(&'a str, bool)> {
+    let (mut lines, mut file, mut fenced) = (Vec::new(), None, false);
     for line in document.lines() {
-        if let Some(info) = line.strip_prefix("```") {
+        let info = line.strip_prefix("```");
+        lines.push((line, fenced || info.is_some()));
+        if let Some(info) = info {
             if let Some((name, text)) = file.take() {
                 fs::write(place.file(name), text).unwrap();
             }
             fenced = !fenced;
-            file = info
-                .split_once("file=")
-                .filter(|_| fenced)
-                .map(|(_, name)| (name, String::new()));
+            let named = info.split_once("file=").filter(|_| fenced);
+            file = named.map(|(_, name)| (name, String::new()));
         } else if let Some((_, text)) = &mut file {
             text.push_str(&format!("{line}\n"));
-        } else if let Some(words) = line.strip_prefix("    ").filter(|_| !fenced) {
-            indented.push(words.to_string());
         }
     }
-    indented
+    lines
 }
 
 /// Runs the examples of a document: an indented line that begins with '$ ' is a command, and the indented lines after it
 /// are what it prints.
 fn check_document(place: &Place, name: &str, least: usize) {
-    let document = fs::read_to_string(root().join("docs").join(name)).unwrap();
-    let indented = prepare(place, &document);
-    let mut lines = indented.iter().skip_while(|line| !line.starts_with("$ ")).peekable();
+    let path = root().join("docs").join(name);
+    let document = fs::read_to_string(&path).unwrap();
+    let mut made = String::new();
     let mut commands = 0;
-    while let Some(line) = lines.next() {
-        let words = line.strip_prefix("$ ").unwrap();
-        let mut wanted = String::new();
-        while let Some(line) = lines.next_if(|line| !line.starts_with("$ ")) {
-            wanted.push_str(&format!("{line}\n"));
-        }
-        let (said, _) = place.said(words);
-        assert!(said == wanted, "{name}: $ {words}\n{}", difference(&wanted, &said));
+    let lines = prepare(place, &document);
+    let mut lines = lines.into_iter().peekable();
+    while let Some((line, fenced)) = lines.next() {
+        made.push_str(&format!("{line}\n"));
+        let Some(words) = line.strip_prefix("    $ ").filter(|_| !fenced) else {
+            continue;
+        };
         commands += 1;
+        while lines
+            .next_if(|(line, fenced)| !fenced && line.starts_with("    ") && !line.starts_with("    $ "))
+            .is_some()
+        {}
+        for said in place.said(words).0.lines() {
+            made.push_str(&format!("    {said}\n"));
+        }
+    }
+    if std::env::var_os("DESK_WRITE").is_some() {
+        fs::write(&path, &made).unwrap();
+    } else {
+        assert!(made == document, "{name}: {}", difference(&document, &made));
     }
     assert!(commands >= least, "{name} has {commands} commands");
 }
@@ -119,4 +129,9 @@ fn the_examples_of_desk_md_are_what_desk_says() {
     let (text, _) = place.said("desk show v.vocabulary");
     fs::write(place.file("v.text"), text).unwrap();
     check_document(&place, "DESK.md", 8);
+}
+
+#[test]
+fn the_examples_of_formats_md_are_what_desk_says() {
+    check_document(&Place::new("formats.md"), "FORMATS.md", 20);
 }

@@ -1,6 +1,6 @@
 //! `desk check`.
 
-use super::read_vocabulary;
+use super::{each, read_vocabulary};
 use crate::console::Console;
 use crate::display::counted;
 use crate::input::Input;
@@ -13,19 +13,13 @@ use base::vocabulary::{Vocabulary, STATEMENT_KIND};
 use base::Status;
 
 pub fn run(arguments: &Arguments, console: &mut Console) -> Result<Status, Stop> {
-    let mut status = Status::Holds;
-    for path in arguments.some_words("VOCABULARY")? {
-        let input = read_vocabulary(path, console.style)?;
-        let report = match judge::check_vocabulary(&input.bytes) {
-            Err(refusal) => refused::report(console.style, &input, refusal, None),
-            Ok(records) => accepted(console.style, &input, records),
-        };
-        status = status.max(console.answer(report)?);
-        if console.is_gone() {
-            break;
-        }
-    }
-    Ok(status)
+    each(arguments, "VOCABULARY", console, |path, style| {
+        let input = read_vocabulary(path, style)?;
+        Ok(match judge::check_vocabulary(&input.bytes) {
+            Err(refusal) => refused::report(style, &input, refusal, None),
+            Ok(records) => accepted(style, &input, records),
+        })
+    })
 }
 
 fn accepted(style: Style, input: &Input, records: u32) -> Report {
