@@ -24,6 +24,9 @@ pub type Pair = [u32; 2];
 pub fn run(arguments: &Arguments, console: &mut Console) -> Result<Status, Stop> {
     let [path, a, b] = arguments.words(["VOCABULARY", "A", "B"])?;
     let pair = [number(a, "A")?, number(b, "B")?];
+    if arguments.value("--survivors").is_some_and(|path| path == "-") {
+        return Err(Failure::usage("--survivors takes a file, and '-' is none").into());
+    }
     let input = read_vocabulary(path, console.style)?;
     let words = read_words(arguments, console.style)?;
     let mut survivors = [0; judge::SURVIVOR_BYTES];
