@@ -7,16 +7,16 @@ use crate::vocabulary::MOST_RECORDS;
 
 /// The vocabularies of the benchmarks on which pairs of terms are chosen.
 const STORED: [&[u8]; 6] = [
-    include_bytes!("../data/walk8.bin"),
-    include_bytes!("../data/walk10.bin"),
-    include_bytes!("../data/counter2_8.bin"),
-    include_bytes!("../data/counter2_12.bin"),
-    include_bytes!("../data/late12.bin"),
-    include_bytes!("../data/never12.bin"),
+    include_bytes!("../../../../bench/data/walk8.bin"),
+    include_bytes!("../../../../bench/data/walk10.bin"),
+    include_bytes!("../../../../bench/data/counter2_8.bin"),
+    include_bytes!("../../../../bench/data/counter2_12.bin"),
+    include_bytes!("../../../../bench/data/late12.bin"),
+    include_bytes!("../../../../bench/data/never12.bin"),
 ];
 
 /// The one with 1,005 rounds, for which one case is enough.
-const WALK_12: &[u8] = include_bytes!("../data/walk12.bin");
+const WALK_12: &[u8] = include_bytes!("../../../../bench/data/walk12.bin");
 
 /// The last record of the chain, or the header.
 fn chain_end(draft: &Draft) -> usize {
