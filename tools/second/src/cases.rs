@@ -1,10 +1,7 @@
 //! Files of cases, one after the other.
 
 /// The cases of a file, each split off what is left of it; or where the file is malformed.
-pub fn decode<Case>(
-    bytes: &[u8],
-    split: impl Fn(&[u8]) -> Option<(Case, &[u8])>,
-) -> Result<Vec<Case>, String> {
+pub fn decode<Case>(bytes: &[u8], split: impl Fn(&[u8]) -> Option<(Case, &[u8])>) -> Result<Vec<Case>, String> {
     let mut cases = Vec::new();
     let mut rest = bytes;
     while !rest.is_empty() {

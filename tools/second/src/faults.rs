@@ -45,22 +45,14 @@ pub fn ways(number: u8, record: Record, draft: &Draft, count: usize) -> Vec<Reco
 }
 
 /// One such way at random, or nothing where there is none.
-pub fn way(
-    number: u8,
-    record: Record,
-    draft: &Draft,
-    count: usize,
-    random: &mut Random,
-) -> Option<Record> {
+pub fn way(number: u8, record: Record, draft: &Draft, count: usize, random: &mut Random) -> Option<Record> {
     random.pick(&ways(number, record, draft, count))
 }
 
 /// The record with each field of a purpose changed to each value in turn.
 fn change(record: Record, purpose: Use, values: &[u16]) -> Vec<Record> {
     let uses = uses(record.kind).into_iter().flatten().enumerate();
-    let fields = uses
-        .filter(|(_, used)| *used == purpose)
-        .map(|(field, _)| field);
+    let fields = uses.filter(|(_, used)| *used == purpose).map(|(field, _)| field);
     fields
         .flat_map(|field| values.iter().map(move |value| with(record, field, *value)))
         .collect()
@@ -79,14 +71,7 @@ fn wrong_starts(record: Record) -> Vec<Record> {
 /// numbers past the end, statements, and terms with a high byte too many.
 fn wrong_terms(draft: &Draft, count: usize) -> Vec<u16> {
     let own = draft.records.len();
-    let mut numbers = vec![
-        0,
-        own as u16,
-        own as u16 + 1,
-        count as u16 - 1,
-        count as u16,
-        65535,
-    ];
+    let mut numbers = vec![0, own as u16, own as u16 + 1, count as u16 - 1, count as u16, 65535];
     let statements = draft.statements();
     numbers.extend(statements.first());
     numbers.extend(statements.last());
@@ -120,15 +105,8 @@ pub fn wrong_nexts(draft: &Draft, holder: usize) -> Vec<u16> {
     let count = draft.records.len() as u16;
     let mut numbers = vec![holder as u16, 1, count - 1, count, count + 1, 65535];
     for list in [draft.terms(), draft.statements()] {
-        let later = list
-            .iter()
-            .copied()
-            .find(|number| usize::from(*number) > holder);
-        numbers.extend(
-            list.iter()
-                .copied()
-                .rfind(|number| usize::from(*number) < holder),
-        );
+        let later = list.iter().copied().find(|number| usize::from(*number) > holder);
+        numbers.extend(list.iter().copied().rfind(|number| usize::from(*number) < holder));
         numbers.extend(later);
         numbers.extend(later.map(|number| number + 256));
     }

@@ -70,9 +70,7 @@ pub fn all(seed: Seed) -> Vec<Planned> {
 
 /// The cases that the vocabulary check answers otherwise than meant, a line for each.
 pub fn misses(planned: &[Planned]) -> Vec<String> {
-    let answers = planned
-        .iter()
-        .map(|p| (check_vocabulary(&p.case.vocabulary), p.meant));
+    let answers = planned.iter().map(|p| (check_vocabulary(&p.case.vocabulary), p.meant));
     let missed = answers
         .enumerate()
         .filter(|(_, (is, meant))| meant.is_some_and(|m| m != *is));
@@ -89,15 +87,7 @@ fn refused(number: u8, place: usize) -> Meant {
 /// Record numbers around the ends of a vocabulary and of the number formats.
 fn edge_numbers(vocabulary: &[u8]) -> [u32; 7] {
     let count = (vocabulary.len() / RECORD_BYTES) as u32;
-    [
-        0,
-        count.saturating_sub(1),
-        count,
-        count + 1,
-        65535,
-        65536,
-        u32::MAX,
-    ]
+    [0, count.saturating_sub(1), count, count + 1, 65535, 65536, u32::MAX]
 }
 
 impl Plan {
@@ -258,22 +248,11 @@ impl Plan {
 
     /// Roles around the role count, in a record of 12.
     fn roles_at(&mut self, roles: u16, kind: u8, place: usize) {
-        for role in [
-            0,
-            roles.saturating_sub(1),
-            roles,
-            roles + 1,
-            roles + 256,
-            65535,
-        ] {
+        for role in [0, roles.saturating_sub(1), roles, roles + 1, roles + 256, 65535] {
             let before = Draft::random(roles, place, &mut self.random);
             let term = self.random.pick(&before.terms()).unwrap_or(1);
             let draft = self.complete(&before, Record::new(kind, role, term, 0), 12);
-            let meant = if role < roles {
-                Some(Ok(12))
-            } else {
-                refused(6, place)
-            };
+            let meant = if role < roles { Some(Ok(12)) } else { refused(6, place) };
             self.add(draft.bytes(), meant);
         }
     }
@@ -442,10 +421,7 @@ impl Plan {
 
     /// The draft with a wrong header, and the same with a byte too many.
     fn spoil_header(&mut self, draft: &Draft) {
-        let header = self
-            .random
-            .pick(&wrong_headers(5))
-            .unwrap_or(Record::header(65));
+        let header = self.random.pick(&wrong_headers(5)).unwrap_or(Record::header(65));
         let mut wrong = draft.clone();
         wrong.records[0] = with(header, crate::decode::A, self.random.number());
         let mut bytes = wrong.bytes();
@@ -499,13 +475,7 @@ impl Plan {
         for count in [11, 13] {
             let bytes = self.vocabulary(count).bytes();
             for at in 0..bytes.len() {
-                for value in [
-                    bytes[at] ^ 1,
-                    bytes[at].wrapping_add(1),
-                    0,
-                    255,
-                    self.random.byte(),
-                ] {
+                for value in [bytes[at] ^ 1, bytes[at].wrapping_add(1), 0, 255, self.random.byte()] {
                     let mut wrong = bytes.clone();
                     wrong[at] = value;
                     self.add(wrong, None);

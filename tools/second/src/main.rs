@@ -41,9 +41,7 @@ fn main() -> ExitCode {
         ["expect"] => filter(|bytes| Ok(print::lines(&vectors::decode(bytes)?))),
         ["comparisons"] => make_comparisons(None),
         ["comparisons", seed] => seeded(seed, make_comparisons),
-        ["expect-comparisons"] => {
-            filter(|bytes| Ok(comparison::lines(&comparison::decode(bytes)?)))
-        }
+        ["expect-comparisons"] => filter(|bytes| Ok(comparison::lines(&comparison::decode(bytes)?))),
         ["scripts"] => make_scripts(None),
         ["scripts", seed] => seeded(seed, make_scripts),
         ["expect-scripts"] => filter(|bytes| Ok(script::lines(&script::decode(bytes)?))),

@@ -51,10 +51,7 @@ impl Table {
     /// The table of the cases.
     pub fn of(cases: &[Case]) -> Table {
         Table {
-            checks: cases
-                .iter()
-                .map(|case| check_vocabulary(&case.vocabulary))
-                .collect(),
+            checks: cases.iter().map(|case| check_vocabulary(&case.vocabulary)).collect(),
             calls: cases
                 .iter()
                 .map(|case| find_record(&case.vocabulary, case.number))
@@ -64,11 +61,7 @@ impl Table {
 
     /// The different places at which a refusal is met, in order.
     fn places(&self, number: u8) -> Vec<usize> {
-        let refusals = self
-            .checks
-            .iter()
-            .chain(&self.calls)
-            .filter_map(|answer| answer.err());
+        let refusals = self.checks.iter().chain(&self.calls).filter_map(|answer| answer.err());
         let met = refusals.filter(|refusal| refusal.number == number);
         let mut places: Vec<usize> = met.map(|refusal| refusal.place).collect();
         places.sort_unstable();
@@ -78,8 +71,7 @@ impl Table {
 
     /// The refusals that no case meets.
     pub fn never_met(&self) -> Vec<u8> {
-        ROWS.filter(|number| self.places(*number).is_empty())
-            .collect()
+        ROWS.filter(|number| self.places(*number).is_empty()).collect()
     }
 
     /// The table as text. Row 0 counts the cases that are accepted.
@@ -92,8 +84,7 @@ impl Table {
             let first = places.first().copied().unwrap_or(0);
             let last = places.last().copied().unwrap_or(0);
             let different = places.len();
-            text +=
-                &format!("{number:7}  {checks:6}  {calls:11}  {different:6}  {first:5}  {last}\n");
+            text += &format!("{number:7}  {checks:6}  {calls:11}  {different:6}  {first:5}  {last}\n");
         }
         text
     }

@@ -21,11 +21,7 @@ fn form(name: &str) -> Result<Form, String> {
         "scripts" => (4, &[0, 2], None),
         _ => return Err(format!("there are no cases by the name {name}")),
     };
-    Ok(Form {
-        head,
-        lengths,
-        filling,
-    })
+    Ok(Form { head, lengths, filling })
 }
 
 impl Form {

@@ -49,26 +49,21 @@ pub fn find_record(bytes: &[u8], number: u32) -> Result<usize, Refusal> {
 /// Row 1: the length of the vocabulary.
 fn check_length(bytes: &[u8]) -> Result<(), Refusal> {
     let length = bytes.len();
-    let wrong =
-        length < RECORD_BYTES || length > MOST_RECORDS * RECORD_BYTES || length % RECORD_BYTES != 0;
+    let wrong = length < RECORD_BYTES || length > MOST_RECORDS * RECORD_BYTES || length % RECORD_BYTES != 0;
     refuse_if(wrong, 1, 0)
 }
 
 /// Row 2: the header, apart from its A.
 fn check_header(records: &[Record]) -> Result<(), Refusal> {
     let header = records[0];
-    let wrong = header.kind != 16
-        || header.second != 1
-        || header.fields[B] > MOST_ROLES
-        || header.fields[NEXT] != 0;
+    let wrong = header.kind != 16 || header.second != 1 || header.fields[B] > MOST_ROLES || header.fields[NEXT] != 0;
     refuse_if(wrong, 2, 0)
 }
 
 /// Rows 3 to 7: whether a row's condition applies to the record at a place.
 fn applies(row: u8, records: &[Record], place: usize) -> bool {
     let record = records[place];
-    let any =
-        |purpose: Use, wrong: &dyn Fn(u16) -> bool| record.used_for(purpose).into_iter().any(wrong);
+    let any = |purpose: Use, wrong: &dyn Fn(u16) -> bool| record.used_for(purpose).into_iter().any(wrong);
     match row {
         3 => crate::decode::uses(record.kind).is_none() || record.second != 0,
         4 => any(Use::Unused, &|field| field != 0),

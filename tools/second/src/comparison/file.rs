@@ -31,8 +31,7 @@ impl Case {
     fn split(bytes: &[u8]) -> Option<(Case, &[u8])> {
         let (head, body) = bytes.split_first_chunk::<HEAD_BYTES>()?;
         let [l0, l1, a0, a1, a2, a3, b0, b1, b2, b3, n0, n1, seed] = *head;
-        let (vocabulary, rest) =
-            body.split_at_checked(usize::from(u16::from_le_bytes([l0, l1])))?;
+        let (vocabulary, rest) = body.split_at_checked(usize::from(u16::from_le_bytes([l0, l1])))?;
         let case = Case {
             vocabulary: vocabulary.to_vec(),
             a: u32::from_le_bytes([a0, a1, a2, a3]),

@@ -66,12 +66,7 @@ impl Interpretation {
 }
 
 /// What the written interpretation has against an answer, or nothing.
-pub fn objection(
-    types: &Types,
-    compared: &Compared,
-    terms: [u32; 2],
-    bytes: &[u8],
-) -> Option<String> {
+pub fn objection(types: &Types, compared: &Compared, terms: [u32; 2], bytes: &[u8]) -> Option<String> {
     let read = read_back(types, bytes);
     let [a, b] = terms.map(|term| term as usize);
     if read.elements != compared.survivors {

@@ -14,9 +14,7 @@ const DRAWS: usize = 500;
 
 /// Kinds in random order: so many atoms, and some terms and statements of other kinds.
 fn kinds(atoms: usize, random: &mut Random) -> Vec<u8> {
-    let mut kinds: Vec<u8> = (0..atoms)
-        .filter_map(|_| random.pick(&[3, 3, 7, 7, 8]))
-        .collect();
+    let mut kinds: Vec<u8> = (0..atoms).filter_map(|_| random.pick(&[3, 3, 7, 7, 8])).collect();
     let terms = random.below(8);
     kinds.extend((0..terms).filter_map(|_| random.pick(&[1, 2, 4, 4, 5, 5, 6, 6])));
     kinds.extend(std::iter::repeat_n(9, random.below(6)));
@@ -33,9 +31,7 @@ pub fn vocabulary(atoms: usize, random: &mut Random) -> Draft {
             let first = 1 + random.below(2) as u8;
             draft.records.push(Record::new(first, 0, 0, 0));
         }
-        let record = draft
-            .valid(kind, random)
-            .map(|r| on_a_used_role(r, &draft, random));
+        let record = draft.valid(kind, random).map(|r| on_a_used_role(r, &draft, random));
         draft.records.extend(record);
     }
     draft.chain_random(random);

@@ -99,15 +99,7 @@ impl Plan {
     /// A header alone: each query gives 10.
     fn header_alone(&mut self) {
         let vocabulary = Terms::new(64).bytes();
-        for [a, b] in [
-            [0, 0],
-            [1, 0],
-            [0, 1],
-            [1, 2],
-            [2, 1],
-            [65535, 1],
-            [u32::MAX, 0],
-        ] {
+        for [a, b] in [[0, 0], [1, 0], [0, 1], [1, 2], [2, 1], [65535, 1], [u32::MAX, 0]] {
             self.add(&vocabulary, a, b, &format!("refused 10 {a} "));
         }
     }

@@ -22,20 +22,14 @@ type Sort = (&'static str, fn(&Compared) -> bool);
 const SORTS: [Sort; 10] = [
     ("equal", |c| c.element.is_none()),
     ("different", |c| c.element.is_some()),
-    ("different, element not 0", |c| {
-        c.element.is_some_and(|t| t > 0)
-    }),
+    ("different, element not 0", |c| c.element.is_some_and(|t| t > 0)),
     ("rounds 0", |c| c.rounds == 0),
     ("rounds 1", |c| c.rounds == 1),
     ("rounds 2", |c| c.rounds == 2),
     ("rounds 3 to 9", |c| (3..10).contains(&c.rounds)),
     ("rounds 10 and more", |c| c.rounds >= 10),
-    ("no survivor, no round", |c| {
-        c.survivors.is_empty() && c.rounds == 0
-    }),
-    ("no survivor, rounds", |c| {
-        c.survivors.is_empty() && c.rounds > 0
-    }),
+    ("no survivor, no round", |c| c.survivors.is_empty() && c.rounds == 0),
+    ("no survivor, rounds", |c| c.survivors.is_empty() && c.rounds > 0),
 ];
 
 /// For each error whether it changes the answer to a case.
@@ -55,14 +49,9 @@ fn outcomes(cases: &[Planned]) -> Vec<Outcome> {
 }
 
 /// The cases whose answer is not borne out, a line for each.
-fn objections<'a>(
-    cases: &'a [Planned],
-    outcomes: &'a [Outcome],
-) -> impl Iterator<Item = String> + 'a {
+fn objections<'a>(cases: &'a [Planned], outcomes: &'a [Outcome]) -> impl Iterator<Item = String> + 'a {
     let numbered = cases.iter().zip(outcomes).enumerate();
-    numbered.filter_map(|(i, (planned, outcome))| {
-        fault(planned, outcome).map(|text| format!("case {i} {text}"))
-    })
+    numbered.filter_map(|(i, (planned, outcome))| fault(planned, outcome).map(|text| format!("case {i} {text}")))
 }
 
 /// The table of cases of another seed: they have to be right, but need not be of every sort.
@@ -87,9 +76,7 @@ pub fn table(cases: &[Planned]) -> Table {
         table.add(name, with(&|o| o.answer.as_ref().is_ok_and(is_one)), 1);
     }
     let pairs = || cases.iter().zip(&outcomes);
-    let told: Vec<_> = pairs()
-        .map(|(planned, outcome)| told(planned, outcome))
-        .collect();
+    let told: Vec<_> = pairs().map(|(planned, outcome)| told(planned, outcome)).collect();
     for (i, (name, _)) in ERRORS.iter().enumerate() {
         let count = told.iter().filter(|errors| errors[i]).count();
         table.add(&format!("would change by: {name}"), count, 1);

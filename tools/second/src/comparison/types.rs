@@ -75,9 +75,7 @@ impl Types {
         let restrictions = records.iter().enumerate().map(restriction);
         Types {
             truths: truths(&records),
-            restrictions: restrictions
-                .filter(|r| r.kind == SOME || r.kind == ALL)
-                .collect(),
+            restrictions: restrictions.filter(|r| r.kind == SOME || r.kind == ALL).collect(),
             records,
         }
     }
@@ -106,8 +104,7 @@ impl Types {
     /// What the partners of t for a role have to keep to: every kind-7 record of the role false at
     /// t, and every kind-8 record of the role true at t.
     fn bounds(&self, role: u16, t: usize) -> Vec<Restriction> {
-        let bounds =
-            |r: &&Restriction| r.role == role && self.is_true(r.number, t) == (r.kind == ALL);
+        let bounds = |r: &&Restriction| r.role == role && self.is_true(r.number, t) == (r.kind == ALL);
         self.restrictions.iter().filter(bounds).copied().collect()
     }
 

@@ -13,11 +13,7 @@ pub fn check_script(vocabulary: &[u8], script: &[u8]) -> Result<usize, Refusal> 
 }
 
 /// The script check by other rules.
-pub fn check_by<R: Rules + ?Sized>(
-    rules: &R,
-    vocabulary: &[u8],
-    script: &[u8],
-) -> Result<usize, Refusal> {
+pub fn check_by<R: Rules + ?Sized>(rules: &R, vocabulary: &[u8], script: &[u8]) -> Result<usize, Refusal> {
     check_vocabulary(vocabulary)?;
     check_length(script)?;
     let vocabulary = decode::records(vocabulary);

@@ -2,8 +2,7 @@
 
 use crate::script::columns::{Argument, Literal};
 use crate::script::records::{
-    chain, Script, Term, Words, COLUMN, EXTENSION, FRAME, KIND, OWNER, POSITION, REDUCTION, START,
-    START_COLUMN, X, Y,
+    chain, Script, Term, Words, COLUMN, EXTENSION, FRAME, KIND, OWNER, POSITION, REDUCTION, START, START_COLUMN, X, Y,
 };
 use crate::script::rules::Rules;
 use crate::vocabulary::{refuse_if, Refusal};
@@ -29,10 +28,7 @@ pub struct Machine {
 impl Frame {
     /// A frame of which nothing is closed.
     fn of(literals: Vec<Goal>) -> Frame {
-        Frame {
-            literals,
-            closed: 0,
-        }
+        Frame { literals, closed: 0 }
     }
 
     /// The first open literal.
@@ -78,11 +74,7 @@ pub fn run<R: Rules + ?Sized>(rules: &R, script: &Script) -> Result<usize, Refus
 }
 
 /// Runs steps one after the other: the machine after them, or the first refusal.
-pub fn run_steps<R: Rules + ?Sized>(
-    rules: &R,
-    script: &Script,
-    steps: &[usize],
-) -> Result<Machine, Refusal> {
+pub fn run_steps<R: Rules + ?Sized>(rules: &R, script: &Script, steps: &[usize]) -> Result<Machine, Refusal> {
     let mut machine = Machine::empty();
     for place in steps {
         for row in rules.rows() {
@@ -95,13 +87,7 @@ pub fn run_steps<R: Rules + ?Sized>(
 }
 
 /// Rows 25 and 20 to 23: whether a row's condition applies to the step at a place.
-fn applies<R: Rules + ?Sized>(
-    rules: &R,
-    script: &Script,
-    machine: &Machine,
-    place: usize,
-    row: u8,
-) -> bool {
+fn applies<R: Rules + ?Sized>(rules: &R, script: &Script, machine: &Machine, place: usize, row: u8) -> bool {
     let record = &script.records[place];
     let kind = record[KIND];
     match row {
@@ -135,23 +121,13 @@ fn with_terms(column: &[Literal<Argument>], x: u16, y: u16) -> Vec<Goal> {
 }
 
 /// The position at which an extension connects with the goal, if it does.
-fn connection<R: Rules + ?Sized>(
-    rules: &R,
-    script: &Script,
-    machine: &Machine,
-    record: &Words,
-) -> Option<usize> {
+fn connection<R: Rules + ?Sized>(rules: &R, script: &Script, machine: &Machine, record: &Words) -> Option<usize> {
     let column = instance(script, record);
     rules.connection(script, &column, record[POSITION].into(), machine.goal()?)
 }
 
 /// Whether a reduction's frame is below the last, and its own goal is the complement of the goal.
-fn reduces<R: Rules + ?Sized>(
-    rules: &R,
-    script: &Script,
-    machine: &Machine,
-    number: usize,
-) -> bool {
+fn reduces<R: Rules + ?Sized>(rules: &R, script: &Script, machine: &Machine, number: usize) -> bool {
     let below = number + 1 < machine.frames.len();
     let goal = machine.goal();
     below && goal.is_some_and(|goal| rules.reduces(script, &machine.frames[number], goal))
@@ -160,9 +136,7 @@ fn reduces<R: Rules + ?Sized>(
 /// Whether two literals are complements, equal terms included.
 pub fn complements<R: Rules + ?Sized>(rules: &R, script: &Script, l: &Goal, m: &Goal) -> bool {
     let mut pairs = l.arguments.iter().zip(&m.arguments);
-    l.positive != m.positive
-        && l.predicate == m.predicate
-        && pairs.all(|(s, t)| rules.same_term(script, *s, *t))
+    l.positive != m.positive && l.predicate == m.predicate && pairs.all(|(s, t)| rules.same_term(script, *s, *t))
 }
 
 /// Takes a step that no row refuses.

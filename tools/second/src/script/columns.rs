@@ -125,16 +125,8 @@ fn plain_columns(i: u16, kind: u8, j: u16, k: u16) -> Vec<Column> {
         1 => vec![vec![no(i)]],
         2 => vec![vec![yes(i)]],
         4 => vec![vec![yes(i), yes(j)], vec![no(i), no(j)]],
-        5 => vec![
-            vec![yes(i), no(j)],
-            vec![yes(i), no(k)],
-            vec![no(i), yes(j), yes(k)],
-        ],
-        6 => vec![
-            vec![no(i), yes(j)],
-            vec![no(i), yes(k)],
-            vec![yes(i), no(j), no(k)],
-        ],
+        5 => vec![vec![yes(i), no(j)], vec![yes(i), no(k)], vec![no(i), yes(j), yes(k)]],
+        6 => vec![vec![no(i), yes(j)], vec![no(i), yes(k)], vec![yes(i), no(j), no(k)]],
         _ => Vec::new(),
     }
 }

@@ -6,8 +6,7 @@ use crate::random::Seed;
 use crate::script::faults::{ways, with, wrong_headers, wrong_nexts};
 use crate::script::plan::{refused, Base, Plan};
 use crate::script::records::{
-    encode, is_step, Script, Words, FIRST, KIND, NEXT, QUERY_A, QUERY_B, RECORD_BYTES, REDUCTION,
-    TERM,
+    encode, is_step, Script, Words, FIRST, KIND, NEXT, QUERY_A, QUERY_B, RECORD_BYTES, REDUCTION, TERM,
 };
 use crate::vocabulary::{check_vocabulary, Refusal};
 
@@ -59,11 +58,7 @@ impl Plan {
             for length in [0, 1, 8, 15, 17, 31, 33, whole - 1, whole - 8] {
                 self.add(&base.vocabulary, bytes[..length].to_vec(), &refused(13, 0));
             }
-            self.add(
-                &base.vocabulary,
-                [&bytes[..], &[0]].concat(),
-                &refused(13, 0),
-            );
+            self.add(&base.vocabulary, [&bytes[..], &[0]].concat(), &refused(13, 0));
         }
         for length in [32_767, 32_769, 32_784, 65_535] {
             let mut bytes = bases[0].writer.bytes();
@@ -119,9 +114,7 @@ impl Plan {
             for place in 0..script.records.len() {
                 self.wrong_links(base, &script, place);
             }
-            for (place, row) in
-                (1..script.records.len()).flat_map(|p| (15..=18).map(move |r| (p, r)))
-            {
+            for (place, row) in (1..script.records.len()).flat_map(|p| (15..=18).map(move |r| (p, r))) {
                 for wrong in ways(row, &script, place) {
                     let mut records = script.records.clone();
                     records[place] = wrong;
@@ -152,11 +145,7 @@ impl Plan {
     /// Row 17: a script with one of its term records once more, at its end.
     fn repeat(&mut self, base: &Base) {
         let mut records = base.writer.records.clone();
-        let terms: Vec<Words> = records
-            .iter()
-            .filter(|r| r[KIND] == TERM)
-            .copied()
-            .collect();
+        let terms: Vec<Words> = records.iter().filter(|r| r[KIND] == TERM).copied().collect();
         if let (Some(term), true) = (self.random.pick(&terms), self.random.chance(4)) {
             records.push(term);
             self.add_records(&base.vocabulary, &records, &refused(17, base.len()));
@@ -178,11 +167,7 @@ impl Plan {
         let together = self.random.chance(3);
         let mut faults: Vec<Fault> = Vec::new();
         for row in rows {
-            let place = if together {
-                shared
-            } else {
-                self.place_for(*row, base)
-            };
+            let place = if together { shared } else { self.place_for(*row, base) };
             faults.push((*row, place));
         }
         faults.sort_by_key(|fault| std::cmp::Reverse(order(*fault)));
@@ -237,12 +222,7 @@ impl Plan {
         let at = self.random.below(records.len());
         let word = self.random.below(8);
         let small = self.random.below(records.len()) as u16;
-        let values = [
-            small,
-            small % 4,
-            records[at][word] ^ 1,
-            self.random.number(),
-        ];
+        let values = [small, small % 4, records[at][word] ^ 1, self.random.number()];
         records[at][word] = self.random.pick(&values).unwrap_or(0);
         self.add_records(&base.vocabulary, &records, "");
     }
@@ -250,26 +230,18 @@ impl Plan {
     /// Some of the short vocabularies that each row of the vocabulary check refuses, with the
     /// beginnings of scripts.
     fn refused_vocabularies(&mut self, bases: &[Base], seed: Seed) {
-        let all = generate::all(seed)
-            .into_iter()
-            .map(|planned| planned.case.vocabulary);
+        let all = generate::all(seed).into_iter().map(|planned| planned.case.vocabulary);
         let short = all.filter(|vocabulary| vocabulary.len() <= SHORT);
         let answered = short.map(|v| (check_vocabulary(&v).err(), v));
-        let refused_ones: Vec<(Refusal, Vec<u8>)> = answered
-            .filter_map(|(refusal, v)| Some((refusal?, v)))
-            .collect();
+        let refused_ones: Vec<(Refusal, Vec<u8>)> = answered.filter_map(|(refusal, v)| Some((refusal?, v))).collect();
         for row in 1..=8 {
-            let of_row = refused_ones
-                .iter()
-                .filter(|(refusal, _)| refusal.number == row);
+            let of_row = refused_ones.iter().filter(|(refusal, _)| refusal.number == row);
             let of_row: Vec<_> = of_row.collect();
             for _ in 0..OF_EACH_ROW {
                 let (refusal, vocabulary) = of_row[self.random.below(of_row.len())];
                 let base = &bases[self.random.below(bases.len())];
                 let mut bytes = encode(&base.writer.records[..2]);
-                bytes.truncate(
-                    [0, RECORD_BYTES, RECORD_BYTES + 1, 2 * RECORD_BYTES][self.random.below(4)],
-                );
+                bytes.truncate([0, RECORD_BYTES, RECORD_BYTES + 1, 2 * RECORD_BYTES][self.random.below(4)]);
                 self.add(vocabulary, bytes, &refused(refusal.number, refusal.place));
             }
         }

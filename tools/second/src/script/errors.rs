@@ -5,12 +5,10 @@ use crate::comparison::atoms;
 use crate::decode::Record;
 use crate::script::chain::{complements, run, run_steps, Frame, Goal, Machine};
 use crate::script::columns::{mentions, Argument, Predicate};
-use crate::script::form::{
-    self, check_form, check_header, check_query, check_records, is_repeat, may_follow, unused,
-};
+use crate::script::form::{self, check_form, check_header, check_query, check_records, is_repeat, may_follow, unused};
 use crate::script::records::{
-    chain, is_step, Script, Term, COLUMN, EXTENSION, FIRST, FRAME, FUNCTION, INNER, KIND, NEXT,
-    OWNER, REDUCTION, TERM, Y,
+    chain, is_step, Script, Term, COLUMN, EXTENSION, FIRST, FRAME, FUNCTION, INNER, KIND, NEXT, OWNER, REDUCTION, TERM,
+    Y,
 };
 use crate::script::rules::{Paper, Rules};
 use crate::vocabulary::{refuse_if, Refusal};
@@ -47,10 +45,7 @@ fn has_record(script: &Script, term: Term) -> bool {
 
 /// How many of two terms have no record.
 fn unrecorded(script: &Script, s: Term, t: Term) -> usize {
-    [s, t]
-        .into_iter()
-        .filter(|term| !has_record(script, *term))
-        .count()
+    [s, t].into_iter().filter(|term| !has_record(script, *term)).count()
 }
 
 /// Whether two terms are functions of the same term.

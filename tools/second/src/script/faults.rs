@@ -4,8 +4,8 @@ use crate::decode::Record;
 use crate::script::columns::{mentions, Argument};
 use crate::script::form::unused;
 use crate::script::records::{
-    is_step, step, Script, Words, COLUMN, CONSTANT, CONSTANT_PLACE, EXTENSION, FUNCTION, INNER,
-    KIND, OWNER, POSITION, REDUCTION, START, START_COLUMN, TERM, X, Y,
+    is_step, step, Script, Words, COLUMN, CONSTANT, CONSTANT_PLACE, EXTENSION, FUNCTION, INNER, KIND, OWNER, POSITION,
+    REDUCTION, START, START_COLUMN, TERM, X, Y,
 };
 
 /// A record with a word changed.
@@ -17,10 +17,7 @@ pub fn with(record: Words, word: usize, value: u16) -> Words {
 
 /// A record with a word changed to each value in turn.
 fn each(record: Words, word: usize, values: &[u16]) -> Vec<Words> {
-    values
-        .iter()
-        .map(|value| with(record, word, *value))
-        .collect()
+    values.iter().map(|value| with(record, word, *value)).collect()
 }
 
 /// All ways to change the record at a place so that it meets one of the refusals 15 to 18, and no
@@ -31,9 +28,7 @@ pub fn ways(row: u8, script: &Script, place: usize) -> Vec<Words> {
         15 => each(record, KIND, &[0, 6, 7, 16, 32, 256 + record[KIND], 65535]),
         16 => {
             let words = unused(record[KIND]).iter();
-            words
-                .flat_map(|word| each(record, *word, &[1, 256, 65535]))
-                .collect()
+            words.flat_map(|word| each(record, *word, &[1, 256, 65535])).collect()
         }
         17 => wrong_terms(script, place),
         18 if record[KIND] == START => each(record, START_COLUMN, &[2, 3, 256, 65535]),
@@ -117,11 +112,7 @@ fn wrong_extensions(script: &Script, place: usize) -> Vec<Words> {
         // A name, or a statement off the chain.
         wrong.push(with(with(record, OWNER, owner), COLUMN, 0));
     }
-    wrong.extend(each(
-        record,
-        COLUMN,
-        &[width, width + 1, 256 + record[COLUMN], 65535],
-    ));
+    wrong.extend(each(record, COLUMN, &[width, width + 1, 256 + record[COLUMN], 65535]));
     wrong.extend(each(record, POSITION, &[height, height + 1, 256, 65535]));
     wrong.extend(each(record, X, &no_terms));
     if mentions(column, Argument::Y) {

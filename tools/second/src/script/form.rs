@@ -3,9 +3,8 @@
 use crate::decode::Record;
 use crate::script::columns::{mentions, Argument};
 use crate::script::records::{
-    is_step, Script, COLUMN, CONSTANT, CONSTANT_PLACE, EXTENSION, FIRST, FUNCTION, HEADER, INNER,
-    KIND, MOST_RECORDS, NEXT, OWNER, POSITION, RECORD_BYTES, REDUCTION, START, START_COLUMN, TERM,
-    X, Y,
+    is_step, Script, COLUMN, CONSTANT, CONSTANT_PLACE, EXTENSION, FIRST, FUNCTION, HEADER, INNER, KIND, MOST_RECORDS,
+    NEXT, OWNER, POSITION, RECORD_BYTES, REDUCTION, START, START_COLUMN, TERM, X, Y,
 };
 use crate::script::rules::Rules;
 use crate::vocabulary::{refuse_if, Refusal};
@@ -13,8 +12,7 @@ use crate::vocabulary::{refuse_if, Refusal};
 /// Row 13: the length of the script.
 pub fn check_length(bytes: &[u8]) -> Result<(), Refusal> {
     let length = bytes.len();
-    let wrong =
-        length < RECORD_BYTES || length > MOST_RECORDS * RECORD_BYTES || length % RECORD_BYTES != 0;
+    let wrong = length < RECORD_BYTES || length > MOST_RECORDS * RECORD_BYTES || length % RECORD_BYTES != 0;
     refuse_if(wrong, 13, 0)
 }
 

@@ -2,9 +2,7 @@
 
 use crate::decode::RECORD_BYTES as VOCABULARY_RECORD;
 use crate::script::plan::{refused, Base, Plan};
-use crate::script::records::{
-    step, CONSTANT_PLACE, EXTENSION, KIND, MOST_RECORDS, NEXT, REDUCTION, START, TERM,
-};
+use crate::script::records::{step, CONSTANT_PLACE, EXTENSION, KIND, MOST_RECORDS, NEXT, REDUCTION, START, TERM};
 use crate::script::towers::Tower;
 use crate::script::writer::Writer;
 use crate::vocabulary::MOST_RECORDS as MOST_VOCABULARY_RECORDS;

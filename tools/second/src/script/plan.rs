@@ -117,13 +117,7 @@ impl Plan {
     }
 
     /// A derivation as a script, with records that it does not need once in `idle` times.
-    pub fn write(
-        &mut self,
-        vocabulary: &[u8],
-        matrix: &Matrix,
-        steps: &[Step],
-        idle: usize,
-    ) -> Base {
+    pub fn write(&mut self, vocabulary: &[u8], matrix: &Matrix, steps: &[Step], idle: usize) -> Base {
         let early = self.random.chance(3);
         Base {
             vocabulary: vocabulary.to_vec(),

@@ -128,9 +128,7 @@ impl<'a> Prover<'a> {
             self.tries = TRIES;
             let mut starts = [0, 1];
             self.random.shuffle(&mut starts);
-            starts
-                .iter()
-                .find_map(|start| self.from_start(*start, bound))
+            starts.iter().find_map(|start| self.from_start(*start, bound))
         })
     }
 
@@ -144,18 +142,11 @@ impl<'a> Prover<'a> {
     fn from_start(&mut self, start: u16, bound: usize) -> Option<Vec<Step>> {
         let goal = self.start(start)?;
         let mut steps = vec![Step::Start(start)];
-        self.close(&goal, &mut Vec::new(), bound, &mut steps)
-            .then_some(steps)
+        self.close(&goal, &mut Vec::new(), bound, &mut steps).then_some(steps)
     }
 
     /// Closes a goal above its path, and adds the steps. Answers whether it could.
-    fn close(
-        &mut self,
-        goal: &Goal,
-        path: &mut Vec<Goal>,
-        bound: usize,
-        steps: &mut Vec<Step>,
-    ) -> bool {
+    fn close(&mut self, goal: &Goal, path: &mut Vec<Goal>, bound: usize, steps: &mut Vec<Step>) -> bool {
         if self.tries == 0 {
             return false;
         }
@@ -182,11 +173,8 @@ impl<'a> Prover<'a> {
     /// All ways to close a goal, in random order, or short ones first.
     pub fn ways(&mut self, goal: &Goal, path: &[Goal]) -> Vec<Way> {
         let frames = (0..).zip(path);
-        let reduced =
-            frames.filter(|(_, own)| opposed(*own, goal) && own.arguments == goal.arguments);
-        let mut ways: Vec<Way> = reduced
-            .map(|(frame, _)| (Step::Reduction(frame), Vec::new()))
-            .collect();
+        let reduced = frames.filter(|(_, own)| opposed(*own, goal) && own.arguments == goal.arguments);
+        let mut ways: Vec<Way> = reduced.map(|(frame, _)| (Step::Reduction(frame), Vec::new())).collect();
         for (owner, number, column) in &self.columns {
             for position in 0..column.len() {
                 for (x, y) in self.bindings(column, position, goal) {
@@ -223,14 +211,8 @@ impl<'a> Prover<'a> {
         });
         match bound {
             None => Vec::new(),
-            Some(Binding {
-                x: Some(x),
-                y: Some(y),
-            }) => vec![(x, y)],
-            Some(Binding {
-                x: None,
-                y: Some(y),
-            }) => {
+            Some(Binding { x: Some(x), y: Some(y) }) => vec![(x, y)],
+            Some(Binding { x: None, y: Some(y) }) => {
                 let inner = y.get(1..).unwrap_or(&[]).to_vec();
                 vec![(inner, y)]
             }

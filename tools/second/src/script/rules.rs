@@ -61,13 +61,7 @@ pub trait Rules {
 
     /// The position at which a column connects with the goal: the one given, if that literal is
     /// the goal's complement.
-    fn connection(
-        &self,
-        script: &Script,
-        column: &[Goal],
-        position: usize,
-        goal: &Goal,
-    ) -> Option<usize> {
+    fn connection(&self, script: &Script, column: &[Goal], position: usize, goal: &Goal) -> Option<usize> {
         complements(self, script, &column[position], goal).then_some(position)
     }
 

@@ -3,9 +3,7 @@
 use crate::comparison::{sample_4, v, Terms};
 use crate::script::plan::{Base, Plan};
 use crate::script::prover::{Extension, Step};
-use crate::script::records::{
-    step, Words, CONSTANT, EXTENSION, FIRST, HEADER, NEXT, REDUCTION, START, TERM,
-};
+use crate::script::records::{step, Words, CONSTANT, EXTENSION, FIRST, HEADER, NEXT, REDUCTION, START, TERM};
 use crate::script::writer::Writer;
 
 /// Records with the steps among them chained in order.

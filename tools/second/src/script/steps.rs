@@ -8,8 +8,8 @@ use crate::script::faults::with;
 use crate::script::plan::{refused, Base, Plan};
 use crate::script::prover::opposed;
 use crate::script::records::{
-    step, Script, Words, COLUMN, CONSTANT_PLACE, EXTENSION, FIRST, FRAME, KIND, NEXT, OWNER,
-    POSITION, REDUCTION, START, TERM, X, Y,
+    step, Script, Words, COLUMN, CONSTANT_PLACE, EXTENSION, FIRST, FRAME, KIND, NEXT, OWNER, POSITION, REDUCTION,
+    START, TERM, X, Y,
 };
 use crate::script::writer::Writer;
 
@@ -106,10 +106,7 @@ impl Plan {
     fn wrong_reduction(&mut self, base: &Base) {
         let chain = &base.writer.chain;
         let later = self.random.pick(&chain[1..]).unwrap_or(1);
-        let far = self
-            .random
-            .pick(&[64, 256, 65535, chain.len() as u16])
-            .unwrap_or(64);
+        let far = self.random.pick(&[64, 256, 65535, chain.len() as u16]).unwrap_or(64);
         self.replaced(base, later, step(REDUCTION, &[far]), &refused(22, later));
         let near = step(REDUCTION, &[self.random.below(4) as u16]);
         self.replaced(base, later, near, "");
@@ -141,14 +138,11 @@ fn extensions(base: &Base) -> Vec<usize> {
 /// A statement off the chain that says what one on it does.
 fn off_chain_copy(script: &Script, owner: u16) -> Option<u16> {
     let Matrix {
-        records,
-        statements,
-        ..
+        records, statements, ..
     } = &script.matrix;
     let own = records[usize::from(owner)];
-    let is_copy = |r: &Record| {
-        own.is_statement() && r.is_statement() && r.fields[..NEXT_FIELD] == own.fields[..NEXT_FIELD]
-    };
+    let is_copy =
+        |r: &Record| own.is_statement() && r.is_statement() && r.fields[..NEXT_FIELD] == own.fields[..NEXT_FIELD];
     let mut copies = (0..).zip(records).filter(|(_, record)| is_copy(record));
     copies
         .find(|(number, _)| !statements.contains(number))

@@ -5,16 +5,13 @@ use crate::script::call::{check_by, check_script};
 use crate::script::checks::fault;
 use crate::script::errors::ERRORS;
 use crate::script::plan::Planned;
-use crate::script::records::{
-    chain, decode, COLUMN, EXTENSION, KIND, MOST_RECORDS, OWNER, POSITION, RECORD_BYTES,
-};
+use crate::script::records::{chain, decode, COLUMN, EXTENSION, KIND, MOST_RECORDS, OWNER, POSITION, RECORD_BYTES};
 use crate::table::Table;
 use crate::vocabulary::Refusal;
 use std::collections::BTreeSet;
 
 /// The refusals that cases have to meet, and how many cases have to.
-const REFUSALS: [(std::ops::RangeInclusive<u8>, usize); 3] =
-    [(1..=8, 3), (10..=10, 30), (13..=25, 25)];
+const REFUSALS: [(std::ops::RangeInclusive<u8>, usize); 3] = [(1..=8, 3), (10..=10, 30), (13..=25, 25)];
 /// How many cases have to tell each error.
 const TELLING: usize = 2;
 
@@ -32,9 +29,7 @@ type Sort = (&'static str, usize, fn(&Planned, usize) -> bool);
 const SORTS: [Sort; 6] = [
     ("accepted", 300, |_, _| true),
     ("accepted, 2 to 9 steps", 100, |_, n| (2..10).contains(&n)),
-    ("accepted, 10 to 99 steps", 60, |_, n| {
-        (10..100).contains(&n)
-    }),
+    ("accepted, 10 to 99 steps", 60, |_, n| (10..100).contains(&n)),
     ("accepted, 100 steps and more", 10, |_, n| n >= 100),
     ("accepted, all records used", 3, |planned, _| {
         planned.case.script.len() == MOST_RECORDS * RECORD_BYTES
@@ -68,14 +63,9 @@ fn answers(cases: &[Planned]) -> Vec<Answer> {
 }
 
 /// The cases whose answer is not borne out, a line for each.
-fn objections<'a>(
-    cases: &'a [Planned],
-    answers: &'a [Answer],
-) -> impl Iterator<Item = String> + 'a {
+fn objections<'a>(cases: &'a [Planned], answers: &'a [Answer]) -> impl Iterator<Item = String> + 'a {
     let numbered = cases.iter().zip(answers).enumerate();
-    numbered.filter_map(|(i, (planned, answer))| {
-        fault(planned, *answer).map(|text| format!("case {i} {text}"))
-    })
+    numbered.filter_map(|(i, (planned, answer))| fault(planned, *answer).map(|text| format!("case {i} {text}")))
 }
 
 /// The table of cases of another seed: they have to be right, but need not be of every sort.
@@ -93,9 +83,7 @@ pub fn table(cases: &[Planned]) -> Table {
     table.add("cases", cases.len(), 1);
     for (numbers, least) in REFUSALS {
         for number in numbers {
-            let met = answers
-                .iter()
-                .filter(|a| a.is_err_and(|r| r.number == number));
+            let met = answers.iter().filter(|a| a.is_err_and(|r| r.number == number));
             table.add(&format!("refused {number}"), met.count(), least);
         }
     }
@@ -110,8 +98,7 @@ pub fn table(cases: &[Planned]) -> Table {
         LITERALS,
     );
     for (name, wrong) in ERRORS {
-        let told =
-            pairs().filter(|(p, a)| check_by(*wrong, &p.case.vocabulary, &p.case.script) != **a);
+        let told = pairs().filter(|(p, a)| check_by(*wrong, &p.case.vocabulary, &p.case.script) != **a);
         table.add(&format!("would change by: {name}"), told.count(), TELLING);
     }
     table.object(objections(cases, &answers));

@@ -172,9 +172,7 @@ impl Tower {
 
     /// How many frames the derivation of a layer opens above the one of its goal.
     fn height(&self, layer: usize) -> usize {
-        let Layer {
-            under, with_pair, ..
-        } = &self.layers[layer];
+        let Layer { under, with_pair, .. } = &self.layers[layer];
         let highest = under.iter().map(|u| self.height(*u)).max();
         // The pair's own derivation opens two.
         highest.map_or(0, |h| 1 + h.max(2 * usize::from(*with_pair)))
@@ -243,12 +241,7 @@ impl Tower {
         let layer = &self.layers[layer];
         let inner = layer.function.map_or(x.clone(), |f| applied(f, x));
         let y = layer.with_pair.then(|| inner.clone());
-        derivation.extend(
-            layer.by,
-            x,
-            y,
-            frames + usize::from(!layer.under.is_empty()),
-        );
+        derivation.extend(layer.by, x, y, frames + usize::from(!layer.under.is_empty()));
         if layer.with_pair {
             let [some, stated] = self.serial;
             let top = self.layers[TOP].number;

@@ -50,11 +50,7 @@ fn by([owner, column, position]: [u16; 3], x: &[u16], y: &[u16]) -> Step {
 
 /// A meeting of a goal, to which steps lead, with the literal of one more step.
 fn meeting(query: [u16; 2], mut steps: Vec<Step>, last: Step, terms: [&[u16]; 2]) -> Meeting {
-    let row = if matches!(last, Step::Reduction(_)) {
-        22
-    } else {
-        21
-    };
+    let row = if matches!(last, Step::Reduction(_)) { 22 } else { 21 };
     steps.push(last);
     Meeting {
         query,
@@ -133,18 +129,8 @@ fn goals() -> Vec<Meeting> {
 fn literals() -> Vec<Meeting> {
     let mut all = Vec::new();
     let start = |column| vec![Step::Start(column)];
-    all.push(meeting(
-        [1, 1],
-        start(1),
-        by([2, 1, 1], &[], &[]),
-        [&[], &[2]],
-    ));
-    all.push(meeting(
-        [1, 1],
-        start(0),
-        by([3, 1, 1], &[], &[]),
-        [&[], &[3]],
-    ));
+    all.push(meeting([1, 1], start(1), by([2, 1, 1], &[], &[]), [&[], &[2]]));
+    all.push(meeting([1, 1], start(0), by([3, 1, 1], &[], &[]), [&[], &[3]]));
     for y in [&[][..], &[2], &[3], &[2, 5], &[3, 5]] {
         for owner in [2, 3] {
             let before = [start(1), vec![by([2, 2, 0], &[], y)]].concat();

@@ -32,10 +32,7 @@ fn complements(l: &Goal, m: &Goal) -> bool {
 impl Walk {
     /// The goals of the frames, of which the last is the one to close.
     fn goals(&self) -> Vec<Goal> {
-        let goals = self
-            .frames
-            .iter()
-            .map(|(literals, closed)| &literals[*closed]);
+        let goals = self.frames.iter().map(|(literals, closed)| &literals[*closed]);
         goals.cloned().collect()
     }
 
@@ -64,9 +61,7 @@ impl Walk {
             return Vec::new();
         };
         let numbered = (0..).zip(path.iter().zip(&self.frames));
-        let near = numbered.filter(|(_, (own, (literals, _)))| {
-            !complements(own, goal) && test(goal, own, literals)
-        });
+        let near = numbered.filter(|(_, (own, (literals, _)))| !complements(own, goal) && test(goal, own, literals));
         near.map(|(frame, _)| frame).collect()
     }
 

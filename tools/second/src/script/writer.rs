@@ -4,8 +4,8 @@ use crate::random::Random;
 use crate::script::columns::{mentions, Argument, Matrix};
 use crate::script::prover::{applied, Step, Term};
 use crate::script::records::{
-    encode, is_step, step, Words, CONSTANT, CONSTANT_PLACE, EXTENSION, FIRST, HEADER, KIND, NEXT,
-    REDUCTION, START, TERM,
+    encode, is_step, step, Words, CONSTANT, CONSTANT_PLACE, EXTENSION, FIRST, HEADER, KIND, NEXT, REDUCTION, START,
+    TERM,
 };
 
 /// A script that is being written.
@@ -109,11 +109,7 @@ impl Writer {
         };
         let mut any = || self.terms[random.below(self.terms.len())].1;
         let x = if owner == 0 { CONSTANT_PLACE } else { any() };
-        let y = if mentions(column, Argument::Y) {
-            any()
-        } else {
-            0
-        };
+        let y = if mentions(column, Argument::Y) { any() } else { 0 };
         let position = random.below(column.len()) as u16;
         step(EXTENSION, &[owner, number as u16, x, y, position])
     }
@@ -147,13 +143,7 @@ impl Writer {
 
 /// The script of a derivation. Once in `idle` times a record stands before a step that it does not
 /// need; 0 for never. With `early` its terms stand before all steps.
-pub fn write(
-    matrix: &Matrix,
-    steps: &[Step],
-    early: bool,
-    idle: usize,
-    random: &mut Random,
-) -> Writer {
+pub fn write(matrix: &Matrix, steps: &[Step], early: bool, idle: usize, random: &mut Random) -> Writer {
     let mut writer = Writer::new(matrix.query);
     if early {
         let needed = steps.iter().filter_map(|step| match step {
