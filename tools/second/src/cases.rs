@@ -19,3 +19,17 @@ pub fn length(bytes: &[u8]) -> Result<[u8; 2], String> {
     let length = length.map_err(|_| "an input is too long for a case".to_string())?;
     Ok(length.to_le_bytes())
 }
+
+/// The first so many bytes, or all where there are fewer.
+pub fn beginning(bytes: &[u8], length: usize) -> Vec<u8> {
+    bytes.iter().copied().take(length).collect()
+}
+
+/// Bytes with one of them changed.
+pub fn with_byte(bytes: &[u8], place: usize, value: u8) -> Vec<u8> {
+    let mut changed = bytes.to_vec();
+    if let Some(byte) = changed.get_mut(place) {
+        *byte = value;
+    }
+    changed
+}

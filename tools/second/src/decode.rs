@@ -6,11 +6,20 @@ pub const RECORD_BYTES: usize = 8;
 /// A record: kind, second byte, A, B and next.
 #[derive(Clone, Copy, Debug, PartialEq, Eq)]
 pub struct Record {
+    /// The kind.
     pub kind: u8,
+    /// The second byte.
     pub second: u8,
     /// A, B and next, in this order.
     pub fields: [u16; 3],
 }
+
+/// What is read where no record stands: kind 0, which there is not.
+const NONE: Record = Record {
+    kind: 0,
+    second: 0,
+    fields: [0; 3],
+};
 
 /// The place of A among a record's fields.
 pub const A: usize = 0;
@@ -79,6 +88,12 @@ impl Record {
             .collect()
     }
 
+    /// A and B, as the numbers of records.
+    pub fn operands(&self) -> [usize; 2] {
+        let [a, b, _] = self.fields.map(usize::from);
+        [a, b]
+    }
+
     /// Whether the record is a term.
     pub fn is_term(&self) -> bool {
         (1..=8).contains(&self.kind)
@@ -107,6 +122,17 @@ pub fn uses(kind: u8) -> Option<[Use; 3]> {
         9 => Some([Term, Term, Next]),
         _ => None,
     }
+}
+
+/// The record of a number; past the end, one of no kind whose fields are zero.
+pub fn at(records: &[Record], number: usize) -> Record {
+    records.get(number).copied().unwrap_or(NONE)
+}
+
+/// The numbers of the terms among records.
+pub fn terms(records: &[Record]) -> Vec<usize> {
+    let all = records.iter().enumerate().filter(|(_, record)| record.is_term());
+    all.map(|(number, _)| number).collect()
 }
 
 /// The whole records that bytes hold, in order; bytes left over at the end are dropped.

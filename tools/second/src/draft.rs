@@ -1,6 +1,6 @@
 //! Vocabularies in the making: records are pushed one after the other, then chained.
 
-use crate::decode::{bytes, uses, Record, Use, A, B, NEXT};
+use crate::decode::{at, bytes, uses, Record, Use, A, B};
 use crate::random::Random;
 
 /// The kinds with which a draft starts, so that terms, names, roles and statements soon stand.
@@ -9,6 +9,7 @@ const FIRST_KINDS: [u8; 10] = [3, 9, 3, 5, 3, 7, 9, 4, 8, 6];
 /// The records of a vocabulary that is being made, header included.
 #[derive(Clone)]
 pub struct Draft {
+    /// The records.
     pub records: Vec<Record>,
 }
 
@@ -69,7 +70,7 @@ impl Draft {
 
     /// The number of roles.
     pub fn roles(&self) -> u16 {
-        self.records[0].fields[B]
+        at(&self.records, 0).fields[B]
     }
 
     /// The numbers of the records for which a test holds, the header left out.
@@ -121,10 +122,19 @@ impl Draft {
         }
     }
 
+    /// Puts a record in the place of another.
+    pub fn set(&mut self, place: usize, record: Record) {
+        if let Some(old) = self.records.get_mut(place) {
+            *old = record;
+        }
+    }
+
     /// Sets the header's A (holder 0) or a statement's next.
     pub fn link(&mut self, holder: usize, next: u16) {
-        let field = if holder == 0 { A } else { NEXT };
-        self.records[holder].fields[field] = next;
+        if let Some(record) = self.records.get_mut(holder) {
+            let [first, _, following] = &mut record.fields;
+            *(if holder == 0 { first } else { following }) = next;
+        }
     }
 
     /// The bytes of the vocabulary.

@@ -27,7 +27,9 @@ pub fn wrong_headers(roles: u16) -> Vec<Record> {
 /// The record with a field changed.
 pub fn with(record: Record, field: usize, value: u16) -> Record {
     let mut changed = record;
-    changed.fields[field] = value;
+    if let Some(old) = changed.fields.get_mut(field) {
+        *old = value;
+    }
     changed
 }
 

@@ -1,7 +1,8 @@
 //! The cases of the vector file, in groups. Where a group is made for one answer, its cases carry
 //! it, and `misses` compares it with the vocabulary check.
 
-use crate::decode::{Record, RECORD_BYTES};
+use crate::cases::{beginning, with_byte};
+use crate::decode::{at, Record, A, RECORD_BYTES};
 use crate::draft::Draft;
 use crate::faults::{near_labels, right_nexts, way, ways, with, wrong_headers, wrong_nexts};
 use crate::random::{Random, Seed};
@@ -32,6 +33,7 @@ type Meant = Option<Result<usize, Refusal>>;
 
 /// A case, and the answer for which it is made.
 pub struct Planned {
+    /// The case.
     pub case: Case,
     meant: Meant,
 }
@@ -129,10 +131,10 @@ impl Plan {
         for length in [
             0, 1, 7, 9, 12, 15, 17, 100, 4087, 4089, 4095, 4097, 4100, 4104, 4112, 8000,
         ] {
-            self.add(bytes[..length].to_vec(), refused(1, 0));
+            self.add(beginning(&bytes, length), refused(1, 0));
         }
         for length in [8, 16, 4088, 4096] {
-            self.add(bytes[..length].to_vec(), Some(Ok(length / 8)));
+            self.add(beginning(&bytes, length), Some(Ok(length / 8)));
         }
     }
 
@@ -169,7 +171,7 @@ impl Plan {
         for count in [1, 2, 9] {
             for header in wrong_headers(5) {
                 let mut draft = self.vocabulary(count);
-                draft.records[0] = header;
+                draft.set(0, header);
                 self.add(draft.bytes(), refused(2, 0));
             }
             for roles in [0, 1, 63, 64] {
@@ -215,7 +217,7 @@ impl Plan {
         draft.records.push(record);
         draft.grow(count, &mut self.random);
         draft.chain_random(&mut self.random);
-        draft.records[before.records.len()] = record;
+        draft.set(before.records.len(), record);
         draft
     }
 
@@ -266,9 +268,9 @@ impl Plan {
             draft.records.push(Record::new(3, label, 0, 0));
         }
         for (i, name) in names.iter().enumerate() {
-            for earlier in &names[..i] {
+            for earlier in names.iter().take(i) {
                 let mut wrong = draft.clone();
-                wrong.records[*name] = draft.records[*earlier];
+                wrong.set(*name, at(&draft.records, *earlier));
                 self.add(wrong.bytes(), refused(7, *name));
             }
         }
@@ -288,7 +290,7 @@ impl Plan {
         for count in [1, 2, 4, 14, 14, 25] {
             let mut draft = self.vocabulary(count);
             if count > 2 {
-                draft.records[count - 1] = Record::new(9, 1, 1, 0);
+                draft.set(count - 1, Record::new(9, 1, 1, 0));
             }
             let holders = draft.statements();
             for holder in std::iter::once(0).chain(holders.into_iter().map(usize::from)) {
@@ -316,7 +318,9 @@ impl Plan {
         let mut draft = self.vocabulary(511);
         draft.records.push(Record::new(9, 1, 1, 0));
         let statements = draft.statements();
-        let middle = usize::from(statements[statements.len() / 2]);
+        let middle = statements
+            .get(statements.len() / 2)
+            .map_or(0, |number| usize::from(*number));
         for holder in [0, middle, 511] {
             for next in [1, 512, 65535] {
                 let mut wrong = draft.clone();
@@ -412,7 +416,7 @@ impl Plan {
     fn spoil_chain(&mut self, draft: &Draft, meant: Meant) {
         for holder in [0, 2, 7] {
             let mut wrong = draft.clone();
-            if holder == 0 || wrong.records[holder].is_statement() {
+            if holder == 0 || at(&draft.records, holder).is_statement() {
                 wrong.link(holder, 1);
                 self.add(wrong.bytes(), meant);
             }
@@ -423,7 +427,7 @@ impl Plan {
     fn spoil_header(&mut self, draft: &Draft) {
         let header = self.random.pick(&wrong_headers(5)).unwrap_or(Record::header(65));
         let mut wrong = draft.clone();
-        wrong.records[0] = with(header, crate::decode::A, self.random.number());
+        wrong.set(0, with(header, A, self.random.number()));
         let mut bytes = wrong.bytes();
         self.add(bytes.clone(), refused(2, 0));
         bytes.push(0);
@@ -474,11 +478,9 @@ impl Plan {
     fn damaged(&mut self) {
         for count in [11, 13] {
             let bytes = self.vocabulary(count).bytes();
-            for at in 0..bytes.len() {
-                for value in [bytes[at] ^ 1, bytes[at].wrapping_add(1), 0, 255, self.random.byte()] {
-                    let mut wrong = bytes.clone();
-                    wrong[at] = value;
-                    self.add(wrong, None);
+            for (place, byte) in bytes.iter().enumerate() {
+                for value in [byte ^ 1, byte.wrapping_add(1), 0, 255, self.random.byte()] {
+                    self.add(with_byte(&bytes, place, value), None);
                 }
             }
         }
@@ -519,7 +521,13 @@ impl Plan {
         let mut draft = self.vocabulary(9);
         draft.link(0, 1);
         self.add_edges(draft.bytes());
-        draft.records[0].kind = 0;
+        draft.set(
+            0,
+            Record {
+                kind: 0,
+                ..at(&draft.records, 0)
+            },
+        );
         self.add_edges(draft.bytes());
     }
 

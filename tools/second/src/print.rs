@@ -18,8 +18,8 @@ fn line(case: &Case) -> String {
     let mut all = numbers(check_vocabulary(&case.vocabulary)).to_vec();
     all.extend(numbers(found));
     if let Ok(offset) = found {
-        let bytes = &case.vocabulary[offset..offset + RECORD_BYTES];
-        all.extend(bytes.iter().copied().map(usize::from));
+        let bytes = case.vocabulary.iter().skip(offset).take(RECORD_BYTES);
+        all.extend(bytes.copied().map(usize::from));
     }
     let words: Vec<String> = all.iter().map(usize::to_string).collect();
     words.join(" ") + "\n"

@@ -44,8 +44,8 @@ impl Form {
     /// What tells a case from others.
     fn key(&self, case: &[u8]) -> Vec<u8> {
         let mut key = case.to_vec();
-        if let Some(at) = self.filling {
-            key[at] = 0;
+        if let Some(byte) = self.filling.and_then(|at| key.get_mut(at)) {
+            *byte = 0;
         }
         key
     }

@@ -4,8 +4,11 @@
 use crate::cases;
 
 /// A vocabulary, and the record number of the record call on it.
+#[derive(Clone, Debug, PartialEq, Eq)]
 pub struct Case {
+    /// The bytes of the vocabulary.
     pub vocabulary: Vec<u8>,
+    /// The record number.
     pub number: u32,
 }
 

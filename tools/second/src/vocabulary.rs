@@ -1,6 +1,6 @@
 //! The vocabulary check (rows 1 to 8 of the table) and the record call (rows 1 and 9).
 
-use crate::decode::{records, Record, Use, A, B, NEXT, RECORD_BYTES};
+use crate::decode::{at, records, uses, Record, Use, A, B, NEXT, RECORD_BYTES};
 
 /// The most records of a vocabulary, header included.
 pub const MOST_RECORDS: usize = 512;
@@ -10,7 +10,9 @@ pub const MOST_ROLES: u16 = 64;
 /// A refusal: its number in the table, and its place.
 #[derive(Clone, Copy, Debug, PartialEq, Eq)]
 pub struct Refusal {
+    /// Its number.
     pub number: u8,
+    /// Its place.
     pub place: usize,
 }
 
@@ -49,26 +51,26 @@ pub fn find_record(bytes: &[u8], number: u32) -> Result<usize, Refusal> {
 /// Row 1: the length of the vocabulary.
 fn check_length(bytes: &[u8]) -> Result<(), Refusal> {
     let length = bytes.len();
-    let wrong = length < RECORD_BYTES || length > MOST_RECORDS * RECORD_BYTES || length % RECORD_BYTES != 0;
-    refuse_if(wrong, 1, 0)
+    let fits = (RECORD_BYTES..=MOST_RECORDS * RECORD_BYTES).contains(&length);
+    refuse_if(!fits || !length.is_multiple_of(RECORD_BYTES), 1, 0)
 }
 
 /// Row 2: the header, apart from its A.
 fn check_header(records: &[Record]) -> Result<(), Refusal> {
-    let header = records[0];
+    let header = at(records, 0);
     let wrong = header.kind != 16 || header.second != 1 || header.fields[B] > MOST_ROLES || header.fields[NEXT] != 0;
     refuse_if(wrong, 2, 0)
 }
 
 /// Rows 3 to 7: whether a row's condition applies to the record at a place.
 fn applies(row: u8, records: &[Record], place: usize) -> bool {
-    let record = records[place];
+    let record = at(records, place);
     let any = |purpose: Use, wrong: &dyn Fn(u16) -> bool| record.used_for(purpose).into_iter().any(wrong);
     match row {
-        3 => crate::decode::uses(record.kind).is_none() || record.second != 0,
+        3 => uses(record.kind).is_none() || record.second != 0,
         4 => any(Use::Unused, &|field| field != 0),
         5 => any(Use::Term, &|field| !is_term_before(records, field, place)),
-        6 => any(Use::Role, &|field| field >= records[0].fields[B]),
+        6 => any(Use::Role, &|field| field >= at(records, 0).fields[B]),
         7 => any(Use::Label, &|field| is_label_before(records, field, place)),
         _ => false,
     }
@@ -77,14 +79,13 @@ fn applies(row: u8, records: &[Record], place: usize) -> bool {
 /// Whether a number is that of a term before a place.
 pub fn is_term_before(records: &[Record], number: u16, place: usize) -> bool {
     let number = usize::from(number);
-    1 <= number && number < place && records[number].is_term()
+    (1..place).contains(&number) && at(records, number).is_term()
 }
 
 /// Whether a label is that of a name before a place.
 fn is_label_before(records: &[Record], label: u16, place: usize) -> bool {
-    records[1..place]
-        .iter()
-        .any(|record| record.is_name() && record.fields[A] == label)
+    let mut before = records.iter().take(place).skip(1);
+    before.any(|record| record.is_name() && record.fields[A] == label)
 }
 
 /// Row 8: the header's A, then every statement's next, in record order.
@@ -110,10 +111,10 @@ pub fn may_follow(records: &[Record], next: u16, place: usize) -> bool {
 /// The numbers of the statements on the chain of an accepted vocabulary.
 pub fn chain(records: &[Record]) -> Vec<u16> {
     let mut statements = Vec::new();
-    let mut next = records[0].fields[A];
+    let mut next = at(records, 0).fields[A];
     while next != 0 {
         statements.push(next);
-        next = records[usize::from(next)].fields[NEXT];
+        next = at(records, usize::from(next)).fields[NEXT];
     }
     statements
 }

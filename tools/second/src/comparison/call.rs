@@ -14,7 +14,9 @@ pub const WRITTEN: usize = 512;
 pub struct Compared {
     /// The smallest survivor at which the two terms differ; none where they are equal.
     pub element: Option<usize>,
+    /// The survivors.
     pub survivors: Set,
+    /// How many rounds removed something.
     pub rounds: usize,
 }
 
@@ -27,9 +29,10 @@ pub fn compare(vocabulary: &[u8], a: u32, b: u32, buffer: &mut [u8]) -> Result<C
     }
     let k = atoms(&records).len();
     refuse_if(k > MOST_ATOMS, 11, k)?;
-    refuse_if(buffer.len() < WRITTEN, 12, 0)?;
+    let lent = buffer.first_chunk_mut::<WRITTEN>();
+    let written = lent.ok_or(Refusal { number: 12, place: 0 })?;
     let compared = answer(&Types::of(records), a, b);
-    write(&compared.survivors, &mut buffer[..WRITTEN]);
+    write(&compared.survivors, written);
     Ok(compared)
 }
 
@@ -55,9 +58,11 @@ pub fn first_difference(types: &Types, set: &Set, a: u32, b: u32) -> Option<usiz
 }
 
 /// Writes a set: bit t mod 8 of byte t div 8 is 1 for its members, all other bits are 0.
-fn write(set: &Set, bytes: &mut [u8]) {
+fn write(set: &Set, bytes: &mut [u8; WRITTEN]) {
     bytes.fill(0);
     for t in set {
-        bytes[t / 8] |= 1 << (t % 8);
+        if let Some(byte) = bytes.get_mut(t / 8) {
+            *byte |= 1 << (t % 8);
+        }
     }
 }

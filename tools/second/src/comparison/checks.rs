@@ -20,7 +20,10 @@ pub fn fault(planned: &Planned, outcome: &Outcome) -> Option<String> {
         return Some(format!("is {}, meant {}", line.trim_end(), planned.meant));
     }
     let compared = outcome.answer.as_ref().ok()?;
-    unsupported(planned, compared, &outcome.buffer[..WRITTEN])
+    let Some(written) = outcome.buffer.first_chunk::<WRITTEN>() else {
+        return Some("is an answer with too few bytes lent".to_string());
+    };
+    unsupported(planned, compared, written)
 }
 
 /// What the written interpretation, or the search for a larger set, has against an answer.

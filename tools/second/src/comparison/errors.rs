@@ -79,6 +79,7 @@ fn kind_allows(types: &Types, kind: u8, role: u16, t: usize, s: usize) -> bool {
     of_kind.all(|r| allows(types, r, t, s))
 }
 
+/// One type has to be the witness of all that a role asks for.
 fn one_witness(types: &Types, a: u32, b: u32) -> Compared {
     let served = |set: &Set, t: usize| {
         let asking = || types.restrictions.iter().filter(|r| types.asks(r, t));
@@ -91,40 +92,48 @@ fn one_witness(types: &Types, a: u32, b: u32) -> Compared {
     given(types, rounds_from(first_set(types), served), a, b)
 }
 
+/// Pairs are allowed by the records of kind 7 alone.
 fn kind_7_alone(types: &Types, a: u32, b: u32) -> Compared {
     let allowed = |role, t, s| kind_allows(types, SOME, role, t, s);
     given(types, with(types, |_| true, allowed), a, b)
 }
 
+/// Pairs are allowed by the records of kind 8 alone.
 fn kind_8_alone(types: &Types, a: u32, b: u32) -> Compared {
     let allowed = |role, t, s| kind_allows(types, ALL, role, t, s);
     given(types, with(types, |_| true, allowed), a, b)
 }
 
+/// Every pair is allowed.
 fn every_pair(types: &Types, a: u32, b: u32) -> Compared {
     given(types, with(types, |_| true, |_, _, _| true), a, b)
 }
 
+/// A pair is allowed where the pair turned round is.
 fn turned_pairs(types: &Types, a: u32, b: u32) -> Compared {
     let allowed = |role, t, s| types.allowed(role, s, t);
     given(types, with(types, |_| true, allowed), a, b)
 }
 
+/// A pair is allowed for a role where the records of all roles allow it.
 fn one_role(types: &Types, a: u32, b: u32) -> Compared {
     let allowed = |_, t, s| types.restrictions.iter().all(|r| allows(types, r, t, s));
     given(types, with(types, |_| true, allowed), a, b)
 }
 
+/// Records of kind 7 ask for no witness.
 fn kind_7_asks_nothing(types: &Types, a: u32, b: u32) -> Compared {
     let allowed = |role, t, s| types.allowed(role, t, s);
     given(types, with(types, |r| r.kind == ALL, allowed), a, b)
 }
 
+/// Records of kind 8 ask for no witness.
 fn kind_8_asks_nothing(types: &Types, a: u32, b: u32) -> Compared {
     let allowed = |role, t, s| types.allowed(role, t, s);
     given(types, with(types, |r| r.kind == SOME, allowed), a, b)
 }
 
+/// There is one round, after which types may be served by removed ones.
 fn one_round(types: &Types, a: u32, b: u32) -> Compared {
     let first = first_set(types);
     let left = types.round(&first);
@@ -132,10 +141,12 @@ fn one_round(types: &Types, a: u32, b: u32) -> Compared {
     given(types, (left, rounds), a, b)
 }
 
+/// Types are removed one by one, the smallest first.
 fn removed_rising(types: &Types, a: u32, b: u32) -> Compared {
     given(types, removed_in_order(types, |set| set), a, b)
 }
 
+/// Types are removed one by one, the largest first.
 fn removed_falling(types: &Types, a: u32, b: u32) -> Compared {
     let falling = |set: Set| set.into_iter().rev().collect();
     given(types, removed_in_order(types, falling), a, b)
@@ -159,6 +170,7 @@ fn removed_in_order(types: &Types, order: impl Fn(Set) -> Set) -> (Set, usize) {
     }
 }
 
+/// Statements off the chain are used too.
 fn unchained(types: &Types, a: u32, b: u32) -> Compared {
     let all = types.records.iter().filter(|r| r.is_statement());
     let first = types.first_set(&all.copied().collect::<Vec<_>>());
@@ -166,6 +178,7 @@ fn unchained(types: &Types, a: u32, b: u32) -> Compared {
     given(types, rounds_from(first, served), a, b)
 }
 
+/// The last round, which removes nothing, is counted.
 fn last_counted(types: &Types, a: u32, b: u32) -> Compared {
     let right = answer(types, a, b);
     Compared {
@@ -174,6 +187,7 @@ fn last_counted(types: &Types, a: u32, b: u32) -> Compared {
     }
 }
 
+/// The terms are compared at removed types too.
 fn compared_at_removed(types: &Types, a: u32, b: u32) -> Compared {
     Compared {
         element: first_difference(types, &first_set(types), a, b),

@@ -14,13 +14,23 @@ enum Ending {
     Open,
 }
 
+/// The first and the last of some names; where there are none, 0, which is no term.
+fn ends(names: &[u16]) -> [u16; 2] {
+    [names.first(), names.last()].map(|name| name.copied().unwrap_or(0))
+}
+
+/// Each of some names but the last, with the next.
+fn steps(names: &[u16]) -> impl Iterator<Item = (u16, u16)> + '_ {
+    names.iter().copied().zip(names.iter().copied().skip(1))
+}
+
 /// Names that exclude each other, each of which every element needs as a witness.
 fn witnesses(count: usize, roles: u16) -> Terms {
     let mut terms = Terms::new(roles);
-    let names = terms.names(count);
+    let names = terms.name_list(count);
     let (top, bottom) = (terms.top(), terms.bottom());
     for (i, name) in names.iter().enumerate() {
-        for other in &names[..i] {
+        for other in names.iter().take(i) {
             let both = terms.and(*name, *other);
             terms.within(both, bottom);
         }
@@ -36,7 +46,7 @@ fn witnesses(count: usize, roles: u16) -> Terms {
 /// served. Each all-record's complement, the third record after the some-record, equals it.
 fn duals(count: usize, roles: u16) -> Terms {
     let mut terms = Terms::new(roles);
-    let names = terms.names(count);
+    let names = terms.name_list(count);
     for (i, name) in names.iter().enumerate() {
         let role = i as u16 % roles;
         terms.some(role, *name);
@@ -50,16 +60,16 @@ fn duals(count: usize, roles: u16) -> Terms {
 /// Names of which each needs the next as a witness: the next by number, or the one before.
 fn ladder(count: usize, ending: Ending, rising: bool) -> Terms {
     let mut terms = Terms::new(1);
-    let mut names = terms.names(count);
+    let mut names = terms.name_list(count);
     if !rising {
         names.reverse();
     }
     let bottom = terms.bottom();
-    for pair in names.windows(2) {
-        let some = terms.some(0, pair[1]);
-        terms.within(pair[0], some);
+    for (name, next) in steps(&names) {
+        let some = terms.some(0, next);
+        terms.within(name, some);
     }
-    let last = names[count - 1];
+    let [_, last] = ends(&names);
     match ending {
         Ending::Stated => terms.within(last, bottom),
         Ending::SomeBottom => {
@@ -78,16 +88,17 @@ fn ladder(count: usize, ending: Ending, rising: bool) -> Terms {
 /// so that the others serve each other only through a type that goes.
 fn ring(count: usize, broken: bool) -> Terms {
     let mut terms = Terms::new(1);
-    let names = terms.names(count);
+    let names = terms.name_list(count);
     terms.bottom();
-    for i in 0..count {
-        let some = terms.some(0, names[(i + 1) % count]);
-        terms.within(names[i], some);
+    let [first, last] = ends(&names);
+    for (name, next) in steps(&names).chain([(last, first)]) {
+        let some = terms.some(0, next);
+        terms.within(name, some);
     }
     if broken {
-        let first = terms.not(names[0]);
-        let all = terms.all(0, first);
-        terms.within(names[count - 1], all);
+        let not = terms.not(first);
+        let all = terms.all(0, not);
+        terms.within(last, all);
     }
     terms
 }
@@ -96,7 +107,7 @@ fn ring(count: usize, broken: bool) -> Terms {
 /// one of them true: counts down to nothing, one type a round.
 fn counter(bits: usize) -> Terms {
     let mut terms = Terms::new(1);
-    let names = terms.names(bits);
+    let names = terms.name_list(bits);
     let bottom = terms.bottom();
     let seen: Vec<u16> = names.iter().map(|name| terms.some(0, *name)).collect();
     let mut carry = terms.top();
@@ -118,12 +129,12 @@ fn counter(bits: usize) -> Terms {
 /// Some and all over and, or: four laws and two that fail. The pairs are told apart by `laws`.
 fn distributed(role: u16) -> Terms {
     let mut terms = Terms::new(role + 1);
-    let names = terms.names(2);
-    let both = terms.and(names[0], names[1]);
-    let either = terms.or(names[0], names[1]);
+    let [first, second] = terms.names();
+    let both = terms.and(first, second);
+    let either = terms.or(first, second);
     for kind in [7, 8] {
-        let one = terms.push(kind, role, names[0]);
-        let other = terms.push(kind, role, names[1]);
+        let one = terms.push(kind, role, first);
+        let other = terms.push(kind, role, second);
         terms.push(kind, role, both);
         terms.push(kind, role, either);
         terms.and(one, other);
@@ -136,17 +147,18 @@ fn distributed(role: u16) -> Terms {
 /// ends outside the last name, which the first name's elements can therefore not have.
 fn passed_on(depth: usize, role: u16) -> Terms {
     let mut terms = Terms::new(role + 1);
-    let names = terms.names(depth);
-    for pair in names.windows(2) {
-        let all = terms.all(role, pair[1]);
-        terms.within(pair[0], all);
+    let names = terms.name_list(depth);
+    for (name, next) in steps(&names) {
+        let all = terms.all(role, next);
+        terms.within(name, all);
     }
-    let mut nest = terms.not(names[depth - 1]);
+    let [first, last] = ends(&names);
+    let mut nest = terms.not(last);
     for _ in 1..depth {
         nest = terms.some(role, nest);
     }
     terms.bottom();
-    terms.and(names[0], nest);
+    terms.and(first, nest);
     terms
 }
 

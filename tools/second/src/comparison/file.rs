@@ -5,12 +5,17 @@
 use crate::cases;
 
 /// A vocabulary, the two terms to compare, and the bytes that are lent.
-#[derive(Clone)]
+#[derive(Clone, Debug, PartialEq, Eq)]
 pub struct Case {
+    /// The bytes of the vocabulary.
     pub vocabulary: Vec<u8>,
+    /// The number of the first term.
     pub a: u32,
+    /// The number of the second term.
     pub b: u32,
+    /// How many bytes are lent.
     pub lent: u16,
+    /// The first of them before the call.
     pub seed: u8,
 }
 

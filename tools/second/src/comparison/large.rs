@@ -1,9 +1,9 @@
 //! Vocabularies with many atoms, many records or many rounds, and those of the benchmarks.
 
 use crate::comparison::plan::Plan;
-use crate::decode::{records, Record, A, NEXT};
+use crate::decode::{records, Record};
 use crate::draft::Draft;
-use crate::vocabulary::MOST_RECORDS;
+use crate::vocabulary::{chain, MOST_RECORDS};
 
 /// The vocabularies of the benchmarks on which pairs of terms are chosen.
 const STORED: [&[u8]; 6] = [
@@ -20,13 +20,7 @@ const WALK_12: &[u8] = include_bytes!("../../../../bench/data/walk12.bin");
 
 /// The last record of the chain, or the header.
 fn chain_end(draft: &Draft) -> usize {
-    let mut end = 0;
-    let mut next = draft.records[0].fields[A];
-    while next != 0 {
-        end = usize::from(next);
-        next = draft.records[end].fields[NEXT];
-    }
-    end
+    chain(&draft.records).last().map_or(0, |last| usize::from(*last))
 }
 
 impl Plan {

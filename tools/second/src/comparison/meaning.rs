@@ -3,64 +3,70 @@
 
 use crate::comparison::call::Compared;
 use crate::comparison::types::{chained, Types};
-use crate::decode::{A, B};
+use crate::decode::{Record, A};
 
 /// The elements of an interpretation, and which of them belong to each record's term.
 struct Interpretation {
     elements: Vec<usize>,
+    /// For each record, for each element by its place, whether it belongs.
     members: Vec<Vec<bool>>,
 }
 
 /// The interpretation that bytes hold: its elements are the numbers whose bit is 1.
 fn read_back(types: &Types, bytes: &[u8]) -> Interpretation {
-    let bit = |t: &usize| bytes[t / 8] >> (t % 8) & 1 == 1;
-    let elements: Vec<usize> = (0..8 * bytes.len()).filter(bit).collect();
+    let is_one = |t: &usize| bytes.get(t / 8).is_some_and(|byte| byte >> (t % 8) & 1 == 1);
     let mut read = Interpretation {
-        elements,
+        elements: (0..8 * bytes.len()).filter(is_one).collect(),
         members: Vec::new(),
     };
-    for number in 0..types.records.len() {
-        let members = (0..read.elements.len()).map(|d| read.belongs(types, number, d));
-        let members = members.collect();
+    for (number, record) in types.records.iter().enumerate() {
+        let placed = read.elements.iter().enumerate();
+        let belongs = |(place, d): (usize, &usize)| match record.kind {
+            3 => types.is_true(number, *d),
+            _ => read.belongs(types, record, place, *d),
+        };
+        let members = placed.map(belongs).collect();
         read.members.push(members);
     }
     read
 }
 
 impl Interpretation {
-    /// Whether the element at a place belongs to a record's term, by the section on meaning.
-    fn belongs(&self, types: &Types, number: usize, place: usize) -> bool {
-        let record = types.records[number];
-        let [a, b] = [A, B].map(|field| usize::from(record.fields[field]));
-        let of = |term: usize| self.members[term][place];
-        let mut partners = (0..self.elements.len()).filter(|other| {
-            let [d, e] = [place, *other].map(|at| self.elements[at]);
-            types.allowed(record.fields[A], d, e)
-        });
+    /// Whether the element at a place belongs to the term of a record that has been read.
+    fn has(&self, term: usize, place: usize) -> bool {
+        let members = self.members.get(term);
+        members.and_then(|all| all.get(place)).is_some_and(|belongs| *belongs)
+    }
+
+    /// Whether the element d at a place belongs to the term of a record that is no name, by the section
+    /// on meaning.
+    fn belongs(&self, types: &Types, record: &Record, place: usize, d: usize) -> bool {
+        let [a, b] = record.operands();
+        let placed = self.elements.iter().enumerate();
+        let mut partners = placed.filter(|(_, e)| types.allowed(record.fields[A], d, **e));
         match record.kind {
             1 => true,
-            3 => types.is_true(number, self.elements[place]),
-            4 => !of(a),
-            5 => of(a) && of(b),
-            6 => of(a) || of(b),
-            7 => partners.any(|e| self.members[b][e]),
-            8 => partners.all(|e| self.members[b][e]),
+            4 => !self.has(a, place),
+            5 => self.has(a, place) && self.has(b, place),
+            6 => self.has(a, place) || self.has(b, place),
+            7 => partners.any(|(partner, _)| self.has(b, partner)),
+            8 => partners.all(|(partner, _)| self.has(b, partner)),
             _ => false,
         }
     }
 
     /// The first element at which two terms differ.
     fn first_difference(&self, a: usize, b: usize) -> Option<usize> {
-        let mut places = 0..self.elements.len();
-        let differ = |at: &usize| self.members[a][*at] != self.members[b][*at];
-        places.find(differ).map(|at| self.elements[at])
+        let mut placed = self.elements.iter().enumerate();
+        let first = placed.find(|(place, _)| self.has(a, *place) != self.has(b, *place));
+        first.map(|(_, element)| *element)
     }
 
     /// Whether the interpretation satisfies the statements of the vocabulary.
     fn satisfies(&self, types: &Types) -> bool {
         chained(&types.records).iter().all(|statement| {
-            let [a, b] = [A, B].map(|field| &self.members[usize::from(statement.fields[field])]);
-            a.iter().zip(b).all(|(in_a, in_b)| !in_a || *in_b)
+            let [a, b] = statement.operands();
+            (0..self.elements.len()).all(|place| !self.has(a, place) || self.has(b, place))
         })
     }
 }

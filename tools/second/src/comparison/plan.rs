@@ -4,7 +4,7 @@
 use crate::comparison::call::first_difference;
 use crate::comparison::file::Case;
 use crate::comparison::types::Types;
-use crate::decode::records;
+use crate::decode::{records, terms};
 use crate::random::{Random, Seed};
 
 /// The seed of all random choices in the stored cases.
@@ -15,13 +15,17 @@ const ENOUGH: [u16; 8] = [512, 512, 512, 513, 519, 600, 768, 1024];
 
 /// A case, and how its expected line has to begin.
 pub struct Planned {
+    /// The case.
     pub case: Case,
+    /// How its expected line has to begin.
     pub meant: String,
 }
 
 /// The cases so far, and the source of random choices.
 pub struct Plan {
+    /// The cases.
     pub cases: Vec<Planned>,
+    /// The source.
     pub random: Random,
 }
 
@@ -69,17 +73,17 @@ impl Plan {
     pub fn add_pairs(&mut self, vocabulary: &[u8], each: usize) {
         let types = Types::of(records(vocabulary));
         let (set, _) = types.survivors();
-        let terms = (1..types.records.len()).filter(|n| types.records[*n].is_term());
-        let terms: Vec<u32> = terms.map(|number| number as u32).collect();
+        let terms: Vec<u32> = terms(&types.records).into_iter().map(|n| n as u32).collect();
         let mut sorts: [Vec<[u32; 2]>; 3] = Default::default();
         for a in &terms {
             for b in terms.iter().filter(|b| *b != a) {
+                let [equal, at_once, later] = &mut sorts;
                 let sort = match first_difference(&types, &set, *a, *b) {
-                    None => 0,
-                    Some(0) => 1,
-                    Some(_) => 2,
+                    None => equal,
+                    Some(0) => at_once,
+                    Some(_) => later,
                 };
-                sorts[sort].push([*a, *b]);
+                sort.push([*a, *b]);
             }
         }
         for (pairs, meant) in sorts.iter().zip(["equal ", "different 0 ", "different "]) {

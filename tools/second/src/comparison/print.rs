@@ -7,6 +7,7 @@ use crate::vocabulary::Refusal;
 
 /// What the comparison does with a case.
 pub struct Outcome {
+    /// The answer.
     pub answer: Result<Compared, Refusal>,
     /// The lent bytes after the call.
     pub buffer: Vec<u8>,
@@ -32,7 +33,7 @@ pub fn line(outcome: &Outcome) -> String {
     let [low, high] = sums(buffer);
     let text = match &outcome.answer {
         Err(refusal) => format!("refused {} {}", refusal.number, refusal.place),
-        Ok(compared) => format!("{} {}", head(compared), hex(&buffer[..WRITTEN])),
+        Ok(compared) => format!("{} {}", head(compared), hex(buffer.iter().take(WRITTEN))),
     };
     format!("{text} {low} {high}\n")
 }
@@ -47,10 +48,10 @@ fn head(compared: &Compared) -> String {
 }
 
 /// Bytes in hexadecimal, as far as the last that is not 0; a dash where all are 0.
-fn hex(bytes: &[u8]) -> String {
-    match bytes.iter().rposition(|byte| *byte != 0) {
+fn hex<'a>(bytes: impl ExactSizeIterator<Item = &'a u8> + DoubleEndedIterator + Clone) -> String {
+    match bytes.clone().rposition(|byte| *byte != 0) {
         None => "-".to_string(),
-        Some(last) => bytes[..=last].iter().map(|b| format!("{b:02x}")).collect(),
+        Some(last) => bytes.take(last + 1).map(|byte| format!("{byte:02x}")).collect(),
     }
 }
 

@@ -1,10 +1,11 @@
 //! The refusals of the comparison: each alone, and all mixtures of them, of which the first in table
 //! order is given.
 
+use crate::cases::{beginning, with_byte};
 use crate::comparison::plan::Plan;
 use crate::comparison::random::vocabulary;
 use crate::comparison::terms::Terms;
-use crate::decode::{records, Record};
+use crate::decode::{records, Record, RECORD_BYTES};
 use crate::draft::Draft;
 use crate::generate;
 use crate::random::Seed;
@@ -19,14 +20,15 @@ const LONGEST: usize = 300;
 const ATOMS: [usize; 8] = [1, 5, 12, 13, 14, 20, 100, 300];
 const OF_EACH: usize = 20;
 
-/// The vocabulary that is spoiled: names, a restriction of each kind and statements.
+/// The vocabulary that is spoiled, with four atoms or more: names, a restriction of each kind and statements.
 fn sound(atoms: usize) -> Vec<u8> {
     let mut terms = Terms::new(3);
-    let names = terms.names(atoms - 2);
-    let some = terms.some(0, names[0]);
+    let [first, second] = terms.names();
+    terms.name_list(atoms - 4);
+    let some = terms.some(0, first);
     let all = terms.all(2, some);
     terms.aside(all, some);
-    terms.within(names[1], all);
+    terms.within(second, all);
     terms.bytes()
 }
 
@@ -36,7 +38,7 @@ fn spoil(row: u8, vocabulary: &[u8]) -> (Vec<u8>, usize) {
     if row == 1 {
         return ([vocabulary, &[0]].concat(), 0);
     }
-    let last = vocabulary.len() / 8 - 1;
+    let last = vocabulary.len() / RECORD_BYTES - 1;
     let some = last - 3;
     let (place, byte, value) = match row {
         2 => (0, 0, 15),
@@ -47,9 +49,7 @@ fn spoil(row: u8, vocabulary: &[u8]) -> (Vec<u8>, usize) {
         7 => (2, 2, 1),
         _ => (last, 6, 1),
     };
-    let mut bytes = vocabulary.to_vec();
-    bytes[8 * place + byte] = value;
-    (bytes, place)
+    (with_byte(vocabulary, RECORD_BYTES * place + byte, value), place)
 }
 
 /// Numbers that are no term of a vocabulary: header, statements, past the end, and numbers whose low
@@ -113,10 +113,10 @@ impl Plan {
     /// Row 1 next to the limits.
     fn wrong_lengths(&mut self) {
         let mut terms = Terms::new(0);
-        terms.names(512);
+        terms.name_list(512);
         let bytes = terms.bytes();
         for length in [0, 1, 7, 9, 4088 + 7, 4096 + 1, 4096 + 8] {
-            self.add(&bytes[..length], 1, 2, "refused 1 0 ");
+            self.add(&beginning(&bytes, length), 1, 2, "refused 1 0 ");
         }
     }
 
@@ -124,12 +124,11 @@ impl Plan {
     fn wrong_queries(&mut self) {
         let vocabulary = sound(5);
         let wrong = no_terms(&records(&vocabulary));
-        for (i, number) in wrong.iter().enumerate() {
-            let other = wrong[(i + 1) % wrong.len()];
+        for (number, other) in wrong.iter().zip(wrong.iter().cycle().skip(1)) {
             let refused = format!("refused 10 {number} ");
             self.add(&vocabulary, *number, 2, &refused);
             self.add(&vocabulary, 2, *number, &refused);
-            self.add(&vocabulary, *number, other, &refused);
+            self.add(&vocabulary, *number, *other, &refused);
             self.add_lent(&vocabulary, [*number, *number], 0, &refused);
         }
     }

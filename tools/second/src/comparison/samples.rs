@@ -6,9 +6,9 @@ use crate::comparison::terms::Terms;
 /// The vocabulary V: names 1, 2, 3; 4 = 1 and 2; 5: 4 within 3.
 pub fn v() -> Terms {
     let mut terms = Terms::new(0);
-    let names = terms.names(3);
-    let both = terms.and(names[0], names[1]);
-    terms.within(both, names[2]);
+    let [first, second, third] = terms.names();
+    let both = terms.and(first, second);
+    terms.within(both, third);
     terms
 }
 
@@ -48,11 +48,11 @@ fn sample_5() -> Terms {
 /// Names 1, 2; 3 some role 0 to 2; 4 all role 0 to 2; 5: 1 within 3; 6: 4 within 1; 7 top.
 fn sample_6() -> Terms {
     let mut terms = Terms::new(1);
-    let names = terms.names(2);
-    let some = terms.some(0, names[1]);
-    let all = terms.all(0, names[1]);
-    terms.within(names[0], some);
-    terms.within(all, names[0]);
+    let [first, second] = terms.names();
+    let some = terms.some(0, second);
+    let all = terms.all(0, second);
+    terms.within(first, some);
+    terms.within(all, first);
     terms.top();
     terms
 }
@@ -73,7 +73,7 @@ fn mixed_atoms(count: usize) -> Terms {
 /// As many names.
 fn name_atoms(count: usize) -> Terms {
     let mut terms = Terms::new(0);
-    terms.names(count);
+    terms.name_list(count);
     terms
 }
 

@@ -78,7 +78,10 @@ pub fn table(cases: &[Planned]) -> Table {
     let pairs = || cases.iter().zip(&outcomes);
     let told: Vec<_> = pairs().map(|(planned, outcome)| told(planned, outcome)).collect();
     for (i, (name, _)) in ERRORS.iter().enumerate() {
-        let count = told.iter().filter(|errors| errors[i]).count();
+        let count = told
+            .iter()
+            .filter(|errors| errors.get(i).is_some_and(|told| *told))
+            .count();
         table.add(&format!("would change by: {name}"), count, 1);
     }
     table.object(objections(cases, &outcomes));

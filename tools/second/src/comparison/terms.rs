@@ -31,10 +31,12 @@ impl Terms {
         number
     }
 
+    /// Top.
     pub fn top(&mut self) -> u16 {
         self.push(1, 0, 0)
     }
 
+    /// Bottom.
     pub fn bottom(&mut self) -> u16 {
         self.push(2, 0, 0)
     }
@@ -45,27 +47,37 @@ impl Terms {
         self.push(3, label, 0)
     }
 
-    /// As many names.
-    pub fn names(&mut self, count: usize) -> Vec<u16> {
+    /// Names, as many as are taken.
+    pub fn names<const COUNT: usize>(&mut self) -> [u16; COUNT] {
+        std::array::from_fn(|_| self.name())
+    }
+
+    /// So many names.
+    pub fn name_list(&mut self, count: usize) -> Vec<u16> {
         (0..count).map(|_| self.name()).collect()
     }
 
+    /// The complement of a term.
     pub fn not(&mut self, a: u16) -> u16 {
         self.push(4, a, 0)
     }
 
+    /// What lies in both of two terms.
     pub fn and(&mut self, a: u16, b: u16) -> u16 {
         self.push(5, a, b)
     }
 
+    /// What lies in one of two terms, or both.
     pub fn or(&mut self, a: u16, b: u16) -> u16 {
         self.push(6, a, b)
     }
 
+    /// Some role to a term.
     pub fn some(&mut self, role: u16, b: u16) -> u16 {
         self.push(7, role, b)
     }
 
+    /// All role to a term.
     pub fn all(&mut self, role: u16, b: u16) -> u16 {
         self.push(8, role, b)
     }

@@ -1,7 +1,7 @@
 //! The types of a vocabulary, the pairs allowed for a role, the types that a set serves, and the
 //! rounds: the section "Types and comparison" of the paper, sentence by sentence.
 
-use crate::decode::{Record, A, B};
+use crate::decode::{at, Record, A, B};
 use crate::vocabulary::chain;
 
 /// The kind of a name.
@@ -13,6 +13,7 @@ pub const ALL: u8 = 8;
 
 /// The records of an accepted vocabulary, with the truth of each at each type.
 pub struct Types {
+    /// The records.
     pub records: Vec<Record>,
     /// The records of kinds 7 and 8.
     pub restrictions: Vec<Restriction>,
@@ -23,9 +24,13 @@ pub struct Types {
 /// A record of kind 7 or 8.
 #[derive(Clone, Copy)]
 pub struct Restriction {
+    /// The number of the record.
     pub number: usize,
+    /// Its kind.
     pub kind: u8,
+    /// Its role, A.
     pub role: u16,
+    /// The number of its term, B.
     pub filler: usize,
 }
 
@@ -34,14 +39,23 @@ pub type Set = Vec<usize>;
 
 /// The numbers of the atoms, in record order.
 pub fn atoms(records: &[Record]) -> Vec<usize> {
-    let is_atom = |number: &usize| [NAME, SOME, ALL].contains(&records[*number].kind);
-    (1..records.len()).filter(is_atom).collect()
+    let is_atom = |record: &Record| [NAME, SOME, ALL].contains(&record.kind);
+    let all = records.iter().enumerate().skip(1).filter(|(_, record)| is_atom(record));
+    all.map(|(number, _)| number).collect()
 }
 
 /// The statements on the chain.
 pub fn chained(records: &[Record]) -> Vec<Record> {
     let numbers = chain(records).into_iter().map(usize::from);
-    numbers.map(|number| records[number]).collect()
+    numbers.map(|number| at(records, number)).collect()
+}
+
+/// Whether a record is true at a type; false where there is no such record or type.
+fn truth(truths: &[Vec<bool>], number: usize, t: usize) -> bool {
+    truths
+        .get(number)
+        .and_then(|record| record.get(t))
+        .is_some_and(|truth| *truth)
 }
 
 /// The truth of each record at each type, in record order.
@@ -49,16 +63,17 @@ fn truths(records: &[Record]) -> Vec<Vec<bool>> {
     let atoms = atoms(records);
     let mut truths: Vec<Vec<bool>> = Vec::new();
     for (number, record) in records.iter().enumerate() {
-        let of = |field: usize, t: usize| truths[usize::from(record.fields[field])][t];
+        let [a, b] = record.operands();
+        let of = |operand: usize, t: usize| truth(&truths, operand, t);
         let atom = atoms.iter().position(|atom| *atom == number);
-        let truth = |t: usize| match record.kind {
+        let own = |t: usize| match record.kind {
             1 => true,
-            4 => !of(A, t),
-            5 => of(A, t) && of(B, t),
-            6 => of(A, t) || of(B, t),
+            4 => !of(a, t),
+            5 => of(a, t) && of(b, t),
+            6 => of(a, t) || of(b, t),
             _ => atom.is_some_and(|j| t >> j & 1 == 1),
         };
-        truths.push((0..1 << atoms.len()).map(truth).collect());
+        truths.push((0..1 << atoms.len()).map(own).collect());
     }
     truths
 }
@@ -82,17 +97,17 @@ impl Types {
 
     /// How many types there are.
     pub fn count(&self) -> usize {
-        self.truths[0].len()
+        self.truths.first().map_or(0, Vec::len)
     }
 
     /// Whether a term is true at a type.
     pub fn is_true(&self, term: usize, t: usize) -> bool {
-        self.truths[term][t]
+        truth(&self.truths, term, t)
     }
 
     /// Whether a statement holds at a type.
     pub fn holds(&self, statement: &Record, t: usize) -> bool {
-        let [a, b] = [A, B].map(|field| usize::from(statement.fields[field]));
+        let [a, b] = statement.operands();
         !self.is_true(a, t) || self.is_true(b, t)
     }
 

@@ -18,11 +18,12 @@ pub fn check_by<R: Rules + ?Sized>(rules: &R, vocabulary: &[u8], script: &[u8]) 
     check_length(script)?;
     let vocabulary = decode::records(vocabulary);
     let records = records::decode(script);
+    let header = records::at(&records, 0);
     let script = Script {
         matrix: Matrix {
             statements: rules.statements(&vocabulary),
             records: vocabulary,
-            query: [records[0][QUERY_A], records[0][QUERY_B]],
+            query: [header[QUERY_A], header[QUERY_B]],
         },
         records,
     };

@@ -2,7 +2,8 @@
 
 use crate::script::columns::{Argument, Literal};
 use crate::script::records::{
-    chain, Script, Term, Words, COLUMN, EXTENSION, FRAME, KIND, OWNER, POSITION, REDUCTION, START, START_COLUMN, X, Y,
+    chain, Script, Term, Words, COLUMN, CONSTANT_PLACE, EXTENSION, FRAME, KIND, OWNER, POSITION, REDUCTION, START,
+    START_COLUMN, X, Y,
 };
 use crate::script::rules::Rules;
 use crate::vocabulary::{refuse_if, Refusal};
@@ -15,13 +16,17 @@ pub type Goal = Literal<Term>;
 
 /// A frame: its literals, of which the first so many are closed.
 pub struct Frame {
+    /// The literals.
     pub literals: Vec<Goal>,
+    /// How many of them are closed.
     pub closed: usize,
 }
 
 /// The frames that are open, and whether a start was run.
 pub struct Machine {
+    /// The open frames.
     pub frames: Vec<Frame>,
+    /// Whether a start was run.
     pub started: bool,
 }
 
@@ -81,14 +86,14 @@ pub fn run_steps<R: Rules + ?Sized>(rules: &R, script: &Script, steps: &[usize])
             let applies = applies(rules, script, &machine, *place, *row);
             refuse_if(applies, rules.number(*row), *place)?;
         }
-        take(rules, script, &mut machine, &script.records[*place]);
+        take(rules, script, &mut machine, &script.record(*place));
     }
     Ok(machine)
 }
 
 /// Rows 25 and 20 to 23: whether a row's condition applies to the step at a place.
 fn applies<R: Rules + ?Sized>(rules: &R, script: &Script, machine: &Machine, place: usize, row: u8) -> bool {
-    let record = &script.records[place];
+    let record = &script.record(place);
     let kind = record[KIND];
     match row {
         25 => machine.started && machine.frames.is_empty(),
@@ -105,14 +110,14 @@ fn applies<R: Rules + ?Sized>(rules: &R, script: &Script, machine: &Machine, pla
 
 /// The column of an extension, with its terms.
 pub fn instance(script: &Script, record: &Words) -> Vec<Goal> {
-    let columns = script.matrix.columns(record[OWNER]);
-    with_terms(&columns[usize::from(record[COLUMN])], record[X], record[Y])
+    let column = script.matrix.column(record[OWNER], record[COLUMN]);
+    with_terms(&column, record[X], record[Y])
 }
 
 /// A column's literals with term records for x and y. The constant is record 1.
 fn with_terms(column: &[Literal<Argument>], x: u16, y: u16) -> Vec<Goal> {
     let term = |argument: &Argument| match *argument {
-        Argument::Constant => Term::Record(crate::script::records::CONSTANT_PLACE),
+        Argument::Constant => Term::Record(CONSTANT_PLACE),
         Argument::X => Term::Record(x),
         Argument::Y => Term::Record(y),
         Argument::Function(function) => Term::Applied { function, inner: x },
@@ -128,9 +133,11 @@ fn connection<R: Rules + ?Sized>(rules: &R, script: &Script, machine: &Machine, 
 
 /// Whether a reduction's frame is below the last, and its own goal is the complement of the goal.
 fn reduces<R: Rules + ?Sized>(rules: &R, script: &Script, machine: &Machine, number: usize) -> bool {
-    let below = number + 1 < machine.frames.len();
+    let below = machine.frames.split_last().and_then(|(_, below)| below.get(number));
     let goal = machine.goal();
-    below && goal.is_some_and(|goal| rules.reduces(script, &machine.frames[number], goal))
+    below
+        .zip(goal)
+        .is_some_and(|(frame, goal)| rules.reduces(script, frame, goal))
 }
 
 /// Whether two literals are complements, equal terms included.
@@ -143,10 +150,9 @@ pub fn complements<R: Rules + ?Sized>(rules: &R, script: &Script, l: &Goal, m: &
 fn take<R: Rules + ?Sized>(rules: &R, script: &Script, machine: &mut Machine, record: &Words) {
     match record[KIND] {
         START => {
-            let columns = script.matrix.columns(0);
-            let column = &columns[usize::from(record[START_COLUMN])];
+            let column = script.matrix.column(0, record[START_COLUMN]);
             machine.started = true;
-            machine.frames.push(Frame::of(with_terms(column, 0, 0)));
+            machine.frames.push(Frame::of(with_terms(&column, 0, 0)));
         }
         EXTENSION => {
             let column = instance(script, record);

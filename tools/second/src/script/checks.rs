@@ -6,7 +6,7 @@ use crate::decode::records;
 use crate::script::families::inclusions;
 use crate::script::file::line;
 use crate::script::plan::Planned;
-use crate::script::records::{decode, QUERY_A, QUERY_B};
+use crate::script::records::{at, decode, QUERY_A, QUERY_B};
 use crate::vocabulary::Refusal;
 
 /// Vocabularies with more atoms do not have their types tried, for their time.
@@ -23,7 +23,7 @@ pub fn fault(planned: &Planned, answer: Result<usize, Refusal>) -> Option<String
     if answer.is_err() || !few() {
         return None;
     }
-    let header = decode(&case.script)[0];
+    let header = at(&decode(&case.script), 0);
     let query = [header[QUERY_A], header[QUERY_B]];
     let holds = inclusions(&case.vocabulary).contains(&query);
     (!holds).then(|| format!("is {line}, but the query does not hold"))

@@ -16,7 +16,9 @@ pub enum Predicate {
 pub enum Argument {
     /// The constant a.
     Constant,
+    /// The variable x.
     X,
+    /// The variable y.
     Y,
     /// The Skolem term fi(x).
     Function(u16),
@@ -25,8 +27,11 @@ pub enum Argument {
 /// A literal over arguments of some sort: those of a column, or terms.
 #[derive(Clone, Debug, PartialEq, Eq)]
 pub struct Literal<T> {
+    /// Whether it is not negated.
     pub positive: bool,
+    /// What it says.
     pub predicate: Predicate,
+    /// Of what it says it.
     pub arguments: Vec<T>,
 }
 
@@ -87,8 +92,11 @@ pub fn mentions(column: &Column, argument: Argument) -> bool {
 /// What a script's columns come from: the records of an accepted vocabulary, the statements that
 /// have a column, and the query "A within B".
 pub struct Matrix {
+    /// The records of the vocabulary.
     pub records: Vec<Record>,
+    /// The numbers of the statements.
     pub statements: Vec<u16>,
+    /// The query's A and B.
     pub query: [u16; 2],
 }
 
@@ -103,6 +111,12 @@ impl Matrix {
             Some(_) if owner == 0 => vec![vec![outside(a, Constant)], vec![inside(b, Constant)]],
             Some(record) => self.record_columns(owner, record),
         }
+    }
+
+    /// A column of an owner; without literals where there is none.
+    pub fn column(&self, owner: u16, number: u16) -> Column {
+        let mut columns = self.columns(owner).into_iter();
+        columns.nth(number.into()).unwrap_or_default()
     }
 
     /// The columns of record i.

@@ -1,19 +1,26 @@
 //! Accepted scripts, damaged so that each refusal is met: alone, at many places, and together with
 //! others, of which the first in table order is given.
 
+use crate::cases::beginning;
 use crate::generate;
 use crate::random::Seed;
-use crate::script::faults::{ways, with, wrong_headers, wrong_nexts};
+use crate::script::faults::{ways, wrong_headers, wrong_nexts};
 use crate::script::plan::{refused, Base, Plan};
 use crate::script::records::{
-    encode, is_step, Script, Words, FIRST, KIND, NEXT, QUERY_A, QUERY_B, RECORD_BYTES, REDUCTION, TERM,
+    is_step, replace, set, with, Script, Words, FIRST, KIND, NEXT, QUERY_A, QUERY_B, RECORD_BYTES, REDUCTION, TERM,
 };
 use crate::vocabulary::{check_vocabulary, Refusal};
 
-/// The longest vocabularies, in bytes, that are taken from those that the vocabulary check refuses,
-/// and how many are of each row.
+/// The longest vocabularies, in bytes, that are taken from those that the vocabulary check refuses.
 const SHORT: usize = 200;
+/// How many of them are of each row.
 const OF_EACH_ROW: usize = 8;
+
+/// How many bytes of a script go with a vocabulary that is refused: none, or a header and more.
+const BEGINNINGS: [usize; 4] = [0, RECORD_BYTES, RECORD_BYTES + 1, 2 * RECORD_BYTES];
+
+/// Lengths of scripts, in bytes, that are too long.
+const TOO_LONG: [usize; 4] = [32_767, 32_769, 32_784, 65_535];
 
 /// The most records of the scripts that are damaged in every way.
 const FEW: usize = 11;
@@ -56,21 +63,25 @@ impl Plan {
             let bytes = base.writer.bytes();
             let whole = bytes.len();
             for length in [0, 1, 8, 15, 17, 31, 33, whole - 1, whole - 8] {
-                self.add(&base.vocabulary, bytes[..length].to_vec(), &refused(13, 0));
+                self.add(&base.vocabulary, beginning(&bytes, length), &refused(13, 0));
             }
             self.add(&base.vocabulary, [&bytes[..], &[0]].concat(), &refused(13, 0));
         }
-        for length in [32_767, 32_769, 32_784, 65_535] {
-            let mut bytes = bases[0].writer.bytes();
+        for (base, length) in bases
+            .iter()
+            .take(1)
+            .flat_map(|base| TOO_LONG.map(|length| (base, length)))
+        {
+            let mut bytes = base.writer.bytes();
             bytes.resize(length, 0);
-            self.add(&bases[0].vocabulary, bytes, &refused(13, 0));
+            self.add(&base.vocabulary, bytes, &refused(13, 0));
         }
     }
 
     /// Rows 14 and 10, each alone, together, and before a fault of row 15.
     fn headers(&mut self, bases: &[Base]) {
         for base in bases.iter().step_by(60) {
-            let header = base.writer.records[0];
+            let header = base.writer.record(0);
             for (i, wrong) in wrong_headers(header).into_iter().enumerate() {
                 let query = with(wrong, QUERY_A + i % 2, 0);
                 let header = if i % 3 == 0 { wrong } else { query };
@@ -100,9 +111,9 @@ impl Plan {
     /// The script with another header, and, if asked, a record of no kind.
     fn with_header(&mut self, base: &Base, header: Words, meant: &str, kind: bool) {
         let mut records = base.writer.records.clone();
-        records[0] = header;
+        replace(&mut records, 0, header);
         if kind {
-            records[1][KIND] = 0;
+            set(&mut records, 1, KIND, 0);
         }
         self.add_records(&base.vocabulary, &records, meant);
     }
@@ -117,7 +128,7 @@ impl Plan {
             for (place, row) in (1..script.records.len()).flat_map(|p| (15..=18).map(move |r| (p, r))) {
                 for wrong in ways(row, &script, place) {
                     let mut records = script.records.clone();
-                    records[place] = wrong;
+                    replace(&mut records, place, wrong);
                     self.add_records(&base.vocabulary, &records, &refused(row, place));
                 }
             }
@@ -206,7 +217,7 @@ impl Plan {
                 let wrong = self.random.pick(&ways(row, script, place));
                 wrong.map(|record| {
                     let mut records = script.records.clone();
-                    records[place] = record;
+                    replace(&mut records, place, record);
                     records
                 })
             }
@@ -222,8 +233,9 @@ impl Plan {
         let at = self.random.below(records.len());
         let word = self.random.below(8);
         let small = self.random.below(records.len()) as u16;
-        let values = [small, small % 4, records[at][word] ^ 1, self.random.number()];
-        records[at][word] = self.random.pick(&values).unwrap_or(0);
+        let now = base.script().word(at, word);
+        let values = [small, small % 4, now ^ 1, self.random.number()];
+        set(&mut records, at, word, self.random.pick(&values).unwrap_or(0));
         self.add_records(&base.vocabulary, &records, "");
     }
 
@@ -238,11 +250,13 @@ impl Plan {
             let of_row = refused_ones.iter().filter(|(refusal, _)| refusal.number == row);
             let of_row: Vec<_> = of_row.collect();
             for _ in 0..OF_EACH_ROW {
-                let (refusal, vocabulary) = of_row[self.random.below(of_row.len())];
-                let base = &bases[self.random.below(bases.len())];
-                let mut bytes = encode(&base.writer.records[..2]);
-                bytes.truncate([0, RECORD_BYTES, RECORD_BYTES + 1, 2 * RECORD_BYTES][self.random.below(4)]);
-                self.add(vocabulary, bytes, &refused(refusal.number, refusal.place));
+                let vocabulary = self.random.pick(&of_row);
+                let base = bases.get(self.random.below(bases.len()));
+                let length = self.random.pick(&BEGINNINGS).unwrap_or(0);
+                if let (Some((refusal, vocabulary)), Some(base)) = (vocabulary, base) {
+                    let bytes = beginning(&base.writer.bytes(), length);
+                    self.add(vocabulary, bytes, &refused(refusal.number, refusal.place));
+                }
             }
         }
     }
@@ -252,8 +266,8 @@ impl Plan {
 fn relinked(script: &Script, holder: usize, next: u16) -> Option<Vec<Words>> {
     let mut records = script.records.clone();
     let word = if holder == 0 { FIRST } else { NEXT };
-    let holds = holder == 0 || is_step(records[holder][KIND]);
-    records[holder][word] = next;
+    let holds = holder == 0 || is_step(script.word(holder, KIND));
+    set(&mut records, holder, word, next);
     holds.then_some(records)
 }
 

@@ -19,6 +19,7 @@ macro_rules! wrong {
         /// The wrong script checks.
         pub const ERRORS: &[(&str, &dyn Rules)] = &[$(($name, &$error)),*];
         $(
+            #[doc = $name]
             struct $error;
             impl Rules for $error { $($rule)* }
         )*
@@ -51,13 +52,13 @@ fn unrecorded(script: &Script, s: Term, t: Term) -> usize {
 /// Whether two terms are functions of the same term.
 fn same_inner(script: &Script, s: Term, t: Term) -> bool {
     let [s, t] = [s, t].map(|term| script.written_out(term));
-    !s.is_empty() && !t.is_empty() && s[1..] == t[1..]
+    s.get(1..).is_some_and(|inner| t.get(1..) == Some(inner))
 }
 
 /// Whether one of two terms is a function of the other.
 fn one_inside(script: &Script, s: Term, t: Term) -> bool {
     let [s, t] = [s, t].map(|term| script.written_out(term));
-    s.get(1..) == Some(&t[..]) || t.get(1..) == Some(&s[..])
+    s.get(1..) == Some(t.as_slice()) || t.get(1..) == Some(s.as_slice())
 }
 
 /// Rows 15 to 18 that apply anywhere, the smallest number first.
@@ -77,7 +78,7 @@ fn all_steps(script: &Script) -> impl Iterator<Item = usize> + '_ {
 
 /// Whether the record at a place is an extension with a w4 that its column does not need.
 fn has_idle_y(script: &Script, place: usize) -> bool {
-    let record = script.records[place];
+    let record = script.record(place);
     let columns = script.matrix.columns(record[OWNER]);
     let column = columns.get(usize::from(record[COLUMN]));
     let without = column.is_some_and(|column| !mentions(column, Argument::Y));
@@ -108,10 +109,10 @@ wrong! {
     "only the first 3 steps tested" FirstSteps {
         fn run(&self, script: &Script) -> Result<usize, Refusal> {
             let steps = chain(&script.records);
-            if steps.len() <= TESTED {
+            let Some((first, [_, ..])) = steps.split_at_checked(TESTED) else {
                 return run(self, script);
-            }
-            run_steps(self, script, &steps[..TESTED])?;
+            };
+            run_steps(self, script, first)?;
             Ok(steps.len())
         }
     }
@@ -119,7 +120,7 @@ wrong! {
         fn run(&self, script: &Script) -> Result<usize, Refusal> {
             let steps = chain(&script.records);
             refuse_if(steps.is_empty(), 20, 0)?;
-            refuse_if(true, 24, steps[steps.len() - 1])?;
+            refuse_if(true, 24, self.last(script, &steps))?;
             Ok(steps.len())
         }
     }
@@ -197,13 +198,14 @@ wrong! {
     }
     "a role's second term not compared" FirstTerm {
         fn connection(&self, script: &Script, column: &[Goal], at: usize, goal: &Goal) -> Option<usize> {
-            let first = |l: &Goal| Goal { arguments: l.arguments[..1].to_vec(), ..l.clone() };
-            complements(self, script, &first(&column[at]), &first(goal)).then_some(at)
+            let arguments = |l: &Goal| l.arguments.iter().take(1).copied().collect();
+            let first = |l: &Goal| Goal { arguments: arguments(l), ..l.clone() };
+            complements(self, script, &first(column.get(at)?), &first(goal)).then_some(at)
         }
     }
     "signs not compared" AnySign {
         fn connection(&self, script: &Script, column: &[Goal], at: usize, goal: &Goal) -> Option<usize> {
-            same_atom(script, &column[at], goal).then_some(at)
+            same_atom(script, column.get(at)?, goal).then_some(at)
         }
     }
     "signs not compared in reductions" AnyReducedSign {
@@ -219,13 +221,13 @@ wrong! {
     }
     "reduction against any open literal" OpenLiterals {
         fn reduces(&self, script: &Script, frame: &Frame, goal: &Goal) -> bool {
-            let mut open = frame.literals[frame.closed..].iter();
+            let mut open = frame.literals.iter().skip(frame.closed);
             open.any(|literal| complements(self, script, literal, goal))
         }
     }
     "reduction against closed literals" ClosedLiterals {
         fn reduces(&self, script: &Script, frame: &Frame, goal: &Goal) -> bool {
-            let mut known = frame.literals[..=frame.closed].iter();
+            let mut known = frame.literals.iter().take(frame.closed + 1);
             known.any(|literal| complements(self, script, literal, goal))
         }
     }
@@ -271,14 +273,14 @@ wrong! {
     }
     "other literals reversed" Reversed {
         fn others(&self, column: &[Goal], at: usize) -> Vec<Goal> {
-            [&column[..at], &column[at + 1..]].concat().into_iter().rev().collect()
+            Paper.others(column, at).into_iter().rev().collect()
         }
     }
     "equal literals taken as one" AsSet {
         fn others(&self, column: &[Goal], at: usize) -> Vec<Goal> {
             let mut others: Vec<Goal> = Vec::new();
-            for literal in [&column[..at], &column[at + 1..]].concat() {
-                if literal != column[at] && !others.contains(&literal) {
+            for literal in Paper.others(column, at) {
+                if column.get(at) != Some(&literal) && !others.contains(&literal) {
                     others.push(literal);
                 }
             }
@@ -287,7 +289,7 @@ wrong! {
     }
     "all literals but the first opened" AfterFirst {
         fn others(&self, column: &[Goal], _: usize) -> Vec<Goal> {
-            column[1..].to_vec()
+            column.iter().skip(1).cloned().collect()
         }
     }
     "position ignored" AnyPosition {
@@ -378,10 +380,9 @@ wrong! {
     }
     "w7 of terms not looked at" TermNext {
         fn applies(&self, row: u8, script: &Script, place: usize) -> bool {
-            let record = script.records[place];
-            let words = unused(record[KIND]).iter().filter(|word| **word != NEXT);
+            let mut words = unused(script.word(place, KIND)).iter().filter(|word| **word != NEXT);
             match row {
-                16 => words.into_iter().any(|word| record[*word] != 0),
+                16 => words.any(|word| script.word(place, *word) != 0),
                 _ => form::applies(row, script, place),
             }
         }

@@ -2,13 +2,14 @@
 //! a query. The prover derives what holds in them.
 
 use crate::comparison::{Terms, Types};
-use crate::decode::records;
+use crate::decode::{records, terms};
 use crate::script::plan::{matrix, Plan};
 
 /// How many derivations are kept of one vocabulary.
 const EACH: usize = 16;
-/// The longest paths that are tried, and from which bound a derivation may wander.
+/// The longest paths that are tried.
 const LONGEST_PATH: usize = 9;
+/// The bound from which a derivation may wander.
 const WANDERING: usize = 7;
 /// Derivations with more steps are not kept.
 pub const MOST_STEPS: usize = 90;
@@ -16,18 +17,18 @@ pub const MOST_STEPS: usize = 90;
 /// Not, and, or over two names: double complement and De Morgan.
 fn boolean() -> Terms {
     let mut terms = Terms::new(0);
-    let names = terms.names(2);
-    let nots = [terms.not(names[0]), terms.not(names[1])];
-    let both = terms.and(names[0], names[1]);
-    let either = terms.or(names[0], names[1]);
-    terms.not(nots[0]);
+    let [first, second] = terms.names();
+    let [not_first, not_second] = [terms.not(first), terms.not(second)];
+    let both = terms.and(first, second);
+    let either = terms.or(first, second);
+    terms.not(not_first);
     terms.not(both);
-    terms.or(nots[0], nots[1]);
+    terms.or(not_first, not_second);
     terms.not(either);
-    terms.and(nots[0], nots[1]);
-    terms.or(names[0], nots[0]);
+    terms.and(not_first, not_second);
+    terms.or(first, not_first);
     terms.top();
-    terms.and(names[1], nots[1]);
+    terms.and(second, not_second);
     terms.bottom();
     terms
 }
@@ -35,13 +36,13 @@ fn boolean() -> Terms {
 /// And over or, and equal operands.
 fn distributed() -> Terms {
     let mut terms = Terms::new(0);
-    let names = terms.names(3);
-    let either = terms.or(names[1], names[2]);
-    terms.and(names[0], either);
-    let one = terms.and(names[0], names[1]);
-    let other = terms.and(names[0], names[2]);
+    let [first, second, third] = terms.names();
+    let either = terms.or(second, third);
+    terms.and(first, either);
+    let one = terms.and(first, second);
+    let other = terms.and(first, third);
     terms.or(one, other);
-    let twice = terms.and(names[0], names[0]);
+    let twice = terms.and(first, first);
     terms.or(twice, twice);
     terms
 }
@@ -62,12 +63,12 @@ fn duals() -> Terms {
 /// Some over and, or, and all over and.
 fn restrictions() -> Terms {
     let mut terms = Terms::new(1);
-    let names = terms.names(2);
-    let both = terms.and(names[0], names[1]);
-    let [some, all] = [terms.some(0, names[0]), terms.all(0, names[1])];
+    let [first, second] = terms.names();
+    let both = terms.and(first, second);
+    let [some, all] = [terms.some(0, first), terms.all(0, second)];
     terms.and(some, all);
     terms.some(0, both);
-    let one = terms.all(0, names[0]);
+    let one = terms.all(0, first);
     terms.and(one, all);
     terms.all(0, both);
     terms
@@ -76,25 +77,25 @@ fn restrictions() -> Terms {
 /// A case split that statements make, which stand off the chain too, with one that does not hold.
 fn split() -> Terms {
     let mut terms = Terms::new(0);
-    let names = terms.names(4);
+    let [first, second, third, fourth] = terms.names();
     let top = terms.top();
-    let either = terms.or(names[0], names[1]);
-    for (a, b) in [(top, either), (names[0], names[2]), (names[1], names[2])] {
+    let either = terms.or(first, second);
+    for (a, b) in [(top, either), (first, third), (second, third)] {
         terms.within(a, b);
         terms.aside(a, b);
     }
-    terms.aside(names[3], names[2]);
+    terms.aside(fourth, third);
     terms
 }
 
 /// Names of which each has the next as a witness.
 fn ladder() -> Terms {
     let mut terms = Terms::new(1);
-    let names = terms.names(4);
+    let [first, second, third, fourth] = terms.names();
     let top = terms.top();
-    for pair in names.windows(2) {
-        let some = terms.some(0, pair[1]);
-        terms.within(pair[0], some);
+    for (name, next) in [(first, second), (second, third), (third, fourth)] {
+        let some = terms.some(0, next);
+        terms.within(name, some);
     }
     let mut nested = top;
     for _ in 0..3 {
@@ -106,14 +107,14 @@ fn ladder() -> Terms {
 /// A name that its witnesses hand on, and one that they may not have.
 fn handed_on() -> Terms {
     let mut terms = Terms::new(2);
-    let names = terms.names(2);
-    let all = terms.all(1, names[0]);
-    let some = terms.some(1, names[1]);
-    let both = terms.and(names[0], names[1]);
+    let [first, second] = terms.names();
+    let all = terms.all(1, first);
+    let some = terms.some(1, second);
+    let both = terms.and(first, second);
     let bottom = terms.bottom();
-    terms.within(names[0], all);
+    terms.within(first, all);
     terms.within(both, bottom);
-    terms.and(names[0], some);
+    terms.and(first, some);
     terms
 }
 
@@ -122,10 +123,10 @@ fn handed_on() -> Terms {
 fn complements() -> Terms {
     let mut terms = Terms::new(0);
     let (top, bottom) = (terms.top(), terms.bottom());
-    let names = terms.names(2);
-    terms.within(top, names[0]);
-    terms.within(names[1], bottom);
-    for name in names {
+    let [first, second] = terms.names();
+    terms.within(top, first);
+    terms.within(second, bottom);
+    for name in [first, second] {
         let not = terms.not(name);
         terms.and(name, not);
         terms.or(name, not);
@@ -136,9 +137,8 @@ fn complements() -> Terms {
 /// Names in a ring, each of which lies within the next.
 fn ring() -> Terms {
     let mut terms = Terms::new(0);
-    let names = terms.names(3);
-    for i in 0..3 {
-        let (a, b) = (names[i], names[(i + 1) % 3]);
+    let [first, second, third] = terms.names();
+    for (a, b) in [(first, second), (second, third), (third, first)] {
         terms.within(a, b);
         terms.aside(a, b);
     }
@@ -195,8 +195,7 @@ impl Plan {
 pub fn inclusions(vocabulary: &[u8]) -> Vec<[u16; 2]> {
     let types = Types::of(records(vocabulary));
     let (survivors, _) = types.survivors();
-    let terms = (1..types.records.len()).filter(|n| types.records[*n].is_term());
-    let terms: Vec<usize> = terms.collect();
+    let terms = terms(&types.records);
     let holds = |a: usize, b: usize| {
         let mut all = survivors.iter();
         all.all(|t| !types.is_true(a, *t) || types.is_true(b, *t))

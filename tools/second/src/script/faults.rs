@@ -4,16 +4,9 @@ use crate::decode::Record;
 use crate::script::columns::{mentions, Argument};
 use crate::script::form::unused;
 use crate::script::records::{
-    is_step, step, Script, Words, COLUMN, CONSTANT, CONSTANT_PLACE, EXTENSION, FUNCTION, INNER, KIND, OWNER, POSITION,
-    REDUCTION, START, START_COLUMN, TERM, X, Y,
+    is_step, step, with, Script, Words, COLUMN, CONSTANT, CONSTANT_PLACE, EXTENSION, FUNCTION, INNER, KIND, OWNER,
+    POSITION, REDUCTION, START, START_COLUMN, TERM, X, Y,
 };
-
-/// A record with a word changed.
-pub fn with(record: Words, word: usize, value: u16) -> Words {
-    let mut changed = record;
-    changed[word] = value;
-    changed
-}
 
 /// A record with a word changed to each value in turn.
 fn each(record: Words, word: usize, values: &[u16]) -> Vec<Words> {
@@ -23,7 +16,7 @@ fn each(record: Words, word: usize, values: &[u16]) -> Vec<Words> {
 /// All ways to change the record at a place so that it meets one of the refusals 15 to 18, and no
 /// smaller of them.
 pub fn ways(row: u8, script: &Script, place: usize) -> Vec<Words> {
-    let record = script.records[place];
+    let record = script.record(place);
     match row {
         15 => each(record, KIND, &[0, 6, 7, 16, 32, 256 + record[KIND], 65535]),
         16 => {
@@ -49,7 +42,7 @@ pub fn wrong_headers(header: Words) -> Vec<Words> {
 /// Record 1 as something else, another record as the constant, or a term record with a function, an
 /// inner term or both that may not stand.
 fn wrong_terms(script: &Script, place: usize) -> Vec<Words> {
-    let record = script.records[place];
+    let record = script.record(place);
     if place == usize::from(CONSTANT_PLACE) {
         let kinds = [TERM, START, EXTENSION, REDUCTION];
         // A start with w1 = 2 and the extension meet 18 too, which comes later.
@@ -60,7 +53,7 @@ fn wrong_terms(script: &Script, place: usize) -> Vec<Words> {
     if record[KIND] == TERM {
         wrong.extend(each(record, FUNCTION, &no_functions(script)));
         wrong.extend(each(record, INNER, &no_terms_before(script, place)));
-        let earlier = script.records[1..place].iter();
+        let earlier = script.records.iter().take(place).skip(1);
         wrong.extend(earlier.filter(|r| r[KIND] == TERM));
     }
     wrong
@@ -100,10 +93,12 @@ fn no_terms_before(script: &Script, place: usize) -> Vec<u16> {
 
 /// An extension with an owner, a column, a position or terms that may not stand.
 fn wrong_extensions(script: &Script, place: usize) -> Vec<Words> {
-    let record = script.records[place];
+    let record = script.record(place);
     let matrix = &script.matrix;
     let columns = matrix.columns(record[OWNER]);
-    let column = &columns[usize::from(record[COLUMN])];
+    let Some(column) = columns.get(usize::from(record[COLUMN])) else {
+        return Vec::new();
+    };
     let (width, height) = (columns.len() as u16, column.len() as u16);
     let count = matrix.records.len() as u16;
     let no_terms = no_terms_before(script, place);

@@ -6,9 +6,11 @@ use crate::script::call::check_script;
 use crate::vocabulary::Refusal;
 
 /// A vocabulary, and a script over it.
-#[derive(Clone)]
+#[derive(Clone, Debug, PartialEq, Eq)]
 pub struct Case {
+    /// The bytes of the vocabulary.
     pub vocabulary: Vec<u8>,
+    /// The bytes of the script.
     pub script: Vec<u8>,
 }
 

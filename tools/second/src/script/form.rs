@@ -12,8 +12,8 @@ use crate::vocabulary::{refuse_if, Refusal};
 /// Row 13: the length of the script.
 pub fn check_length(bytes: &[u8]) -> Result<(), Refusal> {
     let length = bytes.len();
-    let wrong = length < RECORD_BYTES || length > MOST_RECORDS * RECORD_BYTES || length % RECORD_BYTES != 0;
-    refuse_if(wrong, 13, 0)
+    let fits = (RECORD_BYTES..=MOST_RECORDS * RECORD_BYTES).contains(&length);
+    refuse_if(!fits || !length.is_multiple_of(RECORD_BYTES), 13, 0)
 }
 
 /// Rows 14, 10, 15 to 18 record by record, and 19.
@@ -26,9 +26,8 @@ pub fn check_form<R: Rules + ?Sized>(rules: &R, script: &Script) -> Result<(), R
 
 /// Row 14: the header's w0, and w4 to w7.
 pub fn check_header(script: &Script) -> Result<(), Refusal> {
-    let header = script.records[0];
-    let unused = header[FIRST + 1..].iter().any(|word| *word != 0);
-    refuse_if(header[KIND] != HEADER || unused, 14, 0)
+    let [kind, _, _, _, unused @ ..] = script.record(0);
+    refuse_if(kind != HEADER || unused != [0; 4], 14, 0)
 }
 
 /// Row 10: the query's A, then its B.
@@ -54,10 +53,10 @@ pub fn check_records<R: Rules + ?Sized>(rules: &R, script: &Script) -> Result<()
 
 /// Rows 15 to 18: whether a row's condition applies to the record at a place.
 pub fn applies(row: u8, script: &Script, place: usize) -> bool {
-    let record = script.records[place];
+    let record = script.record(place);
     match row {
         15 => !(CONSTANT..=REDUCTION).contains(&record[KIND]),
-        16 => unused(record[KIND]).iter().any(|word| record[*word] != 0),
+        16 => unused(record[KIND]).iter().any(|word| script.word(place, *word) != 0),
         17 => !keeps_term_rule(script, place),
         18 => !keeps_step_rule(script, place),
         _ => false,
@@ -78,7 +77,7 @@ pub fn unused(kind: u16) -> &'static [usize] {
 /// Row 17: record 1 and no other is the constant; a term applies the function of a restriction to
 /// an earlier term record, and repeats no earlier record.
 fn keeps_term_rule(script: &Script, place: usize) -> bool {
-    let record = script.records[place];
+    let record = script.record(place);
     let is_constant = record[KIND] == CONSTANT;
     let is_place = place == usize::from(CONSTANT_PLACE);
     let formed = || {
@@ -98,20 +97,21 @@ fn is_restriction(script: &Script, number: u16) -> bool {
 /// Whether a number is that of a term record before a place.
 pub fn is_term_before(script: &Script, number: u16, place: usize) -> bool {
     let number = usize::from(number);
-    1 <= number && number < place && [CONSTANT, TERM].contains(&script.word(number, KIND))
+    (1..place).contains(&number) && [CONSTANT, TERM].contains(&script.word(number, KIND))
 }
 
 /// Whether a term record stands before this one already.
 pub fn is_repeat(script: &Script, place: usize) -> bool {
     let term = |record: &[u16; 8]| [record[KIND], record[FUNCTION], record[INNER]];
-    let own = term(&script.records[place]);
-    script.records[1..place].iter().any(|r| term(r) == own)
+    let own = term(&script.record(place));
+    let mut before = script.records.iter().take(place).skip(1);
+    before.any(|earlier| term(earlier) == own)
 }
 
 /// Row 18: a start's column is 0 or 1; an extension's column and position exist, and its terms
 /// stand before it.
 fn keeps_step_rule(script: &Script, place: usize) -> bool {
-    let record = script.records[place];
+    let record = script.record(place);
     match record[KIND] {
         START => record[START_COLUMN] <= 1,
         EXTENSION => keeps_extension_rule(script, place),
@@ -121,7 +121,7 @@ fn keeps_step_rule(script: &Script, place: usize) -> bool {
 
 /// Row 18 for an extension.
 fn keeps_extension_rule(script: &Script, place: usize) -> bool {
-    let record = script.records[place];
+    let record = script.record(place);
     let columns = script.matrix.columns(record[OWNER]);
     let Some(column) = columns.get(usize::from(record[COLUMN])) else {
         return false;

@@ -2,7 +2,9 @@
 
 use crate::decode::RECORD_BYTES as VOCABULARY_RECORD;
 use crate::script::plan::{refused, Base, Plan};
-use crate::script::records::{step, CONSTANT_PLACE, EXTENSION, KIND, MOST_RECORDS, NEXT, REDUCTION, START, TERM};
+use crate::script::records::{
+    replace, step, with, CONSTANT_PLACE, EXTENSION, KIND, MOST_RECORDS, NEXT, OWNER, REDUCTION, START, TERM,
+};
 use crate::script::towers::Tower;
 use crate::script::writer::Writer;
 use crate::vocabulary::MOST_RECORDS as MOST_VOCABULARY_RECORDS;
@@ -36,7 +38,7 @@ impl Plan {
         let writer = &base.writer;
         let last = writer.chain.len() - 1;
         let late = last - self.random.below(last.min(5));
-        let place = writer.chain[late];
+        let place = writer.place(late);
         let mut sorts: Vec<usize> = (0..7).collect();
         self.random.shuffle(&mut sorts);
         for sort in sorts.into_iter().take(count) {
@@ -51,13 +53,11 @@ impl Plan {
                 _ => (step(TERM, &[0, CONSTANT_PLACE]), 17),
             };
             let mut wrong = writer.clone();
-            let next = if record[KIND] == TERM {
-                0
-            } else {
-                wrong.records[place][NEXT]
+            let next = match record[KIND] {
+                TERM => 0,
+                _ => writer.record(place)[NEXT],
             };
-            wrong.records[place] = record;
-            wrong.records[place][NEXT] = next;
+            replace(&mut wrong.records, place, with(record, NEXT, next));
             self.add(&base.vocabulary, wrong.bytes(), &refused(number, place));
         }
         self.cut(&base.vocabulary, writer, late - 1);
@@ -71,7 +71,7 @@ impl Plan {
     /// An extension like the one at a place by the other of top and bottom, which are records 1 and
     /// 2, or by top at an inner column: its literal is not the complement.
     fn unconnected(&mut self, base: &Base, place: usize) -> [u16; 8] {
-        let owner = base.writer.records[place][1];
+        let owner = base.writer.record(place)[OWNER];
         let other = if owner == 1 { 2 } else { 1 };
         step(EXTENSION, &[other, 0, CONSTANT_PLACE, 0, 0])
     }

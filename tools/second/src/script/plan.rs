@@ -15,21 +15,28 @@ const SEED: u64 = 20_240_928;
 
 /// A case, and its expected line; empty where its making does not say it.
 pub struct Planned {
+    /// The case.
     pub case: Case,
+    /// The line.
     pub meant: String,
 }
 
 /// A script that is accepted, from which others are made.
 #[derive(Clone)]
 pub struct Base {
+    /// The bytes of the vocabulary.
     pub vocabulary: Vec<u8>,
+    /// The script.
     pub writer: Writer,
 }
 
 /// The cases so far, the accepted scripts to be damaged, and the source of random choices.
 pub struct Plan {
+    /// The cases.
     pub cases: Vec<Planned>,
+    /// The accepted scripts.
     pub bases: Vec<Base>,
+    /// The source.
     pub random: Random,
 }
 
@@ -83,7 +90,7 @@ impl Base {
 
     /// The matrix of the script.
     pub fn matrix(&self) -> Matrix {
-        let [_, a, b, ..] = self.writer.records[0];
+        let [_, a, b, ..] = self.writer.record(0);
         matrix(&self.vocabulary, [a, b])
     }
 }

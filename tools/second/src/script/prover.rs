@@ -14,18 +14,26 @@ type Goal = Literal<Term>;
 /// A step of a derivation.
 #[derive(Clone, Debug)]
 pub enum Step {
+    /// A start, by a column of the query.
     Start(u16),
+    /// An extension.
     Extension(Extension),
+    /// A reduction, against a frame.
     Reduction(u16),
 }
 
 /// An extension; y is none where no y stands in the column.
 #[derive(Clone, Debug)]
 pub struct Extension {
+    /// The owner of the column.
     pub owner: u16,
+    /// The column, by its number.
     pub column: u16,
+    /// The term for x.
     pub x: Term,
+    /// The term for y.
     pub y: Option<Term>,
+    /// The position of the literal that connects.
     pub position: u16,
 }
 
@@ -44,6 +52,7 @@ pub struct Prover<'a> {
     columns: Vec<(u16, u16, Column)>,
     /// The restrictions by role, which name the role's pairs.
     functions: Vec<(u16, u16)>,
+    /// The source of random choices.
     pub random: &'a mut Random,
     /// How many more goals may be tried.
     tries: usize,
@@ -128,18 +137,18 @@ impl<'a> Prover<'a> {
             self.tries = TRIES;
             let mut starts = [0, 1];
             self.random.shuffle(&mut starts);
-            starts.iter().find_map(|start| self.from_start(*start, bound))
+            starts.iter().find_map(|start| self.derive_from(*start, bound))
         })
     }
 
     /// The literal of one of the query's columns.
     pub fn start(&self, column: u16) -> Option<Goal> {
         let query = self.columns.iter().find(|c| c.0 == 0 && c.1 == column);
-        Some(ground(&query?.2[0], &Term::new(), &Term::new()))
+        Some(ground(query?.2.first()?, &Term::new(), &Term::new()))
     }
 
     /// A derivation from one of the query's columns.
-    fn from_start(&mut self, start: u16, bound: usize) -> Option<Vec<Step>> {
+    fn derive_from(&mut self, start: u16, bound: usize) -> Option<Vec<Step>> {
         let goal = self.start(start)?;
         let mut steps = vec![Step::Start(start)];
         self.close(&goal, &mut Vec::new(), bound, &mut steps).then_some(steps)
@@ -176,8 +185,8 @@ impl<'a> Prover<'a> {
         let reduced = frames.filter(|(_, own)| opposed(*own, goal) && own.arguments == goal.arguments);
         let mut ways: Vec<Way> = reduced.map(|(frame, _)| (Step::Reduction(frame), Vec::new())).collect();
         for (owner, number, column) in &self.columns {
-            for position in 0..column.len() {
-                for (x, y) in self.bindings(column, position, goal) {
+            for (position, literal) in column.iter().enumerate() {
+                for (x, y) in self.bindings(column, literal, goal) {
                     let extension = Extension {
                         owner: *owner,
                         column: *number,
@@ -198,16 +207,15 @@ impl<'a> Prover<'a> {
         ways
     }
 
-    /// The terms for x and y with which a column connects with a goal. An open y is a function of x
-    /// that the role has, and an open x what the goal's function is applied to.
-    fn bindings(&self, column: &Column, position: usize, goal: &Goal) -> Vec<(Term, Term)> {
-        let literal = &column[position];
+    /// The terms for x and y with which a column connects with a goal by one of its literals. An open y
+    /// is a function of x that the role has, and an open x what the goal's function is applied to.
+    fn bindings(&self, column: &Column, literal: &Literal<Argument>, goal: &Goal) -> Vec<(Term, Term)> {
         if !opposed(literal, goal) {
             return Vec::new();
         }
-        let pairs = literal.arguments.iter().zip(&goal.arguments);
-        let bound = pairs.fold(Some(Binding::default()), |bound, (argument, term)| {
-            bound.and_then(|b| b.with(*argument, term))
+        let mut pairs = literal.arguments.iter().zip(&goal.arguments);
+        let bound = pairs.try_fold(Binding::default(), |bound, (argument, term)| {
+            bound.with(*argument, term)
         });
         match bound {
             None => Vec::new(),

@@ -62,7 +62,8 @@ pub trait Rules {
     /// The position at which a column connects with the goal: the one given, if that literal is
     /// the goal's complement.
     fn connection(&self, script: &Script, column: &[Goal], position: usize, goal: &Goal) -> Option<usize> {
-        complements(self, script, &column[position], goal).then_some(position)
+        let literal = column.get(position)?;
+        complements(self, script, literal, goal).then_some(position)
     }
 
     /// The literals of a column but the one at a position, in their order.
@@ -84,7 +85,7 @@ pub trait Rules {
 
     /// The place of row 24: the last step of the chain.
     fn last(&self, _script: &Script, steps: &[usize]) -> usize {
-        steps[steps.len() - 1]
+        steps.last().copied().unwrap_or(0)
     }
 
     /// The number of steps: those of the chain.

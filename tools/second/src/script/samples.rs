@@ -3,7 +3,9 @@
 use crate::comparison::{sample_4, v, Terms};
 use crate::script::plan::{Base, Plan};
 use crate::script::prover::{Extension, Step};
-use crate::script::records::{step, Words, CONSTANT, EXTENSION, FIRST, HEADER, NEXT, REDUCTION, START, TERM};
+use crate::script::records::{
+    set, step, with, Words, CONSTANT, EXTENSION, FIRST, HEADER, NEXT, REDUCTION, START, TERM,
+};
 use crate::script::writer::Writer;
 
 /// Records with the steps among them chained in order.
@@ -12,7 +14,7 @@ fn chained(records: &[Words]) -> Vec<Words> {
     let mut holder = (0, FIRST);
     for (place, record) in records.iter().enumerate().skip(1) {
         if [START, EXTENSION, REDUCTION].contains(&record[0]) {
-            chained[holder.0][holder.1] = place as u16;
+            set(&mut chained, holder.0, holder.1, place as u16);
             holder = (place, NEXT);
         }
     }
@@ -48,7 +50,7 @@ impl Plan {
     pub fn samples(&mut self) {
         let (v, fourth) = (v().bytes(), sample_4().bytes());
         self.add_records(&v, &sample_7(), "accepted 3");
-        let without_last = chained(&sample_7()[..4].iter().map(unlinked).collect::<Vec<_>>());
+        let without_last = chained(&sample_7().iter().take(4).map(unlinked).collect::<Vec<_>>());
         self.add_records(&v, &without_last, "refused 24 3");
         for term in 2..=4 {
             self.add_records(&fourth, &sample_9(term, term as u16), "accepted 3");
@@ -78,10 +80,11 @@ impl Plan {
     /// A chain without steps is 20, whatever stands off the chain.
     fn no_steps(&mut self, vocabulary: &[u8]) {
         let mut records = sample_7();
-        records[0][FIRST] = 0;
+        set(&mut records, 0, FIRST, 0);
         for length in 2..=records.len() {
-            let mut some = records[..length].to_vec();
-            some[length - 1][NEXT] = 0;
+            let mut some = records.clone();
+            some.truncate(length);
+            set(&mut some, length - 1, NEXT, 0);
             self.add_records(vocabulary, &some, "refused 20 0");
         }
     }
@@ -114,7 +117,5 @@ impl Plan {
 
 /// A record with its next taken out.
 fn unlinked(record: &Words) -> Words {
-    let mut record = *record;
-    record[NEXT] = 0;
-    record
+    with(*record, NEXT, 0)
 }

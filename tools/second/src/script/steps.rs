@@ -2,16 +2,14 @@
 //! statement off the chain. Whatever stands before the step is as it was, so that its refusal is
 //! the first.
 
-use crate::decode::{Record, NEXT as NEXT_FIELD};
+use crate::decode::{at as vocabulary_record, Record};
 use crate::script::columns::{Argument, Column, Literal, Matrix};
-use crate::script::faults::with;
 use crate::script::plan::{refused, Base, Plan};
 use crate::script::prover::opposed;
 use crate::script::records::{
-    step, Script, Words, COLUMN, CONSTANT_PLACE, EXTENSION, FIRST, FRAME, KIND, NEXT, OWNER, POSITION, REDUCTION,
-    START, TERM, X, Y,
+    replace, set, step, with, Script, Words, COLUMN, CONSTANT_PLACE, EXTENSION, FIRST, FRAME, KIND, NEXT, OWNER,
+    POSITION, REDUCTION, START, TERM, X, Y,
 };
-use crate::script::writer::Writer;
 
 impl Plan {
     /// Rows 20 to 22, 24 and 25 in a script, at random steps.
@@ -50,30 +48,30 @@ impl Plan {
     /// The script with a step of the chain replaced; it keeps its next.
     fn replaced(&mut self, base: &Base, at: usize, record: Words, meant: &str) {
         let mut records = base.writer.records.clone();
-        records[at] = with(record, NEXT, records[at][NEXT]);
+        replace(&mut records, at, with(record, NEXT, base.writer.record(at)[NEXT]));
         self.add_records(&base.vocabulary, &records, meant);
     }
 
     /// Row 20: a start that is not the first step.
     fn wrong_start(&mut self, base: &Base) {
-        let later = self.random.pick(&base.writer.chain[1..]).unwrap_or(1);
+        let later = self.random.pick(later_steps(base)).unwrap_or(1);
         let start = step(START, &[self.random.below(2) as u16]);
         self.replaced(base, later, start, &refused(20, later));
     }
 
     /// Row 20: a first step that is no start, by the header's w3 or in the start's place.
     fn no_first_start(&mut self, base: &Base) {
-        let chain = &base.writer.chain;
+        let [first, second] = [0, 1].map(|step| base.writer.place(step));
         if self.random.chance(2) {
             let mut records = base.writer.records.clone();
-            records[0][FIRST] = chain[1] as u16;
-            self.add_records(&base.vocabulary, &records, &refused(20, chain[1]));
+            set(&mut records, 0, FIRST, second as u16);
+            self.add_records(&base.vocabulary, &records, &refused(20, second));
         } else {
             let record = match self.random.below(2) {
                 0 => step(REDUCTION, &[0]),
                 _ => step(EXTENSION, &[0, 0, 1, 0, 0]),
             };
-            self.replaced(base, chain[0], record, &refused(20, chain[0]));
+            self.replaced(base, first, record, &refused(20, first));
         }
     }
 
@@ -95,7 +93,7 @@ impl Plan {
         let extensions = extensions(base).into_iter();
         let wrong = extensions.filter_map(|place| {
             let owner = off_chain_copy(&script, script.word(place, OWNER))?;
-            Some((place, with(script.records[place], OWNER, owner)))
+            Some((place, with(script.record(place), OWNER, owner)))
         });
         if let Some((place, record)) = self.random.pick(&wrong.collect::<Vec<_>>()) {
             self.replaced(base, place, record, &refused(18, place));
@@ -105,7 +103,7 @@ impl Plan {
     /// Row 22: a reduction against no frame, and one against any frame.
     fn wrong_reduction(&mut self, base: &Base) {
         let chain = &base.writer.chain;
-        let later = self.random.pick(&chain[1..]).unwrap_or(1);
+        let later = self.random.pick(later_steps(base)).unwrap_or(1);
         let far = self.random.pick(&[64, 256, 65535, chain.len() as u16]).unwrap_or(64);
         self.replaced(base, later, step(REDUCTION, &[far]), &refused(22, later));
         let near = step(REDUCTION, &[self.random.below(4) as u16]);
@@ -118,7 +116,7 @@ impl Plan {
         let at = self.random.pick(&base.writer.chain).unwrap_or(1);
         let mut before = base.writer.clone();
         before.terms.retain(|(_, number)| usize::from(*number) < at);
-        let record = base.writer.records[at];
+        let record = base.writer.record(at);
         let other = match record[KIND] {
             REDUCTION => with(record, FRAME, record[FRAME].wrapping_sub(1)),
             START => step(START, &[1 - record[FRAME]]),
@@ -128,11 +126,15 @@ impl Plan {
     }
 }
 
+/// The steps of a script's chain but the first, by place.
+fn later_steps(base: &Base) -> &[usize] {
+    base.writer.chain.get(1..).unwrap_or_default()
+}
+
 /// The extensions of a script's chain.
 fn extensions(base: &Base) -> Vec<usize> {
-    let Writer { records, chain, .. } = &base.writer;
-    let is_extension = |place: &usize| records[*place][KIND] == EXTENSION;
-    chain.iter().copied().filter(is_extension).collect()
+    let is_extension = |place: &usize| base.writer.record(*place)[KIND] == EXTENSION;
+    base.writer.chain.iter().copied().filter(is_extension).collect()
 }
 
 /// A statement off the chain that says what one on it does.
@@ -140,9 +142,8 @@ fn off_chain_copy(script: &Script, owner: u16) -> Option<u16> {
     let Matrix {
         records, statements, ..
     } = &script.matrix;
-    let own = records[usize::from(owner)];
-    let is_copy =
-        |r: &Record| own.is_statement() && r.is_statement() && r.fields[..NEXT_FIELD] == own.fields[..NEXT_FIELD];
+    let own = vocabulary_record(records, owner.into());
+    let is_copy = |r: &Record| own.is_statement() && r.is_statement() && r.operands() == own.operands();
     let mut copies = (0..).zip(records).filter(|(_, record)| is_copy(record));
     copies
         .find(|(number, _)| !statements.contains(number))
@@ -150,27 +151,31 @@ fn off_chain_copy(script: &Script, owner: u16) -> Option<u16> {
 }
 
 /// The literal of a column at the position of an extension, and the column.
-fn connected(script: &Script, place: usize) -> (Literal<Argument>, Column) {
-    let record = script.records[place];
-    let mut columns = script.matrix.columns(record[OWNER]);
-    let column = columns.swap_remove(record[COLUMN].into());
-    (column[usize::from(record[POSITION])].clone(), column)
+fn connected(script: &Script, place: usize) -> Option<(Literal<Argument>, Column)> {
+    let record = script.record(place);
+    let column = script.matrix.column(record[OWNER], record[COLUMN]);
+    let literal = column.get(usize::from(record[POSITION]))?.clone();
+    Some((literal, column))
 }
 
 /// An extension that connects, at each position with another literal.
 fn other_positions(script: &Script, place: usize) -> Vec<Words> {
-    let (literal, column) = connected(script, place);
+    let Some((literal, column)) = connected(script, place) else {
+        return Vec::new();
+    };
     let others = (0..).zip(&column).filter(|(_, other)| **other != literal);
     others
-        .map(|(position, _)| with(script.records[place], POSITION, position))
+        .map(|(position, _)| with(script.record(place), POSITION, position))
         .collect()
 }
 
 /// An extension that connects with a function's literal, by each other function whose literal has
 /// the same predicate.
 fn other_functions(script: &Script, place: usize) -> Vec<Words> {
-    let record = script.records[place];
-    let (literal, _) = connected(script, place);
+    let record = script.record(place);
+    let Some((literal, _)) = connected(script, place) else {
+        return Vec::new();
+    };
     let is_function = |a: &Argument| matches!(a, Argument::Function(_));
     if !literal.arguments.iter().any(is_function) {
         return Vec::new();
@@ -187,8 +192,10 @@ fn other_functions(script: &Script, place: usize) -> Vec<Words> {
 
 /// An extension that connects, with each other term record for a variable that its literal has.
 fn other_terms(script: &Script, place: usize) -> Vec<Words> {
-    let record = script.records[place];
-    let (literal, _) = connected(script, place);
+    let record = script.record(place);
+    let Some((literal, _)) = connected(script, place) else {
+        return Vec::new();
+    };
     let has_y = literal.arguments.contains(&Argument::Y);
     let is_x = |a: &Argument| matches!(a, Argument::X | Argument::Function(_));
     let has_x = literal.arguments.iter().any(is_x);
@@ -196,7 +203,7 @@ fn other_terms(script: &Script, place: usize) -> Vec<Words> {
     let mut wrong = Vec::new();
     for term in terms.map(|p| p as u16).chain([CONSTANT_PLACE]) {
         for (word, has) in [(X, has_x), (Y, has_y)] {
-            if has && term != record[word] {
+            if has && term != script.word(place, word) {
                 wrong.push(with(record, word, term));
             }
         }

@@ -1,11 +1,11 @@
 //! How many cases of the script check there are of each sort, and how many tell each error.
 
-use crate::decode::records;
+use crate::decode::{at as vocabulary_record, records};
 use crate::script::call::{check_by, check_script};
 use crate::script::checks::fault;
 use crate::script::errors::ERRORS;
 use crate::script::plan::Planned;
-use crate::script::records::{chain, decode, COLUMN, EXTENSION, KIND, MOST_RECORDS, OWNER, POSITION, RECORD_BYTES};
+use crate::script::records::{at, chain, decode, COLUMN, EXTENSION, KIND, MOST_RECORDS, OWNER, POSITION, RECORD_BYTES};
 use crate::table::Table;
 use crate::vocabulary::Refusal;
 use std::collections::BTreeSet;
@@ -47,9 +47,9 @@ fn connected(cases: &[Planned], answers: &[Answer]) -> usize {
     for (planned, _) in cases.iter().zip(answers).filter(|(_, a)| a.is_ok()) {
         let vocabulary = records(&planned.case.vocabulary);
         let script = decode(&planned.case.script);
-        let steps = chain(&script).into_iter().map(|place| script[place]);
+        let steps = chain(&script).into_iter().map(|place| at(&script, place));
         for extension in steps.filter(|record| record[KIND] == EXTENSION) {
-            let owner = vocabulary[usize::from(extension[OWNER])];
+            let owner = vocabulary_record(&vocabulary, extension[OWNER].into());
             met.insert((owner.kind, extension[COLUMN], extension[POSITION]));
         }
     }

@@ -6,13 +6,15 @@ use crate::random::Random;
 use crate::script::chain::MOST_FRAMES;
 use crate::script::plan::{matrix, refused, Base, Plan};
 use crate::script::prover::{applied, Extension, Step, Term};
-use crate::script::records::{EXTENSION, POSITION};
+use crate::script::records::{set, EXTENSION, KIND, POSITION};
 use crate::script::writer::Writer;
 
 /// A term that holds everywhere or nowhere, and the extension that its derivation begins with.
 #[derive(Clone)]
 struct Layer {
+    /// The number of the term.
     number: u16,
+    /// Whether it holds everywhere.
     holds: bool,
     /// Owner, column and position of the extension.
     by: [u16; 3],
@@ -26,6 +28,7 @@ struct Layer {
 
 /// A vocabulary of such terms.
 pub struct Tower {
+    /// The vocabulary.
     pub terms: Terms,
     layers: Vec<Layer>,
     /// A some-record within which top lies, whose function names pairs of role 0, and the statement.
@@ -39,9 +42,25 @@ struct Derivation {
     over: Option<usize>,
 }
 
-/// The layers that every tower starts with.
+/// The first layer of every tower.
 const TOP: usize = 0;
+/// The second layer of every tower.
 const BOTTOM: usize = 1;
+
+impl Layer {
+    /// A layer whose column is its own; `by` is column and position.
+    fn own(number: u16, holds: bool, by: [u16; 2], under: &[usize]) -> Layer {
+        let [column, position] = by;
+        Layer {
+            number,
+            holds,
+            by: [number, column, position],
+            under: under.to_vec(),
+            function: None,
+            with_pair: false,
+        }
+    }
+}
 
 impl Tower {
     /// Top and bottom, and a role of which everything has a pair.
@@ -50,14 +69,7 @@ impl Tower {
         let (top, bottom) = (terms.top(), terms.bottom());
         let some = terms.some(0, top);
         let stated = terms.within(top, some);
-        let leaf = |number, holds| Layer {
-            number,
-            holds,
-            by: [number, 0, 0],
-            under: Vec::new(),
-            function: None,
-            with_pair: false,
-        };
+        let leaf = |number, holds| Layer::own(number, holds, [0, 0], &[]);
         Tower {
             terms,
             layers: vec![leaf(top, true), leaf(bottom, false)],
@@ -70,29 +82,27 @@ impl Tower {
         self.layers.len() - 1
     }
 
+    /// The number of a layer's term, and whether it holds everywhere; 0, which is no term, where there is no
+    /// such layer.
+    fn term(&self, layer: usize) -> (u16, bool) {
+        self.layers.get(layer).map_or((0, false), |l| (l.number, l.holds))
+    }
+
     /// Adds a layer whose column is its own; `by` is column and position.
-    fn push(&mut self, number: u16, holds: bool, [column, position]: [u16; 2], under: &[usize]) {
-        self.layers.push(Layer {
-            number,
-            holds,
-            by: [number, column, position],
-            under: under.to_vec(),
-            function: None,
-            with_pair: false,
-        });
+    fn push(&mut self, number: u16, holds: bool, by: [u16; 2], under: &[usize]) {
+        self.layers.push(Layer::own(number, holds, by, under));
     }
 
     /// A complement.
     fn not(&mut self, of: usize) {
-        let Layer { number, holds, .. } = self.layers[of];
+        let (number, holds) = self.term(of);
         let not = self.terms.not(number);
         self.push(not, !holds, [u16::from(!holds), 0], &[of]);
     }
 
     /// What needs both: and of two that hold, or of two that do not.
     fn both(&mut self, one: usize, other: usize) {
-        let holds = self.layers[one].holds;
-        let [j, k] = [one, other].map(|layer| self.layers[layer].number);
+        let [(j, holds), (k, _)] = [one, other].map(|layer| self.term(layer));
         let number = match holds {
             true => self.terms.and(j, k),
             false => self.terms.or(j, k),
@@ -102,20 +112,23 @@ impl Tower {
 
     /// What needs one: or with one that holds, and with one that does not; the other is any term.
     fn either(&mut self, of: usize, random: &mut Random) {
-        let Layer { number, holds, .. } = self.layers[of];
-        let other = self.layers[random.below(self.layers.len())].number;
-        let column = random.below(2);
-        let [j, k] = [[number, other], [other, number]][column];
+        let (number, holds) = self.term(of);
+        let (other, _) = self.term(random.below(self.layers.len()));
+        let column = random.below(2) as u16;
+        let [j, k] = match column {
+            0 => [number, other],
+            _ => [other, number],
+        };
         let number = match holds {
             true => self.terms.or(j, k),
             false => self.terms.and(j, k),
         };
-        self.push(number, holds, [column as u16, 0], &[of]);
+        self.push(number, holds, [column, 0], &[of]);
     }
 
     /// A name that a statement puts above or below.
     fn name(&mut self, of: usize) {
-        let Layer { number, holds, .. } = self.layers[of];
+        let (number, holds) = self.term(of);
         let name = self.terms.name();
         let ([a, b], position) = match holds {
             true => ([number, name], 1),
@@ -123,34 +136,38 @@ impl Tower {
         };
         let statement = self.terms.within(a, b);
         self.terms.aside(a, b);
-        self.push(name, holds, [0, position], &[of]);
-        let last = self.last();
-        self.layers[last].by[0] = statement;
+        self.layers.push(Layer {
+            by: [statement, 0, position],
+            ..Layer::own(name, holds, [0, position], &[of])
+        });
     }
 
     /// All role to what holds, some role to what does not.
     fn restriction(&mut self, of: usize, role: u16) {
-        let Layer { number, holds, .. } = self.layers[of];
+        let (number, holds) = self.term(of);
         let number = match holds {
             true => self.terms.all(role, number),
             false => self.terms.some(role, number),
         };
-        self.push(number, holds, [1, 0], &[of]);
-        let last = self.last();
-        self.layers[last].function = Some(number);
+        self.layers.push(Layer {
+            function: Some(number),
+            ..Layer::own(number, holds, [1, 0], &[of])
+        });
     }
 
     /// Some role to what holds, all role to what does not: by the pair that everything has.
     fn pair(&mut self, of: usize) {
-        let Layer { number, holds, .. } = self.layers[of];
+        let (number, holds) = self.term(of);
         let number = match holds {
             true => self.terms.some(0, number),
             false => self.terms.all(0, number),
         };
-        self.push(number, holds, [2, 0], &[of]);
-        let last = self.last();
-        self.layers[last].function = Some(self.serial[0]);
-        self.layers[last].with_pair = true;
+        let [some, _] = self.serial;
+        self.layers.push(Layer {
+            function: Some(some),
+            with_pair: true,
+            ..Layer::own(number, holds, [2, 0], &[of])
+        });
     }
 
     /// Adds a layer of a random sort over the last one.
@@ -159,9 +176,12 @@ impl Tower {
         match random.below(7) {
             0 => self.not(of),
             1 => {
-                let low = if self.layers[of].holds { TOP } else { BOTTOM };
-                let order = [[low, of], [of, low]][random.below(2)];
-                self.both(order[0], order[1]);
+                let (_, holds) = self.term(of);
+                let low = if holds { TOP } else { BOTTOM };
+                match random.below(2) {
+                    0 => self.both(low, of),
+                    _ => self.both(of, low),
+                }
             }
             2 => self.either(of, random),
             3 => self.name(of),
@@ -172,10 +192,11 @@ impl Tower {
 
     /// How many frames the derivation of a layer opens above the one of its goal.
     fn height(&self, layer: usize) -> usize {
-        let Layer { under, with_pair, .. } = &self.layers[layer];
-        let highest = under.iter().map(|u| self.height(*u)).max();
+        let under = self.layers.get(layer).into_iter().flat_map(|l| &l.under);
+        let highest = under.map(|u| self.height(*u)).max();
         // The pair's own derivation opens two.
-        highest.map_or(0, |h| 1 + h.max(2 * usize::from(*with_pair)))
+        let with_pair = self.layers.get(layer).is_some_and(|l| l.with_pair);
+        highest.map_or(0, |h| 1 + h.max(2 * usize::from(with_pair)))
     }
 
     /// A tower whose derivation opens so many frames above its first.
@@ -218,18 +239,17 @@ impl Tower {
 
     /// The query that asks for the last layer: whether top lies within it, or it within bottom.
     fn query(&self) -> [u16; 2] {
-        let Layer { number, holds, .. } = self.layers[self.last()];
-        match holds {
-            true => [self.layers[TOP].number, number],
-            false => [number, self.layers[BOTTOM].number],
+        match self.term(self.last()) {
+            (number, true) => [self.term(TOP).0, number],
+            (number, false) => [number, self.term(BOTTOM).0],
         }
     }
 
     /// The derivation of the query.
     fn derivation(&self) -> Derivation {
-        let start = u16::from(self.layers[self.last()].holds);
+        let (_, holds) = self.term(self.last());
         let mut derivation = Derivation {
-            steps: vec![Step::Start(start)],
+            steps: vec![Step::Start(holds.into())],
             over: None,
         };
         self.derive(self.last(), &Term::new(), 1, &mut derivation);
@@ -238,13 +258,15 @@ impl Tower {
 
     /// Adds the derivation of a layer at a term, with so many frames open.
     fn derive(&self, layer: usize, x: &Term, frames: usize, derivation: &mut Derivation) {
-        let layer = &self.layers[layer];
+        let Some(layer) = self.layers.get(layer) else {
+            return;
+        };
         let inner = layer.function.map_or(x.clone(), |f| applied(f, x));
         let y = layer.with_pair.then(|| inner.clone());
         derivation.extend(layer.by, x, y, frames + usize::from(!layer.under.is_empty()));
         if layer.with_pair {
             let [some, stated] = self.serial;
-            let top = self.layers[TOP].number;
+            let (top, _) = self.term(TOP);
             derivation.extend([some, 0, 1], x, None, frames + 2);
             derivation.extend([stated, 0, 1], x, None, frames + 3);
             derivation.extend([top, 0, 0], x, None, frames + 3);
@@ -261,7 +283,7 @@ impl Tower {
         let derivation = self.derivation();
         let matrix = matrix(&vocabulary, self.query());
         let base = plan.write(&vocabulary, &matrix, &derivation.steps, idle);
-        let place = derivation.over.map(|step| base.writer.chain[step]);
+        let place = derivation.over.map(|step| base.writer.place(step));
         (base, place)
     }
 }
@@ -323,9 +345,9 @@ impl Plan {
             return;
         }
         let mut wrong = writer.clone();
-        let record = &mut wrong.records[place];
-        debug_assert_eq!(record[0], EXTENSION);
-        record[POSITION] = 1 - record[POSITION].min(1);
+        let record = writer.record(place);
+        debug_assert_eq!(record[KIND], EXTENSION);
+        set(&mut wrong.records, place, POSITION, 1 - record[POSITION].min(1));
         self.add(vocabulary, wrong.bytes(), &refused(21, place));
         let before = writer.chain.iter().rposition(|step| *step < place);
         self.cut(vocabulary, writer, before.unwrap_or(0));
@@ -336,6 +358,6 @@ impl Plan {
         let mut wrong = writer.clone();
         wrong.chain.truncate(last + 1);
         wrong.link_chain();
-        self.add(vocabulary, wrong.bytes(), &refused(24, writer.chain[last]));
+        self.add(vocabulary, wrong.bytes(), &refused(24, writer.place(last)));
     }
 }

@@ -11,11 +11,12 @@ use crate::script::writer::Writer;
 
 /// A script whose goal meets a literal, or in a reduction a lower frame's goal.
 struct Meeting {
+    /// The query's A and B.
     query: [u16; 2],
     /// The steps, of which the last is the meeting.
     steps: Vec<Step>,
     /// What stands after them.
-    after: Vec<Step>,
+    after: Option<Step>,
     /// The terms that meet.
     terms: [Term; 2],
     /// The refusal where they are not the same.
@@ -55,7 +56,7 @@ fn meeting(query: [u16; 2], mut steps: Vec<Step>, last: Step, terms: [&[u16]; 2]
     Meeting {
         query,
         steps,
-        after: Vec::new(),
+        after: None,
         terms: terms.map(<[u16]>::to_vec),
         row,
     }
@@ -85,20 +86,21 @@ fn all_goal(column: u16, x: &[u16]) -> Vec<Step> {
 /// would close all.
 fn functions() -> Vec<Meeting> {
     let mut all: Vec<Meeting> = Vec::new();
+    let constants = |x: &[u16], inner: &[u16]| x.is_empty() && inner.is_empty();
     for x in [&[][..], &[5], &[6]] {
         for (query, inner) in [([2, 3], &[][..]), ([5, 3], &[5])] {
             let terms = [&[&[2], inner].concat()[..], &[&[3], x].concat()];
-            let last = by([3, 1, 1], x, &[]);
-            all.push(meeting(query, some_goal(1, inner), last, terms));
+            let mut made = meeting(query, some_goal(1, inner), by([3, 1, 1], x, &[]), terms);
+            made.after = constants(x, inner).then(|| by([0, 1, 0], &[], &[]));
+            all.push(made);
         }
         for (query, inner) in [([2, 3], &[][..]), ([2, 6], &[6])] {
             let terms = [&[&[3], inner].concat()[..], &[&[2], x].concat()];
-            let last = by([2, 1, 1], x, &[]);
-            all.push(meeting(query, all_goal(1, inner), last, terms));
+            let mut made = meeting(query, all_goal(1, inner), by([2, 1, 1], x, &[]), terms);
+            made.after = constants(x, inner).then(|| by([0, 0, 0], &[], &[]));
+            all.push(made);
         }
     }
-    all[0].after.push(by([0, 1, 0], &[], &[]));
-    all[2].after.push(by([0, 0, 0], &[], &[]));
     all
 }
 
@@ -212,7 +214,7 @@ impl Plan {
             let numbered = without.iter().enumerate();
             let given = numbered.filter(|(i, _)| chosen >> i & 1 == 1);
             let writer = meeting.written(&given.map(|(_, term)| *term).collect::<Vec<_>>());
-            let place = writer.chain[meeting.steps.len() - 1];
+            let place = writer.place(meeting.steps.len() - 1);
             self.add(&vocabulary(), writer.bytes(), &refused(number, place));
         }
     }

@@ -3,7 +3,7 @@
 //! reduction that comes near: against a literal that is not its frame's goal, or a goal of one sign.
 
 use crate::comparison::Terms;
-use crate::decode::records;
+use crate::decode::{self, records};
 use crate::script::columns::Literal;
 use crate::script::families;
 use crate::script::plan::{matrix, refused, Plan};
@@ -32,7 +32,10 @@ fn complements(l: &Goal, m: &Goal) -> bool {
 impl Walk {
     /// The goals of the frames, of which the last is the one to close.
     fn goals(&self) -> Vec<Goal> {
-        let goals = self.frames.iter().map(|(literals, closed)| &literals[*closed]);
+        let goals = self
+            .frames
+            .iter()
+            .filter_map(|(literals, closed)| literals.get(*closed));
         goals.cloned().collect()
     }
 
@@ -87,8 +90,10 @@ impl Plan {
     /// Walks over a vocabulary.
     fn walks_over(&mut self, terms: &Terms) {
         let vocabulary = terms.clone().bytes();
-        let is_term = |number: &u16| records(&vocabulary)[usize::from(*number)].is_term();
-        let all: Vec<u16> = (1..terms.len() as u16).filter(is_term).collect();
+        let all: Vec<u16> = decode::terms(&records(&vocabulary))
+            .into_iter()
+            .map(|n| n as u16)
+            .collect();
         for _ in 0..EACH {
             let query = [0, 1].map(|_| self.random.pick(&all).unwrap_or(1));
             let longest = 2 + self.random.below(24);
@@ -111,7 +116,9 @@ impl Plan {
                 break;
             }
             let goals = walk.goals();
-            let (goal, path) = goals.split_last().expect("a frame is open");
+            let Some((goal, path)) = goals.split_last() else {
+                break;
+            };
             let mut ways = prover.ways(goal, path);
             ways.retain(|(_, left)| left.is_empty() || walk.frames.len() < MOST_FRAMES);
             let Some((taken, left)) = ways.into_iter().next() else {
@@ -127,7 +134,7 @@ impl Plan {
         let matrix = matrix(vocabulary, query);
         let idle = self.random.pick(&[0, 0, 4]).unwrap_or(0);
         let mut base = self.write(vocabulary, &matrix, &walk.steps, idle);
-        let last = base.writer.chain[walk.steps.len() - 1];
+        let last = base.writer.place(walk.steps.len() - 1);
         let near = [walk.near_frames(), walk.same_frames()].concat();
         if walk.frames.is_empty() {
             self.add_base(base);

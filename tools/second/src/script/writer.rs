@@ -4,13 +4,14 @@ use crate::random::Random;
 use crate::script::columns::{mentions, Argument, Matrix};
 use crate::script::prover::{applied, Step, Term};
 use crate::script::records::{
-    encode, is_step, step, Words, CONSTANT, CONSTANT_PLACE, EXTENSION, FIRST, HEADER, KIND, NEXT, REDUCTION, START,
-    TERM,
+    at, encode, is_step, set, step, Words, CONSTANT, CONSTANT_PLACE, EXTENSION, FIRST, HEADER, KIND, NEXT, REDUCTION,
+    START, TERM,
 };
 
 /// A script that is being written.
 #[derive(Clone)]
 pub struct Writer {
+    /// The records.
     pub records: Vec<Words>,
     /// The terms that have a record, and its number.
     pub terms: Vec<(Term, u16)>,
@@ -29,6 +30,16 @@ impl Writer {
         }
     }
 
+    /// The record at a place.
+    pub fn record(&self, place: usize) -> Words {
+        at(&self.records, place)
+    }
+
+    /// The place of a step, by its number on the chain; the header's where there is no such step.
+    pub fn place(&self, step: usize) -> usize {
+        self.chain.get(step).copied().unwrap_or(0)
+    }
+
     /// Pushes a record, and answers its number.
     pub fn push(&mut self, record: Words) -> u16 {
         self.records.push(record);
@@ -41,8 +52,11 @@ impl Writer {
         if let Some((_, number)) = known {
             return *number;
         }
-        let inner = self.term(&term[1..]);
-        let number = self.push(step(TERM, &[term[0], inner]));
+        let Some((function, inner)) = term.split_first() else {
+            return CONSTANT_PLACE;
+        };
+        let inner = self.term(inner);
+        let number = self.push(step(TERM, &[*function, inner]));
         self.terms.push((term.to_vec(), number));
         number
     }
@@ -86,8 +100,8 @@ impl Writer {
         let numbered = (0..).zip(&matrix.records);
         let functions = numbered.filter(|(_, r)| r.kind == 7 || r.kind == 8);
         let functions: Vec<u16> = functions.map(|(number, _)| number).collect();
-        let at = random.below(self.terms.len());
-        let inner = self.terms[at].0.clone();
+        let inner = self.terms.get(random.below(self.terms.len()));
+        let inner = inner.map(|(term, _)| term.clone()).unwrap_or_default();
         if let Some(function) = random.pick(&functions) {
             self.term(&applied(function, &inner));
         }
@@ -107,7 +121,10 @@ impl Writer {
         let Some(column) = columns.get(number) else {
             return step(EXTENSION, &[0, random.below(2) as u16, CONSTANT_PLACE]);
         };
-        let mut any = || self.terms[random.below(self.terms.len())].1;
+        let mut any = || {
+            let term = self.terms.get(random.below(self.terms.len()));
+            term.map_or(CONSTANT_PLACE, |(_, number)| *number)
+        };
         let x = if owner == 0 { CONSTANT_PLACE } else { any() };
         let y = if mentions(column, Argument::Y) { any() } else { 0 };
         let position = random.below(column.len()) as u16;
@@ -116,23 +133,24 @@ impl Writer {
 
     /// Links the chain, and gives each step off it a next that may stand.
     pub fn link(&mut self, random: &mut Random) {
-        let all = (1..self.records.len()).filter(|p| is_step(self.records[*p][KIND]));
+        let all = (1..self.records.len()).filter(|place| is_step(self.record(*place)[KIND]));
         let steps: Vec<usize> = all.collect();
         for place in &steps {
             let later: Vec<usize> = steps.iter().copied().filter(|s| s > place).collect();
             let next = random.pick(&later).filter(|_| random.chance(2));
-            self.records[*place][NEXT] = next.unwrap_or(0) as u16;
+            set(&mut self.records, *place, NEXT, next.unwrap_or(0) as u16);
         }
         self.link_chain();
     }
 
     /// Links the chain.
     pub fn link_chain(&mut self) {
-        self.records[0][FIRST] = self.chain.first().copied().unwrap_or(0) as u16;
-        for (i, place) in self.chain.iter().enumerate() {
-            let next = self.chain.get(i + 1).copied().unwrap_or(0);
-            self.records[*place][NEXT] = next as u16;
+        let mut holder = (0, FIRST);
+        for place in &self.chain {
+            set(&mut self.records, holder.0, holder.1, *place as u16);
+            holder = (*place, NEXT);
         }
+        set(&mut self.records, holder.0, holder.1, 0);
     }
 
     /// The bytes of the script.
