@@ -35,12 +35,15 @@ type Meant = Option<Result<usize, Refusal>>;
 pub struct Planned {
     /// The case.
     pub case: Case,
+    /// The answer.
     meant: Meant,
 }
 
 /// The cases so far, and the source of random choices.
 struct Plan {
+    /// The cases.
     cases: Vec<Planned>,
+    /// The source.
     random: Random,
 }
 

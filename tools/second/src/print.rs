@@ -32,7 +32,9 @@ pub fn lines(cases: &[Case]) -> String {
 
 /// The answers to the cases.
 pub struct Table {
+    /// Those of the vocabulary check.
     checks: Vec<Result<usize, Refusal>>,
+    /// Those of the record call.
     calls: Vec<Result<usize, Refusal>>,
 }
 

@@ -2,15 +2,20 @@
 
 /// A sort of cases: its name, how many there are, and how many there have to be.
 struct Row {
+    /// The name.
     name: String,
+    /// How many there are.
     count: usize,
+    /// How many there have to be.
     least: usize,
 }
 
 /// How many cases there are of each sort, and what is wrong with some.
 #[derive(Default)]
 pub struct Table {
+    /// The sorts.
     rows: Vec<Row>,
+    /// What is wrong with single cases.
     wrong: Vec<String>,
 }
 

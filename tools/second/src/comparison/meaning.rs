@@ -7,6 +7,7 @@ use crate::decode::{Record, A};
 
 /// The elements of an interpretation, and which of them belong to each record's term.
 struct Interpretation {
+    /// The elements, rising.
     elements: Vec<usize>,
     /// For each record, for each element by its place, whether it belongs.
     members: Vec<Vec<bool>>,

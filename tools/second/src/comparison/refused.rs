@@ -16,8 +16,9 @@ const ONE_IN: usize = 9;
 /// The longest of them, in bytes.
 const LONGEST: usize = 300;
 
-/// Numbers of atoms around the limit and far from it, and how many random vocabularies have each.
+/// Numbers of atoms around the limit and far from it.
 const ATOMS: [usize; 8] = [1, 5, 12, 13, 14, 20, 100, 300];
+/// How many random vocabularies have each of these numbers.
 const OF_EACH: usize = 20;
 
 /// The vocabulary that is spoiled, with four atoms or more: names, a restriction of each kind and statements.

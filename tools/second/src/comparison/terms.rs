@@ -6,7 +6,9 @@ use crate::draft::Draft;
 /// A vocabulary in the making, and the statements that its chain is to have.
 #[derive(Clone)]
 pub struct Terms {
+    /// The records so far.
     draft: Draft,
+    /// The statements.
     chain: Vec<u16>,
 }
 

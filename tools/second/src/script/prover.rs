@@ -43,12 +43,15 @@ type Way = (Step, Vec<Goal>);
 /// Terms for x and y, as far as they are known.
 #[derive(Clone, Default)]
 struct Binding {
+    /// The term for x.
     x: Option<Term>,
+    /// The term for y.
     y: Option<Term>,
 }
 
 /// The search for a derivation.
 pub struct Prover<'a> {
+    /// The columns, each with its owner and its number.
     columns: Vec<(u16, u16, Column)>,
     /// The restrictions by role, which name the role's pairs.
     functions: Vec<(u16, u16)>,

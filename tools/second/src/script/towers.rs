@@ -30,6 +30,7 @@ struct Layer {
 pub struct Tower {
     /// The vocabulary.
     pub terms: Terms,
+    /// The layers, each over earlier ones.
     layers: Vec<Layer>,
     /// A some-record within which top lies, whose function names pairs of role 0, and the statement.
     serial: [u16; 2],
@@ -37,6 +38,7 @@ pub struct Tower {
 
 /// A derivation in the making.
 struct Derivation {
+    /// The steps so far.
     steps: Vec<Step>,
     /// The step that opens the first frame over the limit.
     over: Option<usize>,

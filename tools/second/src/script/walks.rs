@@ -15,7 +15,9 @@ type Goal = Literal<Term>;
 
 /// The frames of a walk, each with its literals and how many of them are closed; and its steps.
 struct Walk {
+    /// The frames.
     frames: Vec<(Vec<Goal>, usize)>,
+    /// The steps.
     steps: Vec<Step>,
 }
 
