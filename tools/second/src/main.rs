@@ -12,6 +12,8 @@ mod random;
 mod script;
 mod select;
 mod table;
+#[cfg(test)]
+mod tests;
 mod vectors;
 mod vocabulary;
 

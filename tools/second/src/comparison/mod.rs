@@ -14,6 +14,8 @@ mod refused;
 mod samples;
 mod table;
 mod terms;
+#[cfg(test)]
+mod tests;
 mod types;
 
 pub use file::{decode, encode, Case};

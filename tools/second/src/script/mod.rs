@@ -19,6 +19,8 @@ mod rules;
 mod samples;
 mod steps;
 mod table;
+#[cfg(test)]
+mod tests;
 mod towers;
 mod unrecorded;
 mod walks;
