@@ -1,4 +1,4 @@
-//! A second implementation of paper 01, written from the paper alone, that makes test vectors and
+//! A second implementation of the paper (README.md says which), written from it alone, that makes test vectors and
 //! the output expected for them. See README.md.
 
 mod cases;
