@@ -106,9 +106,13 @@ fn errors_are_told() {
         plan.high_towers();
         plan.unrecorded();
     });
+    let answered: Vec<_> = cases
+        .iter()
+        .map(|planned| (&planned.case, answer(&planned.case)))
+        .collect();
     let told = |rules: &dyn Rules| {
-        let mut all = cases.iter().map(|planned| &planned.case);
-        all.any(|case| check_by(rules, &case.vocabulary, &case.script) != answer(case))
+        let mut all = answered.iter();
+        all.any(|(case, right)| check_by(rules, &case.vocabulary, &case.script) != *right)
     };
     let untold = ERRORS.iter().filter(|(_, wrong)| !told(*wrong));
     assert_eq!(untold.map(|(name, _)| *name).collect::<Vec<_>>(), Vec::<&str>::new());
