@@ -60,9 +60,9 @@ const VOCABULARIES: &[Told] = &[
             (2, 19, "'nxet' is not expected here; did you mean 'next'?"),
         ],
     ),
-    // What is wrong after a guess may come from it.
+    // What is wrong after a guess may come from it, and the line may have said another term.
     (
-        "ObjectUnoinOf(r0 c1)",
+        "ObjectUnoinOf(r0 c1)\nObjectComplementOf(ObjectSomeValuesFrom(r0 #1))",
         &[(
             2,
             1,
