@@ -9,6 +9,7 @@ use crate::json::Json;
 use crate::refused;
 use crate::report::{Report, Stop, Style};
 use crate::text::vocabulary::Written;
+use crate::why;
 use base::arguments::{number, Arguments, Flag};
 use base::{Failure, Status};
 use judge::{Comparison, Verdict};
@@ -27,7 +28,11 @@ pub fn run(arguments: &Arguments, console: &mut Console) -> Result<Status, Stop>
     let mut survivors = [0; judge::SURVIVOR_BYTES];
     let [a, b] = pair;
     let answer = match judge::compare(&input.bytes, a, b, &mut survivors) {
-        Err(refusal) => return Ok(console.answer(refused::report(console.style, &input, refusal, None))?),
+        Err(refusal) => {
+            let detail = why::vocabulary_detail(&input.bytes, refusal);
+            let report = refused::report(console.style, &input, refusal, detail.as_deref());
+            return Ok(console.answer(report)?);
+        }
         Ok(answer) => answer,
     };
     let written = written(&input, words.as_ref())?;
