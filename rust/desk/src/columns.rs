@@ -92,6 +92,9 @@ pub type Column = Vec<Literal<Place>>;
 
 use Place::{A, F, X, Y};
 
+/// The literals of the query's columns where no query is known.
+pub const QUERY: [&str; 2] = ["¬CA(a)", "CB(a)"];
+
 /// The columns of a record of an accepted vocabulary; a statement off the chain has none.
 pub fn of_record(vocabulary: &Vocabulary, chained: &[bool], i: u16) -> Vec<Column> {
     match vocabulary.get(usize::from(i)).saying() {

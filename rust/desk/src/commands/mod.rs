@@ -2,6 +2,7 @@
 
 mod assemble;
 mod check;
+mod columns;
 mod compare;
 mod recheck;
 mod record;
@@ -38,10 +39,11 @@ const fn command(
 }
 
 /// The commands, in the order of the help.
-const COMMANDS: [Command; 7] = [
+const COMMANDS: [Command; 8] = [
     command("check", &[], check::run),
     command("show", &[], show::run),
     command("record", &[], record::run),
+    command("columns", columns::FLAGS, columns::run),
     command("compare", compare::FLAGS, compare::run),
     command("verify", verify::FLAGS, verify::run),
     command("assemble", assemble::FLAGS, assemble::run),
