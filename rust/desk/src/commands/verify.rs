@@ -25,9 +25,10 @@ pub fn run(arguments: &Arguments, console: &mut Console) -> Result<Status, Stop>
     let words = read_words(arguments, console.style)?;
     let written = written(&vocabulary, words.as_ref())?;
     let verdict = judge::check_script(&vocabulary.bytes, &script.bytes);
-    let trace = match arguments.has("--trace") {
-        true => trace::of(&written, &script, verdict)?,
-        false => None,
+    let trace = if arguments.has("--trace") {
+        trace::of(&written, &script, verdict)?
+    } else {
+        None
     };
     let mut report = match verdict {
         Ok(steps) => accepted(console.style, &written, &script, steps),
@@ -50,15 +51,14 @@ fn refused_script(style: Style, vocabulary: &Input, script: &Input, refusal: Ref
     };
     let detail = why::detail(&vocabulary.bytes, &script.bytes, refusal);
     let is_foreign = why::is_foreign(&vocabulary.bytes, &script.bytes, refusal);
-    let question = is_foreign.then(|| "is it a script for this vocabulary?".to_string());
-    let joined = |parts: [&Option<String>; 2]| {
-        let parts: Vec<&str> = parts.into_iter().flatten().map(String::as_str).collect();
-        Some(parts.join("; ")).filter(|words| !words.is_empty())
+    let question = is_foreign.then_some("is it a script for this vocabulary?");
+    let whole = match (&detail, question) {
+        (Some(detail), Some(question)) => Some(format!("{detail}; {question}")),
+        _ => detail,
     };
-    let whole = joined([&detail, &question]);
     let mut report = refused::at(style, script, place, refusal, whole.as_deref());
     if traced {
-        report.text = refused::at(style, script, place, refusal, question.as_deref()).text;
+        report.text = refused::at(style, script, place, refusal, question).text;
     }
     report
 }

@@ -48,9 +48,10 @@ impl Checked {
             return Ok(list);
         }
         let named = vocabulary::named(&self.vocabulary, number);
-        Err(match vocabulary::is_term(&self.vocabulary, number) {
-            true => format!("{named}, has no columns"),
-            false => format!("{named}, is off the chain, so it has no column"),
+        Err(if vocabulary::is_term(&self.vocabulary, number) {
+            format!("{named}, has no columns")
+        } else {
+            format!("{named}, is off the chain, so it has no column")
         })
     }
 

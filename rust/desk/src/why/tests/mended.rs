@@ -80,46 +80,38 @@ fn with(vocabulary: &[u8], script: &[Words], record: usize, word: usize, value: 
     (script, words)
 }
 
+/// Sets the part that a detail names to each value that it gives, after which no part up to that is named, and to the
+/// first value past them, after which it is named again. The script with the last good value, and what is said of it.
+fn mend(vocabulary: &[u8], script: &[Words], record: usize, said: &str) -> (Vec<Words>, Option<String>) {
+    let named = part(said);
+    let (good, bad) = values(said);
+    if let Some(value) = bad {
+        let (_, still) = with(vocabulary, script, record, word(named), value);
+        assert_eq!(still.as_deref().map(part), Some(named), "{said}");
+    }
+    let tried = good
+        .iter()
+        .map(|value| with(vocabulary, script, record, word(named), *value));
+    let tried = tried.inspect(|(_, after)| {
+        let later = after.as_deref().map(part);
+        assert!(later.is_none_or(|later| later > named), "{said}; then {after:?}");
+    });
+    tried.last().unwrap()
+}
+
 #[test]
 fn mending_what_is_named_mends_the_step() {
     let mut mended: BTreeMap<Part, usize> = BTreeMap::new();
-    for (i, (vocabulary, script)) in scripts().into_iter().enumerate() {
-        let Err(refusal) = check_script(&vocabulary, &script) else {
+    for (vocabulary, script) in scripts() {
+        let refusal = check_script(&vocabulary, &script).err();
+        let Some(refusal) = refusal.filter(|refusal| refusal.rule.number() == 18) else {
             continue;
         };
-        if refusal.rule.number() != 18 {
-            continue;
-        }
-        let record = refusal.place as usize;
+        let mut said = detail(&vocabulary, &script, refusal);
         let mut script = read(&script);
-        let mut words = Some(
-            detail(
-                &vocabulary,
-                &script.iter().flat_map(bytes).collect::<Vec<u8>>(),
-                refusal,
-            )
-            .unwrap(),
-        );
-        while let Some(said) = words {
-            let named = part(&said);
-            let (good, bad) = values(&said);
-            if let Some(value) = bad {
-                let (_, still) = with(&vocabulary, &script, record, word(named), value);
-                assert_eq!(still.as_deref().map(part), Some(named), "case {i}: {said}");
-            }
-            let tried: Vec<_> = good
-                .iter()
-                .map(|value| with(&vocabulary, &script, record, word(named), *value))
-                .collect();
-            for (_, after) in &tried {
-                let later = after.as_deref().map(part);
-                assert!(
-                    later.is_none_or(|later| later > named),
-                    "case {i}: {said}; then {after:?}"
-                );
-            }
-            *mended.entry(named).or_default() += 1;
-            (script, words) = tried.into_iter().next_back().unwrap();
+        while let Some(words) = said {
+            *mended.entry(part(&words)).or_default() += 1;
+            (script, said) = mend(&vocabulary, &script, refusal.place as usize, &words);
         }
     }
     let expected = [
