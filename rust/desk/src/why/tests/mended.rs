@@ -89,14 +89,13 @@ fn mend(vocabulary: &[u8], script: &[Words], record: usize, said: &str) -> (Vec<
         let (_, still) = with(vocabulary, script, record, word(named), value);
         assert_eq!(still.as_deref().map(part), Some(named), "{said}");
     }
-    let tried = good
-        .iter()
-        .map(|value| with(vocabulary, script, record, word(named), *value));
-    let tried = tried.inspect(|(_, after)| {
-        let later = after.as_deref().map(part);
-        assert!(later.is_none_or(|later| later > named), "{said}; then {after:?}");
-    });
-    tried.last().unwrap()
+    let mut mended = (script.to_vec(), Some(said.to_string()));
+    for value in good {
+        mended = with(vocabulary, script, record, word(named), value);
+        let later = mended.1.as_deref().map(part);
+        assert!(later.is_none_or(|later| later > named), "{said}; then {mended:?}");
+    }
+    mended
 }
 
 #[test]
