@@ -1,4 +1,4 @@
-//! Literals, and the column list of paper 01.
+//! Literals, and the column list of docs/FORMATS.md, section 4.
 
 use base::vocabulary::{Saying, Vocabulary};
 

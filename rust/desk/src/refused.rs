@@ -35,7 +35,13 @@ pub fn report(style: Style, input: &Input, refusal: Refusal, detail: Option<&str
     at(style, input, input.place_of(refusal), refusal, detail)
 }
 
-/// The same at a given line and column of its text.
+/// The refusal of a vocabulary, or of a number that was asked about in it (10).
+pub fn of_vocabulary(style: Style, input: &Input, refusal: Refusal) -> Report {
+    let detail = why::vocabulary_detail(&input.bytes, refusal);
+    report(style, input, refusal, detail.as_deref())
+}
+
+/// The refusal of an input, at a given line and column of its text.
 pub fn at(
     style: Style,
     input: &Input,
