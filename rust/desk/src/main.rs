@@ -1,5 +1,6 @@
 //! `desk`: the duty vocabulary judge as a command. It decides nothing by itself: every verdict is the library's.
 
+mod columns;
 mod commands;
 mod console;
 mod display;
@@ -12,8 +13,11 @@ mod question;
 mod refused;
 mod report;
 mod script;
+#[cfg(test)]
+mod stored;
 mod text;
 mod trace;
+mod why;
 
 use crate::commands::COMMON;
 use crate::console::{complain, Colour, Console};

@@ -31,7 +31,7 @@ pub fn run(arguments: &Arguments, console: &mut Console) -> Result<Status, Stop>
     let words = read_words(arguments, console.style)?;
     let mut survivors = [0; judge::SURVIVOR_BYTES];
     let [a, b] = pair;
-    let refused = |refusal| Stop::from(refused::report(console.style, &input, refusal, None));
+    let refused = |refusal| Stop::from(refused::of_vocabulary(console.style, &input, refusal));
     let answer = judge::compare(&input.bytes, a, b, &mut survivors).map_err(refused)?;
     let empty = Emptiness::ask(&mut Questions::new(&input.bytes), pair, answer).map_err(refused)?;
     let written = written(&input, words.as_ref())?;

@@ -2,6 +2,7 @@
 
 mod assemble;
 mod check;
+mod columns;
 mod compare;
 mod recheck;
 mod record;
@@ -39,13 +40,14 @@ const fn command(
 }
 
 /// The commands, in the order of the help.
-const COMMANDS: [Command; 8] = [
+const COMMANDS: [Command; 9] = [
     command("check", &[], check::run),
     command("show", &[], show::run),
     command("record", &[], record::run),
     command("compare", compare::FLAGS, compare::run),
     command("within", within::FLAGS, within::run),
     command("verify", verify::FLAGS, verify::run),
+    command("columns", columns::FLAGS, columns::run),
     command("assemble", assemble::FLAGS, assemble::run),
     command("recheck", &[], recheck::run),
 ];

@@ -53,6 +53,7 @@ fn shown(input: &Input, kind: Kind, verdict: &str, text: String, refusal: Option
         return Report::new(Status::Holds, text, json);
     };
     json.extend([("verdict", Json::from("refused")), ("refusal", refusal_json(refusal))]);
+    json.extend(refused::detail_json(input, refusal, None));
     Report {
         status: Status::Refused,
         text,

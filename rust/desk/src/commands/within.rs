@@ -23,7 +23,7 @@ pub fn run(arguments: &Arguments, console: &mut Console) -> Result<Status, Stop>
     let pair = [number(a, "A")?, number(b, "B")?];
     let input = read_vocabulary(path, console.style)?;
     let words = read_words(arguments, console.style)?;
-    let refused = |refusal| Stop::from(refused::report(console.style, &input, refusal, None));
+    let refused = |refusal| Stop::from(refused::of_vocabulary(console.style, &input, refusal));
     let mut questions = Questions::new(&input.bytes);
     let [a, b] = pair;
     let answer = match questions.within(a, b).map_err(refused)? {

@@ -56,6 +56,14 @@ impl Written {
         self.term(usize::MAX, term)
     }
 
+    /// The function and the inner term of a record, if it says them.
+    pub fn function(&self, term: u16) -> Option<(u16, u16)> {
+        match Entry::read(self.get(usize::from(term)))? {
+            Entry::Function(function, inner) => Some((function, inner)),
+            _ => None,
+        }
+    }
+
     /// A function of a term record, where no record need say it.
     pub fn applied(&self, function: u16, inner: u16) -> String {
         let text = format!("f{function}({})", self.named(inner));

@@ -56,8 +56,13 @@ impl Written {
         self.expression(number).filter(|text| text.len() <= WRITTEN_OUT)
     }
 
+    /// Whether people call some record something.
+    pub fn has_words(&self) -> bool {
+        self.words.iter().skip(1).any(|words| !words.is_empty())
+    }
+
     /// What people call a record.
-    fn words(&self, number: u16) -> Option<&str> {
+    pub fn words(&self, number: u16) -> Option<&str> {
         let words = self.words.get(usize::from(number)).map(String::as_str);
         words.filter(|words| !words.is_empty())
     }

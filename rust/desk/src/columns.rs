@@ -1,6 +1,6 @@
 //! Literals, and the column list of docs/FORMATS.md, section 4.
 
-use base::vocabulary::Saying;
+use base::vocabulary::{Saying, Vocabulary};
 
 /// The sign of a literal.
 #[derive(Clone, Copy, Debug, PartialEq, Eq)]
@@ -40,6 +40,31 @@ impl<T> Literal<T> {
         }
     }
 
+    /// Its predicate: `C4` for term 4, `r0` for role 0.
+    pub fn predicate(&self) -> String {
+        match self {
+            Literal::In(_, record, _) => format!("C{record}"),
+            Literal::Pair(_, role, ..) => format!("r{role}"),
+        }
+    }
+
+    /// The texts of its terms.
+    pub fn terms(&self, term: impl Fn(&T) -> String) -> String {
+        match self {
+            Literal::In(_, _, t) => term(t),
+            Literal::Pair(_, _, s, t) => format!("{},{}", term(s), term(t)),
+        }
+    }
+
+    /// Its text.
+    pub fn text(&self, term: impl Fn(&T) -> String) -> String {
+        let sign = match self.sign() {
+            Sign::Is => "",
+            Sign::Not => "¬",
+        };
+        format!("{sign}{}({})", self.predicate(), self.terms(term))
+    }
+
     /// The same with other terms.
     pub fn with<U>(self, term: impl Fn(T) -> U) -> Literal<U> {
         match self {
@@ -66,6 +91,41 @@ pub enum Place {
 pub type Column = Vec<Literal<Place>>;
 
 use Place::{A, F, X, Y};
+
+/// The literals of the query's columns where no query is known.
+pub const QUERY: [&str; 2] = ["¬CA(a)", "CB(a)"];
+
+/// The columns of a record of an accepted vocabulary; a statement off the chain has none.
+pub fn of_record(vocabulary: &Vocabulary, chained: &[bool], i: u16) -> Vec<Column> {
+    match vocabulary.get(usize::from(i)).saying() {
+        Some(Saying::Within(..)) if chained.get(usize::from(i)) != Some(&true) => vec![],
+        Some(saying) if i > 0 => columns(i, saying),
+        _ => vec![],
+    }
+}
+
+/// Whether a y stands in a column.
+pub fn has_y(column: &Column) -> bool {
+    column
+        .iter()
+        .any(|literal| matches!(literal, Literal::Pair(_, _, _, Y)))
+}
+
+/// The texts of a column's literals; `owner` is the record whose function stands in it.
+pub fn literals(owner: u16, column: &Column) -> Vec<String> {
+    let term = |place: &Place| match place {
+        A => "a".to_string(),
+        X => "x".to_string(),
+        Y => "y".to_string(),
+        F => format!("f{owner}(x)"),
+    };
+    column.iter().map(|literal| literal.text(term)).collect()
+}
+
+/// Literals as a column, in braces.
+pub fn braced(literals: &[String]) -> String {
+    format!("{{{}}}", literals.join(", "))
+}
 
 /// The columns of the query "a within b", owner 0.
 pub fn query(a: u16, b: u16) -> Vec<Column> {
