@@ -122,7 +122,8 @@ its steps, or the refusal, with what is wrong at the record.
 
   --trace   prints each step with the goal, the column that it uses with the terms put in, and the open frames after
             it: a frame's goal first, then its other open literals; '>' marks the last frame, whose goal is the next.
-            A refused step is the last, with the reason. A script refused by 1 to 19 has no trace.
+            A refused step is the last, with the reason. A script refused by 1 to 19 has no trace. Where the script is
+            given as a text, each step has its line.
   --words TEXT   the text of the vocabulary, whose comments say what each record is called; a trace says its goals in
                  words, too
 
@@ -132,13 +133,14 @@ exit status: 0 accepted, 1 the script keeps the form but its chain is no derivat
 const COLUMNS: &str = "\
 usage: desk columns VOCABULARY [OWNER] [--words TEXT] [--json]
 
-Lists the columns that an extension of a script may name, with their literals by position: those of record OWNER, or of
-every record. Owner 0 is the query. C5(x) says that x is in the term of record 5, r0(x,y) that the pair is in role 0,
-and f7 is the function of record 7. A name has no columns, nor has a statement off the chain.
+Lists the columns that the steps of a script may use: for each owner, or for record OWNER alone (0 is the query), its
+columns by number, and in each the literals by position. C5(x) says that x is in the term of record 5, r0(x,y) that the
+pair is in role 0, f7 is the function of record 7, and a the constant. Where a y stands, a step has to give a term for
+it. A name has no columns, nor has a statement off the chain.
 
   --words TEXT   the text of the vocabulary, whose comments say what each record is called
 
-exit status: 0 listed, 2 refused
+exit status: 0 listed, 2 refused, or there is no record OWNER
 ";
 
 const ASSEMBLE: &str = "\
