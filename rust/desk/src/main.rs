@@ -1,5 +1,7 @@
 //! `desk`: the duty vocabulary judge as a command. It decides nothing by itself: every verdict is the library's.
 
+#![deny(unsafe_code)]
+
 mod commands;
 mod console;
 mod display;
@@ -10,6 +12,8 @@ mod json;
 mod refused;
 mod report;
 mod script;
+mod signals;
+mod streams;
 mod text;
 mod trace;
 
@@ -23,6 +27,7 @@ use std::ffi::{OsStr, OsString};
 use std::process::ExitCode;
 
 fn main() -> ExitCode {
+    signals::prepare();
     call(std::env::args_os().skip(1).collect()).into()
 }
 
