@@ -87,3 +87,45 @@ impl Drop for Catching {
         }
     }
 }
+
+#[cfg(test)]
+mod tests {
+    #![allow(clippy::unwrap_used)]
+
+    use super::{catch, caught, set, ENDING};
+    use std::io::{self, ErrorKind, Read};
+    use std::os::unix::thread::{JoinHandleExt, RawPthread};
+    use std::time::Duration;
+
+    extern "C" {
+        fn pthread_kill(thread: RawPthread, number: i32) -> i32;
+    }
+
+    #[test]
+    fn a_read_that_waits_is_ended_while_signals_are_caught() {
+        for number in ENDING {
+            // It may be ignored where the tests run in the background.
+            let at_first = set(number, 0);
+            let catching = catch();
+            let (mut reader, writer) = io::pipe().unwrap();
+            let waiting = std::thread::spawn(move || reader.read(&mut [0]));
+            // Sent until it is heard, since the thread may not wait yet; the writer's end would end a deaf one.
+            for _ in 0..2000 {
+                if waiting.is_finished() {
+                    break;
+                }
+                // SAFETY: the thread was not joined, so it is known; the signal is caught.
+                unsafe { pthread_kill(waiting.as_pthread_t(), number) };
+                std::thread::sleep(Duration::from_millis(1));
+            }
+            drop(writer);
+            assert_eq!(waiting.join().unwrap().unwrap_err().kind(), ErrorKind::Interrupted);
+            assert!(caught());
+            // Within, signals are caught still; behind, they do what they did.
+            drop(catch());
+            assert!(set(number, 1) > 1);
+            drop(catching);
+            assert_eq!(set(number, at_first), 0);
+        }
+    }
+}

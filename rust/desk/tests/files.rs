@@ -2,14 +2,16 @@
 
 #![allow(clippy::unwrap_used, clippy::indexing_slicing)]
 
+#[path = "support/place.rs"]
 mod support;
 
 use std::fs::{self, File};
-use std::os::unix::fs::{symlink, FileTypeExt, MetadataExt};
+use std::io::Write;
+use std::os::unix::fs::{chown, symlink, FileTypeExt, MetadataExt};
 use std::path::Path;
 use std::process::{Command, Stdio};
 use std::sync::atomic::{AtomicBool, Ordering};
-use std::time::Duration;
+use std::time::{Duration, Instant};
 use support::{
     end, ended_by, is_root, mode, run, run_with, send, set_mode, skipped, start, Place, Said, HANGUP, INTERRUPT, KILL,
     TERMINATE,
@@ -29,7 +31,11 @@ fn vocabulary(first: u16, names: u16) -> (String, Vec<u8>) {
 
 /// A directory with two texts, `a` and `b`, and the bytes that they stand for: of different lengths, with no name in common.
 fn two_texts(name: &str) -> (Place, [Vec<u8>; 2]) {
-    let place = Place::new(name);
+    texts_in(Place::new(name))
+}
+
+/// Puts the two texts into a directory.
+fn texts_in(place: Place) -> (Place, [Vec<u8>; 2]) {
     let [a, b] = [vocabulary(1, 500), vocabulary(1000, 300)];
     place.put("a", a.0);
     place.put("b", b.0);
@@ -111,12 +117,13 @@ const LONG_SCRIPT: usize = 1000;
 
 #[test]
 fn a_full_disk_is_an_error() {
-    let (place, whole) = two_texts("full");
+    let (place, _) = two_texts("full-device");
     let said = run(&mut place.desk(["assemble", "a", "-o", "/dev/full"]));
     assert_no_output(
         &said,
         "assemble: /dev/full: cannot be written (no space left on device)",
     );
+    let (place, whole) = texts_in(Place::of_caller("full"));
     place.put("old", &whole[0]);
     place.put(
         "text",
@@ -228,12 +235,12 @@ fn survivors_never_take_an_inputs_place() {
 
 #[test]
 fn mode_and_owner_stay() {
-    let (place, whole) = two_texts("mode");
+    let (place, whole) = texts_in(Place::of_caller("mode"));
     for wanted in [0o640, 0o755, 0o600, 0o666, 0o4755] {
         let path = place.put("x", "old");
         set_mode(&path, wanted);
         if is_root() {
-            std::os::unix::fs::chown(&path, Some(1234), Some(5678)).unwrap();
+            chown(&path, Some(1234), Some(5678)).unwrap();
             set_mode(&path, wanted);
         }
         let before = fs::metadata(&path).unwrap();
@@ -255,7 +262,7 @@ fn mode_and_owner_stay() {
 fn a_symbolic_link_stays_and_its_target_is_written() {
     let (place, whole) = two_texts("link");
     for directory in ["one", "two"] {
-        fs::create_dir(place.path(directory)).unwrap();
+        place.put_directory(directory);
     }
     place.put("two/x", "old");
     // A chain, which leaves its directory; a link whose target is to be made; one by an absolute path.
@@ -296,7 +303,7 @@ fn a_symbolic_link_stays_and_its_target_is_written() {
 #[test]
 fn a_name_of_a_file_is_needed() {
     let (place, whole) = two_texts("name");
-    fs::create_dir(place.path("inner")).unwrap();
+    place.put_directory("inner");
     place.put("x", "old");
     let longest = "n".repeat(255);
     for (output, why) in [
@@ -326,33 +333,17 @@ fn a_name_of_a_file_is_needed() {
     assert_eq!(place.names(), ["a", "b", "inner", &longest, "x"]);
 }
 
-/// `desk` as a user whom permissions bind, if there is a way; `desk` is copied to where that user reaches it.
-fn unprivileged(place: &Place, words: &[&str]) -> Option<Command> {
-    if !is_root() {
-        return Some(place.desk(words));
-    }
-    let desk = place.path("desk");
-    fs::copy(env!("CARGO_BIN_EXE_desk"), &desk).unwrap();
-    set_mode(&desk, 0o755);
-    let mut command = Command::new("setpriv");
-    command.args(["--reuid=65534", "--regid=65534", "--clear-groups"]);
-    let works = command.arg("true").status().is_ok_and(|status| status.success());
-    let mut command = Command::new("setpriv");
-    command.args(["--reuid=65534", "--regid=65534", "--clear-groups"]);
-    command.arg(desk).args(words).current_dir(place.path(""));
-    works.then_some(command)
-}
-
 #[test]
 fn what_may_not_be_written_stays() {
-    let place = Place::public("permissions");
-    place.put("a", vocabulary(1, 500).0);
-    for (directory, mode_inside) in [("locked", 0o666), ("open", 0o444), ("sticky", 0o666)] {
-        fs::create_dir(place.path(directory)).unwrap();
-        set_mode(&place.put(&format!("{directory}/x"), "old"), mode_inside);
-    }
-    for (directory, mode) in [("locked", 0o555), ("open", 0o777), ("sticky", 0o1777)] {
-        set_mode(&place.path(directory), mode);
+    let (place, whole) = two_texts("permissions");
+    for (directory, mode, inner) in [
+        ("locked", 0o555, 0o666),
+        ("open", 0o777, 0o444),
+        ("sticky", 0o1777, 0o666),
+    ] {
+        let path = place.put_directory(directory);
+        set_mode(&place.put(&format!("{directory}/x"), "old"), inner);
+        set_mode(&path, mode);
     }
     let mut cases = vec![
         ("locked/x", "its directory may not be written to (permission denied)"),
@@ -360,27 +351,28 @@ fn what_may_not_be_written_stays() {
         ("open/x", "may not be written (permission denied)"),
     ];
     if is_root() {
-        // There is another user's file, which may be written, but not replaced.
+        // Another user's file, which may be written, but not replaced.
+        for path in ["sticky", "sticky/x"] {
+            chown(place.path(path), Some(0), Some(0)).unwrap();
+        }
         cases.push(("sticky/x", "may not be replaced (permission denied)"));
     }
     for (output, why) in cases {
-        let Some(mut command) = unprivileged(&place, &["assemble", "a", "-o", output]) else {
-            return skipped("permissions, since root is not bound by them and there is no setpriv");
-        };
-        assert_no_output(&run(&mut command), &format!("assemble: {output}: {why}"));
+        let said = run(&mut place.desk(["assemble", "a", "-o", output]));
+        assert_no_output(&said, &format!("assemble: {output}: {why}"));
     }
     for directory in ["locked", "open", "sticky"] {
         assert_eq!(place.get(&format!("{directory}/x")), b"old");
         assert_eq!(support::names(&place.path(directory)), ["x"]);
     }
-    // The owner cannot be kept; the mode is.
-    set_mode(&place.path("open/x"), 0o646);
-    let mut command = unprivileged(&place, &["assemble", "a", "-o", "open/x"]).unwrap();
-    assert_eq!(run(&mut command).status, Some(0));
-    assert_eq!(
-        (place.get("open/x"), mode(&place.path("open/x"))),
-        (vocabulary(1, 500).1, 0o646)
-    );
+    // An owner who cannot be kept; the mode is.
+    let path = place.path("open/x");
+    if is_root() {
+        chown(&path, Some(0), Some(0)).unwrap();
+    }
+    set_mode(&path, 0o646);
+    assert_eq!(run(&mut place.desk(["assemble", "a", "-o", "open/x"])).status, Some(0));
+    assert_eq!((place.get("open/x"), mode(&path)), (whole[0].clone(), 0o646));
     set_mode(&place.path("locked"), 0o755);
 }
 
@@ -392,14 +384,14 @@ fn a_directory_may_vanish() {
         ("inner/x", "there is no such directory"),
         ("x", "there is no such directory"),
     ] {
-        fs::create_dir(place.path("inner")).unwrap();
+        place.put_directory("inner");
         let mut command = place.desk(["assemble", "-", "-o", output]);
         if output == "x" {
             command.current_dir(place.path("inner"));
         }
         let mut child = start(&mut command);
         fs::remove_dir(place.path("inner")).unwrap();
-        std::io::Write::write_all(&mut child.stdin.take().unwrap(), &text).unwrap();
+        child.stdin.take().unwrap().write_all(&text).unwrap();
         let said = child.wait_with_output().unwrap().into();
         assert_no_output(&said, &format!("assemble: {output}: {why}"));
         assert_eq!(place.names(), ["a", "b"]);
@@ -410,16 +402,14 @@ fn a_directory_may_vanish() {
 fn pipes_and_devices_are_written_to() {
     let (place, whole) = two_texts("place");
     let pipe = place.path("pipe");
-    assert!(Command::new("mkfifo").arg(&pipe).status().unwrap().success());
+    assert!(place.command("mkfifo").arg(&pipe).status().unwrap().success());
     symlink("pipe", place.path("link")).unwrap();
     for output in ["pipe", "link"] {
-        let reader = std::thread::spawn({
-            let pipe = pipe.clone();
-            move || fs::read(pipe).unwrap()
-        });
+        // Waits for a writer, but not for ever.
+        let reader = start(Command::new("timeout").args(["10", "cat"]).arg(&pipe));
         assert_eq!(run(&mut place.desk(["assemble", "a", "-o", output])).status, Some(0));
-        assert_eq!(reader.join().unwrap(), whole[0]);
         assert!(fs::symlink_metadata(&pipe).unwrap().file_type().is_fifo());
+        assert_eq!(reader.wait_with_output().unwrap().stdout, whole[0]);
     }
     let said = run(&mut place.desk(["assemble", "a", "-o", "/dev/null"]));
     assert_eq!(said.out, b"/dev/null: a vocabulary of 501 records\n");
@@ -503,12 +493,11 @@ fn a_signal_at_any_moment_leaves_a_whole_file() {
     }
 }
 
-/// Waits for a file that is being made, but not for long: it may have come and gone.
-fn spot_temporary(place: &Place) {
-    for _ in 0..2000 {
-        if place.has_temporary() {
-            return;
-        }
+/// Waits until a file is being made, or has taken the place of `x`, which is the old one at first.
+fn spot_temporary(place: &Place, old: &[u8]) {
+    let start = Instant::now();
+    while !place.has_temporary() && place.get("x") == old {
+        assert!(start.elapsed() < Duration::from_secs(10));
     }
 }
 
@@ -517,25 +506,30 @@ fn a_signal_while_a_file_is_made_removes_it() {
     let (place, whole) = two_texts("made");
     for signal in [HANGUP, INTERRUPT, TERMINATE] {
         let mut rounds = 0;
-        while interrupted(&place, &whole, signal, spot_temporary) != (Some(130), false) {
+        let spot = |place: &Place| spot_temporary(place, &whole[1]);
+        while interrupted(&place, &whole, signal, spot) != (Some(130), false) {
             rounds += 1;
             assert!(rounds < 300, "signal {signal} never came while the file was made");
         }
     }
-    let mut said = start(&mut place.shell("trap '' HUP; exec \"$@\"", &["assemble", "a", "-o", "x"]));
-    spot_temporary(&place);
-    send(&said, HANGUP);
-    assert_eq!((end(&mut said).code(), place.get("x")), (Some(0), whole[0].clone()));
+}
+
+#[test]
+fn a_signal_that_is_ignored_stays_so() {
+    let (place, whole) = two_texts("ignored");
+    for _ in 0..20 {
+        place.put("x", &whole[1]);
+        let mut child = start(&mut place.shell("trap '' HUP; exec \"$@\"", &["assemble", "a", "-o", "x"]));
+        spot_temporary(&place, &whole[1]);
+        send(&child, HANGUP);
+        assert_eq!((end(&mut child).code(), place.get("x")), (Some(0), whole[0].clone()));
+    }
 }
 
 #[test]
 fn a_run_that_waits_ends_at_once() {
     let (place, _) = two_texts("waits");
-    assert!(Command::new("mkfifo")
-        .arg(place.path("pipe"))
-        .status()
-        .unwrap()
-        .success());
+    assert!(place.command("mkfifo").arg("pipe").status().unwrap().success());
     for signal in [HANGUP, INTERRUPT, TERMINATE] {
         for words in [
             &["assemble", "-", "-o", "x"][..],
@@ -549,6 +543,26 @@ fn a_run_that_waits_ends_at_once() {
         }
     }
     assert_eq!(place.names(), ["a", "b", "pipe"]);
+}
+
+#[test]
+fn a_signal_after_the_file_is_made_ends_the_run() {
+    let (place, whole) = two_texts("after");
+    let (reader, writer) = std::io::pipe().unwrap();
+    let mut filler = writer.try_clone().unwrap();
+    // Nobody reads, so that the answer has to wait.
+    let filling = std::thread::spawn(move || filler.write_all(&[0; 1 << 21]));
+    std::thread::sleep(Duration::from_millis(30));
+    let mut child = place.desk(["assemble", "a", "-o", "x"]).stdout(writer).spawn().unwrap();
+    while !place.path("x").exists() {
+        assert!(child.try_wait().unwrap().is_none());
+    }
+    std::thread::sleep(Duration::from_millis(30));
+    send(&child, INTERRUPT);
+    assert!(ended_by(end(&mut child), INTERRUPT));
+    assert_eq!((place.get("x"), place.names().len()), (whole[0].clone(), 3));
+    drop(reader);
+    assert!(filling.join().unwrap().is_err());
 }
 
 #[test]

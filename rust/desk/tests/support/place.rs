@@ -5,8 +5,8 @@
 use std::ffi::OsStr;
 use std::fs;
 use std::io::Write;
-use std::os::unix::fs::{MetadataExt, PermissionsExt};
-use std::os::unix::process::ExitStatusExt;
+use std::os::unix::fs::{chown, MetadataExt, PermissionsExt};
+use std::os::unix::process::{CommandExt, ExitStatusExt};
 use std::path::{Path, PathBuf};
 use std::process::{Child, Command, ExitStatus, Output, Stdio};
 use std::time::{Duration, Instant};
@@ -23,37 +23,75 @@ pub const KILL: i32 = 9;
 /// SIGTERM.
 pub const TERMINATE: i32 = 15;
 
-/// A new directory, which is removed in the end.
-pub struct Place(PathBuf);
+/// The user and group who run `desk` where the tests are run by root: a faulty `desk` could replace the files of /dev, and
+/// permissions would not bind it.
+const NOBODY: u32 = 65534;
+
+/// A new directory, which is removed in the end, and who runs `desk` in it.
+pub struct Place {
+    /// What is removed.
+    root: PathBuf,
+    files: PathBuf,
+    desk: PathBuf,
+    bound: bool,
+}
 
 impl Place {
-    /// A directory in the build's own.
+    /// A directory in which `desk` is run by a user who is not root.
     pub fn new(name: &str) -> Place {
+        if !is_root() {
+            return Place::of_caller(name);
+        }
+        // Where any user comes, with a copy of `desk`. It is made by another process, since a file that a process of
+        // this one has open for writing cannot be run.
+        let mut place = Place::within(&std::env::temp_dir(), name);
+        let copy = place.root.join("desk");
+        let copied = Command::new("cp").arg(&place.desk).arg(&copy).status().unwrap();
+        assert!(copied.success());
+        set_mode(&copy, 0o755);
+        place.desk = copy;
+        place.bound = true;
+        place.give(&place.files);
+        place
+    }
+
+    /// A directory in which `desk` is run by the caller, be it root. No output may lie outside.
+    pub fn of_caller(name: &str) -> Place {
         Place::within(Path::new(env!("CARGO_TARGET_TMPDIR")), name)
     }
 
-    /// A directory that any user reaches.
-    pub fn public(name: &str) -> Place {
-        Place::within(&std::env::temp_dir(), name)
+    fn within(parent: &Path, name: &str) -> Place {
+        let root = parent.join(format!("desk-{name}-{}", std::process::id()));
+        let files = root.join("files");
+        let _ = fs::remove_dir_all(&root);
+        fs::create_dir_all(&files).unwrap();
+        set_mode(&root, 0o755);
+        set_mode(&files, 0o755);
+        Place {
+            root,
+            files,
+            desk: env!("CARGO_BIN_EXE_desk").into(),
+            bound: false,
+        }
     }
 
-    fn within(parent: &Path, name: &str) -> Place {
-        let path = parent.join(format!("desk-{name}-{}", std::process::id()));
-        let _ = fs::remove_dir_all(&path);
-        fs::create_dir(&path).unwrap();
-        set_mode(&path, 0o755);
-        Place(path)
+    /// Gives a file to the user who runs `desk`.
+    pub fn give(&self, path: &Path) {
+        if self.bound {
+            chown(path, Some(NOBODY), Some(NOBODY)).unwrap();
+        }
     }
 
     /// The path of a name in it.
     pub fn path(&self, name: &str) -> PathBuf {
-        self.0.join(name)
+        self.files.join(name)
     }
 
-    /// Makes a file.
+    /// Makes a file, which belongs to the user who runs `desk`.
     pub fn put(&self, name: &str, bytes: impl AsRef<[u8]>) -> PathBuf {
         let path = self.path(name);
         fs::write(&path, bytes).unwrap();
+        self.give(&path);
         path
     }
 
@@ -64,7 +102,7 @@ impl Place {
 
     /// The names of all that is in it.
     pub fn names(&self) -> Vec<String> {
-        names(&self.0)
+        names(&self.files)
     }
 
     /// Whether a file that is being made, or was left behind, is in it.
@@ -72,25 +110,43 @@ impl Place {
         self.names().iter().any(|name| name.starts_with(".desk-"))
     }
 
+    /// Makes a directory, which belongs to the user who runs `desk`.
+    pub fn put_directory(&self, name: &str) -> PathBuf {
+        let path = self.path(name);
+        fs::create_dir(&path).unwrap();
+        self.give(&path);
+        path
+    }
+
     /// `desk` in this directory.
     pub fn desk<S: AsRef<OsStr>>(&self, words: impl IntoIterator<Item = S>) -> Command {
-        let mut command = Command::new(env!("CARGO_BIN_EXE_desk"));
-        command.current_dir(&self.0).args(words);
+        let mut command = self.command(&self.desk);
+        command.args(words);
         command
     }
 
     /// A shell's line in this directory, in which `desk` is `"$@"` with these words.
     pub fn shell(&self, line: &str, words: &[&str]) -> Command {
-        let mut command = Command::new("sh");
-        command.current_dir(&self.0);
-        command.args(["-c", line, "sh", env!("CARGO_BIN_EXE_desk")]).args(words);
+        let mut command = self.command("sh");
+        command.args(["-c", line, "sh"]).arg(&self.desk).args(words);
+        command
+    }
+
+    /// A program in this directory, run by who runs `desk`.
+    pub fn command(&self, program: impl AsRef<OsStr>) -> Command {
+        let mut command = Command::new(program);
+        command.current_dir(&self.files);
+        heed_signals(&mut command);
+        if self.bound {
+            command.uid(NOBODY).gid(NOBODY);
+        }
         command
     }
 }
 
 impl Drop for Place {
     fn drop(&mut self) {
-        let _ = fs::remove_dir_all(&self.0);
+        let _ = fs::remove_dir_all(&self.root);
     }
 }
 
@@ -143,6 +199,22 @@ impl From<Output> for Said {
             err: String::from_utf8(output.stderr).unwrap(),
         }
     }
+}
+
+/// Lets signals do what they do by default, since a test that runs in the background may have been told to ignore them.
+fn heed_signals(command: &mut Command) {
+    extern "C" {
+        fn signal(number: i32, action: usize) -> usize;
+    }
+    let heed = || {
+        for number in [HANGUP, INTERRUPT, TERMINATE] {
+            // SAFETY: 0 is SIG_DFL. `signal` may be called between fork and exec.
+            unsafe { signal(number, 0) };
+        }
+        Ok(())
+    };
+    // SAFETY: `heed` neither allocates nor takes locks.
+    unsafe { command.pre_exec(heed) };
 }
 
 /// Runs a command to its end, with nothing on standard input.
