@@ -220,6 +220,8 @@ fn damaged_inputs_get_json_and_never_a_panic() {
         assert!(says_json(&name, &bytes, &["record"], &[&number]));
         assert!(says_json(&name, &bytes, &["compare"], &[&number, "3"]));
         assert!(says_json(&name, &bytes, &["verify", path], &[]));
+        assert!(says_json(&name, &bytes, &["within"], &[&number, "3"]));
+        assert!(says_json(&name, &bytes, &["columns"], &[&number]));
         assert!(says_json(&name, &bytes, &["recheck"], &[]));
         assert!(says_json(&name, &bytes, &["assemble", "-o", "/dev/null"], &[]));
         std::fs::remove_file(PathBuf::from(env!("CARGO_TARGET_TMPDIR")).join(name)).unwrap();

@@ -2,7 +2,8 @@
 
 use judge::{Refusal, RECORD_BYTES};
 
-/// A record, by the kinds of paper 01. Numbers are those of earlier term records; a role stands before a term.
+/// A record, by the kinds of docs/FORMATS.md, section 2. Numbers are those of earlier term records; a role stands
+/// before a term.
 #[derive(Clone, Copy, Debug, PartialEq, Eq)]
 pub enum Record {
     /// Kind 1.

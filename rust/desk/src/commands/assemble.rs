@@ -22,6 +22,9 @@ pub fn run(arguments: &Arguments, console: &mut Console) -> Result<Status, Stop>
     let Some(output) = arguments.value("--output") else {
         return Err(Failure::usage("-o FILE is missing").into());
     };
+    if output == "-" && console.json {
+        return Err(Failure::usage("--json and '-o -' would both write to standard output").into());
+    }
     let (input, kind) = input::text(path, console.style)?;
     let refusal = match kind {
         Kind::Script => refused_script(&input.bytes),

@@ -1,10 +1,11 @@
 //! `desk check`.
 
-use super::read_vocabulary;
+use super::{each, read_vocabulary};
 use crate::console::Console;
 use crate::display::counted;
 use crate::input::Input;
 use crate::json::Json;
+use crate::question::Questions;
 use crate::refused;
 use crate::report::{Report, Stop, Style};
 use base::arguments::Arguments;
@@ -12,19 +13,13 @@ use base::vocabulary::{Vocabulary, STATEMENT_KIND};
 use base::Status;
 
 pub fn run(arguments: &Arguments, console: &mut Console) -> Result<Status, Stop> {
-    let mut status = Status::Holds;
-    for path in arguments.some_words("VOCABULARY")? {
-        let input = read_vocabulary(path, console.style)?;
-        let report = match judge::check_vocabulary(&input.bytes) {
-            Err(refusal) => refused::report(console.style, &input, refusal, None),
-            Ok(records) => accepted(console.style, &input, records),
-        };
-        status = status.max(console.answer(report)?);
-        if console.is_gone() {
-            break;
-        }
-    }
-    Ok(status)
+    each(arguments, "VOCABULARY", console, |path, style| {
+        let input = read_vocabulary(path, style)?;
+        Ok(match judge::check_vocabulary(&input.bytes) {
+            Err(refusal) => refused::report(style, &input, refusal, None),
+            Ok(records) => accepted(style, &input, records),
+        })
+    })
 }
 
 fn accepted(style: Style, input: &Input, records: u32) -> Report {
@@ -33,7 +28,7 @@ fn accepted(style: Style, input: &Input, records: u32) -> Report {
     let roles = vocabulary.get(0).b;
     let atoms = names + restrictions;
     let comparable = atoms <= judge::ATOMS;
-    let text = format!(
+    let mut text = format!(
         "{}: {}: {}, {} and {} ({}, {}), {} of {} on the chain, {}\n",
         input.name,
         style.paint(Status::Holds, "accepted"),
@@ -50,6 +45,14 @@ fn accepted(style: Style, input: &Input, records: u32) -> Report {
         counted(statements as u64, "statement"),
         counted(roles.into(), "role"),
     );
+    // Not known where there are too many atoms.
+    let contradictory = Questions::new(&input.bytes).is_contradictory().ok();
+    if contradictory == Some(true) {
+        let words = style.paint(Status::DoesNotHold, "the statements contradict each other");
+        text.push_str(&format!(
+            "  {words}: nothing satisfies them, so that all terms are equal\n"
+        ));
+    }
     let json = vec![
         ("file", Json::from(input.name.as_str())),
         ("verdict", Json::from("accepted")),
@@ -61,6 +64,7 @@ fn accepted(style: Style, input: &Input, records: u32) -> Report {
         ("statements", Json::from(statements)),
         ("chained", Json::from(chained)),
         ("roles", Json::from(roles)),
+        ("contradictory", Json::from(contradictory)),
     ];
     Report::new(Status::Holds, text, json)
 }
