@@ -1,5 +1,7 @@
 //! `desk`: the duty vocabulary judge as a command. It decides nothing by itself: every verdict is the library's.
 
+#![deny(unsafe_code)]
+
 mod columns;
 mod commands;
 mod console;
@@ -13,8 +15,10 @@ mod question;
 mod refused;
 mod report;
 mod script;
+mod signals;
 #[cfg(test)]
 mod stored;
+mod streams;
 mod text;
 mod trace;
 mod why;
@@ -29,6 +33,7 @@ use std::ffi::{OsStr, OsString};
 use std::process::ExitCode;
 
 fn main() -> ExitCode {
+    signals::prepare();
     call(std::env::args_os().skip(1).collect()).into()
 }
 

@@ -8,9 +8,11 @@ use crate::input;
 use crate::json::Json;
 use crate::refused;
 use crate::report::{Report, Stop};
+use crate::streams;
 use crate::text::Kind;
 use base::arguments::{Arguments, Flag};
 use base::{Failure, Status};
+use std::path::Path;
 
 /// The options.
 pub const FLAGS: &[Flag] = &[Flag::valued("--output").letter('o'), Flag::switch("--force")];
@@ -31,7 +33,7 @@ pub fn run(arguments: &Arguments, console: &mut Console) -> Result<Status, Stop>
     if let Some(refusal) = refusal.filter(|_| !arguments.has("--force")) {
         return Ok(console.answer(refused::report(console.style, &input, refusal, None))?);
     }
-    if output == "-" {
+    if output == "-" || streams::is_output(Path::new(output)) {
         console.bytes(&input.bytes)?;
         return Ok(Status::Holds);
     }
