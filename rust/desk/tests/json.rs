@@ -158,7 +158,8 @@ fn the_transcript_has_json_where_it_was_asked_for() {
     let mut last = "";
     for line in transcript.lines() {
         if let Some(command) = line.strip_prefix("$ ") {
-            asked = command.contains("--json") && !command.contains("-- --json") && !command.contains("/dev/full");
+            let written = !command.contains("/dev/full") && !command.contains(">&-");
+            asked = command.contains("--json") && !command.contains("-- --json") && written;
             last = "";
         } else if let Some(status) = line.strip_prefix("exit ") {
             assert_eq!(asked, last.starts_with('{'), "{last}");
