@@ -1,6 +1,6 @@
-/* The comparison of paper 01 in C, twice: what the library is measured against.
+/* The comparison (docs/FORMATS.md, section 3) in C, twice: what the library is measured against.
  *   fast.c      the library's algorithm
- *   literal.c   the paper's words: for each type and demand a scan of all types
+ *   literal.c   by the definitions' words: for each type and demand a scan of all types
  *   answer.c    what both share: the refusals, and the answer told from the survivors */
 #ifndef COMPARE_H
 #define COMPARE_H

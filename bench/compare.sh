@@ -1,5 +1,5 @@
 #!/bin/sh
-# Measures the library's comparison beside C: by the same algorithm, and by the paper's words.
+# Measures the library's comparison beside C: by the same algorithm, and by the definitions' words.
 #
 # usage: compare.sh [--agree | --instructions] [ARCHIVE]
 #

@@ -1,5 +1,5 @@
 /* Benchmark of the comparison: the library beside C by the same algorithm (fast.c) and by the
- * paper's words (literal.c).
+ * definitions' words (literal.c).
  *
  *   comparison DATA            compare the answers and bytes, then print a table of times
  *   comparison DATA --agree    compare them only, without the slowest calls of literal.c

@@ -1,4 +1,4 @@
-/* The script check of paper 01 in plain C, for comparison. The answer is packed as in judge.h. */
+/* The script check (docs/FORMATS.md, section 5) in plain C, for comparison. The answer is packed as in judge.h. */
 #ifndef JUDGED_H
 #define JUDGED_H
 

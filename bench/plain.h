@@ -1,4 +1,4 @@
-/* The vocabulary check and the record call of paper 01 in plain C, for comparison.
+/* The vocabulary check and the record call (docs/FORMATS.md, section 2) in plain C, for comparison.
  * The answers are packed as in judge.h. */
 #ifndef PLAIN_H
 #define PLAIN_H
@@ -13,7 +13,7 @@ enum kind {
     HEADER = 16
 };
 
-/* Refusals by their numbers in the paper. */
+/* Refusals by their numbers (docs/FORMATS.md, section 6). */
 enum refusal {
     ACCEPTED = 0,
     BAD_LENGTH, BAD_HEADER, BAD_KIND, BAD_UNUSED, BAD_TERM, BAD_ROLE, BAD_LABEL, BAD_NEXT,

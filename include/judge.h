@@ -5,7 +5,8 @@
  * A VOCABULARY is 8-byte records, at most 512: a header, then terms and statements. A term is a name, or made of
  * earlier terms by not, and, or, some, all. A statement says that one term lies within another. A SCRIPT is 16-byte
  * records, at most 2,048: a proof, by the connection calculus, that one term lies within another. Both have a readable
- * text form, which the command `desk` turns into bytes and back (docs/DESK.md). Records are numbered from 0.
+ * text form, which the command `desk` turns into bytes and back (docs/DESK.md). Records are numbered from 0. The
+ * formats, their meaning and the table of refusals are in docs/FORMATS.md.
  *
  * Four calls: judge_check_vocabulary, judge_record, judge_compare, judge_check_script. Each takes any bytes of any
  * length, ends, and answers one number, which the functions below take apart:
@@ -16,7 +17,7 @@
  *     else                              equal();
  *
  * PROVED, of the code that runs, for every input: each call ends, reads and writes only what it is lent, keeps no
- * state, and answers what the definitions of paper 01 say (specs/ of each crate). A refusal is the first in the table's
+ * state, and answers what docs/FORMATS.md says (defined in specs/ of each crate). A refusal is the first in the table's
  * order, has the table's number and place, and alters no lent byte. Equal is answered exactly when the terms are equal
  * in every finite interpretation that satisfies the statements; with Different, the bytes written are such an
  * interpretation, in which the element belongs to just one of the terms. A script is accepted exactly when its chain of

@@ -7,6 +7,7 @@
 set -eu
 cd "$(dirname "$0")/.."
 first=${1:-7} seeds=5 least=20000 step=20
+second=target/cargo/release/second
 work=$(mktemp -d)
 trap 'rm -rf "$work"' EXIT
 
@@ -25,13 +26,13 @@ end
 make_cases() {
     seed=$first
     while [ "$seed" -lt $((first + seeds)) ]; do
-        "$work/second" "$made" "$seed" 2> "$work/log" || { cat "$work/log"; exit 1; }
+        "$second" "$made" "$seed" 2> "$work/log" || { cat "$work/log"; exit 1; }
         seed=$((seed + 1))
     done > "$work/all"
-    "$work/second" new "$made" "crates/$stored/stdin" < "$work/all" > "$work/$test.cases"
-    "$work/second" every "$made" $step < "$work/$test.cases" > "$work/$test.few"
+    "$second" new "$made" "crates/$stored/stdin" < "$work/all" > "$work/$test.cases"
+    "$second" every "$made" $step < "$work/$test.cases" > "$work/$test.few"
     for cases in cases few; do
-        "$work/second" "$expect" < "$work/$test.$cases" > "$work/$test.$cases.expected"
+        "$second" "$expect" < "$work/$test.$cases" > "$work/$test.$cases.expected"
     done
 }
 
@@ -71,7 +72,7 @@ record 9"
     { seq 1 8; echo 10; seq 13 25; } | sed 's/^/script /'
 }
 
-rustc -O -D warnings --edition 2021 -o "$work/second" tools/second/main.rs
+cargo build --release --quiet -p second
 total=0
 for kind in $kinds; do
     split "$kind"

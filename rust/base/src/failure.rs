@@ -25,7 +25,7 @@ pub enum Status {
     NoOutput = 73,
     /// Writing the answer fails.
     BrokenOutput = 74,
-    /// A signal ended the run before its end; 128 and the signal's number, as shells have it.
+    /// A signal ended the run before its end: 130, as shells have it for the commonest, whichever it was.
     Interrupted = 130,
 }
 

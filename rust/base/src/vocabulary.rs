@@ -3,7 +3,8 @@
 #[cfg(test)]
 mod tests;
 
-/// What a record of a kind that the paper knows says. Numbers are those of records, but for labels and roles.
+/// What a record says whose kind is one of docs/FORMATS.md, section 2. Numbers are those of records, but for labels and
+/// roles.
 #[derive(Clone, Copy, Debug, PartialEq, Eq)]
 pub enum Saying {
     /// Kind 1: all elements.

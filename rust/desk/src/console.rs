@@ -1,8 +1,10 @@
 //! Where answers go: standard output, as text or as JSON, and standard error.
 
 use crate::display::plain;
+use crate::files::reason;
 use crate::json::Json;
 use crate::report::{Report, Style};
+use crate::streams;
 use base::{Failure, Status};
 use std::io::{self, ErrorKind, IsTerminal, Write};
 
@@ -91,14 +93,13 @@ impl Console {
         if self.gone {
             return Ok(());
         }
-        let mut out = io::stdout().lock();
-        match out.write_all(bytes).and_then(|()| out.flush()) {
+        match streams::output().and_then(|mut out| out.write_all(bytes)) {
             Err(error) if error.kind() == ErrorKind::BrokenPipe => {
                 self.gone = true;
                 Ok(())
             }
             written => written.map_err(|error| {
-                let message = format!("the answer cannot be written ({error})");
+                let message = format!("the answer cannot be written ({})", reason(&error));
                 Failure::new(Status::BrokenOutput, message)
             }),
         }

@@ -1,48 +1,70 @@
-//! What each command is for, and how it is called.
+//! What each command is for, and how it is called; the forms of texts and tables; the refusals.
+
+use judge::Rule;
+use std::borrow::Cow;
 
 /// The page of the command as a whole.
 pub fn all() -> String {
     ALL.to_string()
 }
 
-/// The page of the command as a whole.
 const ALL: &str = "\
 desk: the duty vocabulary judge for people and scripts
 
-usage: desk COMMAND .. [--json]
+usage: desk COMMAND .. [--json] [--quiet] [--color[=WHEN]]
 
-  check VOCABULARY              whether a vocabulary is accepted
-  show FILE                     a vocabulary or a script as text
+  check VOCABULARY ..           whether a vocabulary is accepted, and whether its statements contradict each other
+  show FILE ..                  a vocabulary or a script as text
   record VOCABULARY N           one record, its fields and what it says
   compare VOCABULARY A B        whether two terms are equal in all interpretations
+  within VOCABULARY A B         whether one term lies within another in all interpretations
   verify VOCABULARY SCRIPT      whether a script proves that one term lies within another
+  columns VOCABULARY [OWNER]    the columns that a script may use
   assemble TEXT -o FILE         a vocabulary or a script from its text
   recheck TABLE                 every line of a filed table
 
-'desk COMMAND --help' says more. An input of '-' is standard input. --json writes one JSON object instead.
+'desk COMMAND --help' says more, and so do 'desk help texts', 'desk help tables' and 'desk help refusals'.
+An input of '-' is standard input. Where a vocabulary or a script is taken, its text is taken as well.
+'--' ends the options: what follows is taken as it is.
+
+  --json           writes one JSON object a line instead
+  -q, --quiet      writes no answer; the exit status tells
+  --color[=WHEN]   colours: auto (on terminals; the usual), always, never
+  -h, --help       -V, --version
 
 exit status: 0 holds, 1 does not hold, 2 refused input, 64 and up usage and I/O errors:
   64 the command line is not understood   66 an input cannot be read     70 an error in desk itself
-  73 an output cannot be made             74 writing the answer failed
+  71 a thread cannot be made              73 an output cannot be made    74 writing the answer failed
+  130 interrupted
 ";
 
-/// A page for each command.
-pub const PAGES: [(&str, &str); 7] = [
-    (
-        "check",
-        "\
-usage: desk check VOCABULARY [--json]
+/// A page for each command and topic.
+const PAGES: [(&str, &str); 11] = [
+    ("check", CHECK),
+    ("show", SHOW),
+    ("record", RECORD),
+    ("compare", COMPARE),
+    ("within", WITHIN),
+    ("verify", VERIFY),
+    ("columns", COLUMNS),
+    ("assemble", ASSEMBLE),
+    ("recheck", RECHECK),
+    ("texts", TEXTS),
+    ("tables", TABLES),
+];
 
-Whether the vocabulary is accepted (refusals 1 to 8), with the number of its records, names, restrictions, statements
-and roles, and whether it can be compared (at most 12 atoms).
+const CHECK: &str = "\
+usage: desk check VOCABULARY .. [--json]
 
-exit status: 0 accepted, 2 refused
-",
-    ),
-    (
-        "show",
-        "\
-usage: desk show FILE [--json]
+Whether each vocabulary is accepted (refusals 1 to 8), with the number of its records, names, restrictions, statements
+and roles, and whether it can be compared (at most 12 atoms). If it can, and nothing satisfies its statements, that is
+said: the statements then contradict each other, and every claim holds.
+
+exit status: 0 accepted, 2 refused; of several the greatest
+";
+
+const SHOW: &str = "\
+usage: desk show FILE .. [--json]
 
 Prints a vocabulary or a script as text, a line for each record: terms and statements in OWL 2 functional syntax, with
 c7 for the name labelled 7, r0 for role 0 and #4 for the term of record 4. 'desk assemble' makes the same bytes of it.
@@ -50,84 +72,205 @@ A vocabulary that is refused is shown as well, and the refusal beside it, on sta
 shown as 'raw'. A file whose length is refused is not shown. What begins as a script (w0 is 32) is taken for one; whether
 it proves something, 'desk verify' says.
 
-exit status: 0 shown, 2 refused
-",
-    ),
-    (
-        "record",
-        "\
+exit status: 0 shown, 2 refused; of several the greatest
+";
+
+const RECORD: &str = "\
 usage: desk record VOCABULARY N [--json]
 
 Prints the bytes and the fields of record N (0 is the header) and what it says. Works for a vocabulary that 'check'
 refuses, too, unless its length is refused.
 
 exit status: 0 printed, 2 refused (1: length, 9: past the end)
-",
-    ),
-    (
-        "compare",
-        "\
+";
+
+const COMPARE: &str = "\
 usage: desk compare VOCABULARY A B [--words TEXT] [--survivors FILE] [--json]
 
 Whether the terms of records A and B are equal in every finite interpretation that satisfies the statements. If they
 are different, an element tells them apart: the names and restrictions that hold at it are listed, and which of the
-two terms it belongs to.
+two terms it belongs to. It is said where nothing can belong to A, to B or to either, and where nothing satisfies the
+statements.
 
   --words TEXT       the text of the vocabulary, whose comments say what each record is called
   --survivors FILE   writes the 512 bytes that describe the interpretation: bit t mod 8 of byte t div 8 is 1 for a
                      survivor t (nothing is written where the input is refused)
 
 exit status: 0 equal, 1 different, 2 refused
-",
-    ),
-    (
-        "verify",
-        "\
+";
+
+const WITHIN: &str = "\
+usage: desk within VOCABULARY A B [--words TEXT] [--json]
+
+Whether the term of record A lies within the term of record B in every finite interpretation that satisfies the
+statements. No script is needed. If it does not, an element of A outside B is named and explained as by 'compare'.
+
+It is decided by the proved comparison: A lies within B exactly if \"A and B\" is equal to A. A copy of the vocabulary with
+the record \"A and B\" at its end is compared, or a record that says it already (or \"A or B\", compared with B). A vocabulary
+of 512 records has no room for another: if none says it, that is the answer, with status 2.
+
+  --words TEXT   the text of the vocabulary, whose comments say what each record is called
+
+exit status: 0 within, 1 not within, 2 refused
+";
+
+const VERIFY: &str = "\
 usage: desk verify VOCABULARY SCRIPT [--trace] [--words TEXT] [--json]
 
 Whether the script proves that its first term lies within its second, over the vocabulary: accepted with the number of
-its steps, or the refusal.
+its steps, or the refusal, with what is wrong at the record.
 
   --trace   prints each step with the goal, the column that it uses with the terms put in, and the open frames after
             it: a frame's goal first, then its other open literals; '>' marks the last frame, whose goal is the next.
-            A refused step is the last, with the reason. A script refused by 1 to 19 has no trace.
-  --words TEXT   the text of the vocabulary, whose comments say what each record is called
+            A refused step is the last, with the reason. A script refused by 1 to 19 has no trace. Where the script is
+            given as a text, each step has its line.
+  --words TEXT   the text of the vocabulary, whose comments say what each record is called; a trace says its goals in
+                 words, too
 
 exit status: 0 accepted, 1 the script keeps the form but its chain is no derivation (20 to 25), 2 refused input
-",
-    ),
-    (
-        "assemble",
-        "\
+";
+
+const COLUMNS: &str = "\
+usage: desk columns VOCABULARY [OWNER] [--words TEXT] [--json]
+
+Lists the columns that the steps of a script may use: for each owner, or for record OWNER alone (0 is the query), its
+columns by number, and in each the literals by position. C5(x) says that x is in the term of record 5, r0(x,y) that the
+pair is in role 0, f7 is the function of record 7, and a the constant. Where a y stands, a step has to give a term for
+it. A name has no columns, nor has a statement off the chain.
+
+  --words TEXT   the text of the vocabulary, whose comments say what each record is called
+
+exit status: 0 listed, 2 refused, or there is no record OWNER
+";
+
+const ASSEMBLE: &str = "\
 usage: desk assemble TEXT -o FILE [--force] [--json]
 
-Makes the bytes of a vocabulary or a script from its text (docs/DESK.md; 'desk show' prints it). A vocabulary that the
-library refuses is not written, nor is one that has a fault in its text. Of a script the length and the header are
-checked here (13 and 14); the rest takes its vocabulary: 'desk verify'.
+Makes the bytes of a vocabulary or a script from its text ('desk help texts'; 'desk show' prints it). A vocabulary that
+the library refuses is not written, nor is one that has a fault in its text: all faults are told, each with its line and
+column. Of a script the length and the header are checked here (13 and 14); the rest takes its vocabulary: 'desk verify'.
 
-  -o FILE   the file to write, which may not be TEXT itself
-  --force   writes what is refused, too (for tests)
+  -o FILE, --output FILE   the file to write, which may not be TEXT itself under any name; '-' is standard output. A
+                           file is replaced whole or not at all
+  --force                  writes what is refused, too (for tests)
 
-exit status: 0 written, 2 refused, or a fault in the text (its line and column are given)
-",
-    ),
-    (
-        "recheck",
-        "\
-usage: desk recheck TABLE [--json]
+exit status: 0 written, 2 refused, or a fault in the text
+";
 
-Rechecks a filed table, a line each: VOCABULARY A B CLAIM, where the claim is 'equal', 'different' or 'within SCRIPT'
-(term A lies within term B by that script). Files are named relative to the table's directory. Fields are set apart by
-blanks, or by tabs if the line has one; empty lines and lines that begin with '--' are left out. Prints the lines that
-do not hold and a summary, and a progress bar where standard error is a terminal.
+const RECHECK: &str = "\
+usage: desk recheck TABLE [--strict] [--explain] [--words TEXT] [-j N] [--json]
+
+Rechecks a filed table, a line each ('desk help tables'). Prints each line that does not hold when it is found, in the
+order of the table, and a summary; a progress bar where standard error is a terminal. Lines that hold only because
+nothing satisfies the statements, or because nothing can belong to the terms, are marked and counted.
+
+  --strict       lines that hold only for such a reason do not hold
+  --explain      explains each line that does not hold, as 'compare' and 'verify' do
+  --words TEXT   the text of the vocabulary, whose comments say what each record is called; explains, too
+  -j N, --jobs N works on N lines at once (1 to 64); the output is the same
+
+With --json a line is written for each of these lines, and a last one that sums up.
 
 exit status: the greatest of the lines' own: 0 all hold (or there is none), 1 some do not, 2 some input was refused or a
-line is malformed, 66 some file cannot be read
-",
-    ),
-];
+line is malformed, 66 some file cannot be read; 130 interrupted
+";
 
-/// The page of a command.
-pub fn page(command: &str) -> Option<&'static str> {
-    PAGES.iter().find(|(name, _)| *name == command).map(|(_, page)| *page)
+const TEXTS: &str = "\
+The texts of vocabularies and scripts
+
+A line for each record, the header first; record numbers before the lines may be left out. '--' begins a comment, which
+says what people call the record. Blanks, empty lines, CR LF line ends and a byte order mark do not matter. Numbers are 0
+to 65535. A text has at most 1,048,576 bytes.
+
+  vocabulary roles N              the header: the number of roles
+  c7, owl:Thing, owl:Nothing      the name labelled 7, top, bottom
+  ObjectComplementOf(T)           not
+  ObjectIntersectionOf(T T)       and
+  ObjectUnionOf(T T)              or
+  ObjectSomeValuesFrom(r0 T)      some, of role 0
+  ObjectAllValuesFrom(r0 T)       all, of role 0
+  SubClassOf(T T)                 a statement: the first lies within the second
+  raw KIND SECOND A B NEXT        any record, by its fields; the header as 'vocabulary raw ..'
+
+T is #4, the term of record 4, or a term written out, to a nesting of 16, which stands for the first earlier record that
+says it: there has to be one.
+
+  script #4 within #3             the header: the query, by records of the vocabulary
+  a, f6(T)                        the constant, which has to be record 1; the function of record 6 of the vocabulary
+  start 0                         a start with a column of the query
+  extend owner 5 column 0 x T y T at 1
+                                  an extension: owner (0: the query), column, terms for x and y, position; 'y T' is left
+                                  out where no y stands; 'desk columns' lists the columns
+  reduce 2                        a reduction against frame 2
+  raw W0 W1 W2 W3 W4 W5 W6 W7     any record, by its words; the header as 'script raw ..'
+
+T is a, f6(T) or #2, the term of record 2 of the script.
+
+Statements, and steps, are chained in the order of their lines. 'off' before one leaves it out of the chain; its link is
+0. Any other link is written at the end of the line: 'first N' in the header, 'next N' in a statement or step. A raw
+record is not chained by itself; its link is one of its numbers.
+
+A vocabulary and a script for it:
+
+  vocabulary roles 0              script #4 within #3
+  c1   -- sample                  a
+  c2   -- returned                start 1
+  c3   -- under relief            extend owner 5 column 0 x a at 1
+  ObjectIntersectionOf(c1 c2)     extend owner 0 column 0 x a at 0
+  SubClassOf(#4 c3)
+";
+
+const TABLES: &str = "\
+Filed tables, for 'desk recheck'
+
+A line is VOCABULARY A B CLAIM. A and B are record numbers. The claim is one of
+
+  equal            the terms A and B are equal
+  different        they are not
+  within           A lies within B
+  within SCRIPT    the script is accepted, and its query is \"A within B\"
+
+in every finite interpretation that satisfies the vocabulary's statements. Files are named relative to the table's
+directory; only regular files are read. A vocabulary or a script may be its text. Fields are set apart by blanks, or by
+tabs if the line has a tab (then names may have blanks). Empty lines and lines that begin with '--' are left out; a table
+without lines holds.
+
+  -- filed in March
+  v.vocabulary 4 3 different
+  v.vocabulary 4 3 within
+  v.vocabulary 4 3 within four-within-three.script
+
+A line comes out as one of: it holds; it holds only because nothing satisfies the statements, or because nothing can
+belong to the terms; it does not hold; an input is refused; the line is malformed; a file cannot be read.
+";
+
+/// Every refusal with its sentence, from the wrapper's table.
+fn refusals() -> String {
+    let mut page = "\
+Refusals: the first in the table's order is given, with the place where it applies
+
+"
+    .to_string();
+    for rule in (1..=u8::MAX)
+        .map(Rule::of)
+        .take_while(|rule| !matches!(rule, Rule::Unlisted(_)))
+    {
+        page.push_str(&format!("  {:>2}  {}\n", rule.number(), rule.words()));
+    }
+    page.push_str(
+        "
+1 to 8 are of vocabularies, 9 of 'record', 10 of the terms asked about, 11 and 12 of 'compare', 13 to 19 of the form of
+scripts (status 2), 20 to 25 of the chain of steps (status 1). docs/FORMATS.md has the formats and each rule in full.
+",
+    );
+    page
+}
+
+/// The page of a command or a topic.
+pub fn page(name: &str) -> Option<Cow<'static, str>> {
+    if name == "refusals" {
+        return Some(refusals().into());
+    }
+    let found = PAGES.iter().find(|(page, _)| *page == name);
+    found.map(|(_, page)| Cow::from(*page))
 }

@@ -1,5 +1,6 @@
 //! JSON, as far as reports need it.
 
+use crate::display::is_followed;
 use std::fmt::{self, Write};
 
 /// A value.
@@ -104,13 +105,13 @@ impl fmt::Display for Json {
     }
 }
 
-/// A string in quotes, with what may not stand there escaped.
+/// A string in quotes, with what may not stand there escaped, and what a terminal would follow.
 fn quote(out: &mut fmt::Formatter<'_>, text: &str) -> fmt::Result {
     out.write_char('"')?;
     for character in text.chars() {
         match character {
             '"' | '\\' => write!(out, "\\{character}")?,
-            c if c.is_control() => write!(out, "\\u{:04x}", u32::from(c))?,
+            c if is_followed(c) => write!(out, "\\u{:04x}", u32::from(c))?,
             c => out.write_char(c)?,
         }
     }

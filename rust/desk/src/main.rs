@@ -1,17 +1,27 @@
 //! `desk`: the duty vocabulary judge as a command. It decides nothing by itself: every verdict is the library's.
 
+#![deny(unsafe_code)]
+
+mod columns;
 mod commands;
 mod console;
 mod display;
+mod explain;
 mod files;
 mod help;
 mod input;
 mod json;
+mod question;
 mod refused;
 mod report;
 mod script;
+mod signals;
+#[cfg(test)]
+mod stored;
+mod streams;
 mod text;
 mod trace;
+mod why;
 
 use crate::commands::COMMON;
 use crate::console::{complain, Colour, Console};
@@ -23,6 +33,7 @@ use std::ffi::{OsStr, OsString};
 use std::process::ExitCode;
 
 fn main() -> ExitCode {
+    signals::prepare();
     call(std::env::args_os().skip(1).collect()).into()
 }
 
@@ -43,7 +54,7 @@ fn call(mut words: Vec<OsString>) -> Status {
         return no_command(&name, has(&words, "--json"));
     };
     if wants_help {
-        return say(&mut console, page);
+        return say(&mut console, &page);
     }
     let done = commands::run(command, words, &mut console);
     finish(&mut console, done, page.lines().next())
@@ -100,7 +111,7 @@ fn help_on(console: &mut Console, topic: Option<&OsString>) -> Status {
     match topic {
         None => say(console, &help::all()),
         Some(topic) => match help::page(topic) {
-            Some(page) => say(console, page),
+            Some(page) => say(console, &page),
             None => no_command(topic, console.json),
         },
     }

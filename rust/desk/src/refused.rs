@@ -3,12 +3,31 @@
 use crate::input::Input;
 use crate::json::Json;
 use crate::report::{refusal_json, refusal_status, Report, Style};
-use judge::Refusal;
+use crate::why;
+use judge::{Refusal, Rule};
 
 /// A refusal in words, with what is known of the input that it is about, and a reason in detail where there is one.
 pub fn words(input: &Input, refusal: Refusal, detail: Option<&str>) -> String {
+    let detail = in_detail(input, refusal, detail);
     let detail = detail.map(|detail| format!("; {detail}")).unwrap_or_default();
     format!("{refusal}{}{detail}", input.hint(refusal))
+}
+
+/// The detail that is given; else what the input alone shows: of rules up to 9 it is a vocabulary, and of 14 a script.
+/// None is needed where the input is hinted at as another.
+fn in_detail(input: &Input, refusal: Refusal, detail: Option<&str>) -> Option<String> {
+    match (detail, refusal.rule) {
+        _ if !input.hint(refusal).is_empty() => None,
+        (Some(detail), _) => Some(detail.to_string()),
+        (None, Rule::ScriptHeader) => why::detail(&[], &input.bytes, refusal),
+        (None, rule) if rule.number() <= 9 => why::vocabulary_detail(&input.bytes, refusal),
+        _ => None,
+    }
+}
+
+/// The same as programs read it.
+pub fn detail_json(input: &Input, refusal: Refusal, detail: Option<&str>) -> Option<(&'static str, Json)> {
+    in_detail(input, refusal, detail).map(|detail| ("detail", Json::from(detail)))
 }
 
 /// The refusal of an input, at its line where it was a text.
@@ -16,7 +35,13 @@ pub fn report(style: Style, input: &Input, refusal: Refusal, detail: Option<&str
     at(style, input, input.place_of(refusal), refusal, detail)
 }
 
-/// The same at a given line and column of its text.
+/// The refusal of a vocabulary, or of a number that was asked about in it (10).
+pub fn of_vocabulary(style: Style, input: &Input, refusal: Refusal) -> Report {
+    let detail = why::vocabulary_detail(&input.bytes, refusal);
+    report(style, input, refusal, detail.as_deref())
+}
+
+/// The refusal of an input, at a given line and column of its text.
 pub fn at(
     style: Style,
     input: &Input,
@@ -26,6 +51,7 @@ pub fn at(
 ) -> Report {
     let status = refusal_status(refusal);
     let words = words(input, refusal, detail);
+    let detail = detail_json(input, refusal, detail);
     let painted = words.replacen("refused", &style.paint(status, "refused"), 1);
     let text = format!("{}: {painted}\n", input.at(place));
     let mut json = vec![
@@ -36,6 +62,6 @@ pub fn at(
     if let Some((line, column)) = place {
         json.extend([("line", Json::from(line)), ("column", Json::from(column))]);
     }
-    json.extend(detail.map(|detail| ("detail", Json::from(detail))));
+    json.extend(detail);
     Report::new(status, text, json)
 }

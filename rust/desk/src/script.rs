@@ -26,7 +26,7 @@ pub fn bytes(words: &Words) -> impl Iterator<Item = u8> + '_ {
     words.iter().flat_map(|word| word.to_le_bytes())
 }
 
-/// What a record of a kind that the paper knows says.
+/// What a record says whose kind is one of docs/FORMATS.md, section 5.
 #[derive(Clone, Copy, Debug, PartialEq, Eq)]
 pub enum Entry {
     /// Kind 1: the constant a.

@@ -195,6 +195,7 @@ fn damaged_inputs_get_json_and_never_a_panic() {
     let vocabulary = include_bytes!("../../../examples/v.vocabulary");
     let script = include_bytes!("../../../examples/four-within-three.script");
     let path = concat!(env!("CARGO_MANIFEST_DIR"), "/../../examples/v.vocabulary");
+    let output = concat!(env!("CARGO_TARGET_TMPDIR"), "/assembled").to_string();
     let mut seed = 0x2545_f491_u32;
     for case in 0..150 {
         let mut random = |bound: usize| {
@@ -220,8 +221,10 @@ fn damaged_inputs_get_json_and_never_a_panic() {
         assert!(says_json(&name, &bytes, &["record"], &[&number]));
         assert!(says_json(&name, &bytes, &["compare"], &[&number, "3"]));
         assert!(says_json(&name, &bytes, &["verify", path], &[]));
+        assert!(says_json(&name, &bytes, &["within"], &[&number, "3"]));
+        assert!(says_json(&name, &bytes, &["columns"], &[&number]));
         assert!(says_json(&name, &bytes, &["recheck"], &[]));
-        assert!(says_json(&name, &bytes, &["assemble", "-o", "/dev/null"], &[]));
+        assert!(says_json(&name, &bytes, &["assemble", "-o", &output], &[]));
         std::fs::remove_file(PathBuf::from(env!("CARGO_TARGET_TMPDIR")).join(name)).unwrap();
     }
 }

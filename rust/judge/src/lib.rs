@@ -1,9 +1,10 @@
 //! The duty vocabulary judge from Rust: a safe wrapper of the four calls of libjudge.a.
 //!
 //! Every call takes slices of any content and length, and answers or refuses: none panics, none needs a
-//! condition. What an answer means is proved of the library; this wrapper takes its numbers apart (tested,
-//! not proved). A borrowed buffer cannot overlap a vocabulary, so what include/judge.h asks of pointers
-//! holds by itself. A call runs on the caller's stack: [`STACK_BYTES`] are enough.
+//! condition. What an answer means (docs/FORMATS.md) is proved of the library; this wrapper takes its
+//! numbers apart (tested, not proved). A borrowed buffer cannot overlap a vocabulary, so what
+//! include/judge.h asks of pointers holds by itself. A call runs on the caller's stack: [`STACK_BYTES`] are
+//! enough.
 //!
 //! ```
 //! let vocabulary = [16, 1, 0, 0, 0, 0, 0, 0, 3, 0, 7, 0, 0, 0, 0, 0]; // a header and a name

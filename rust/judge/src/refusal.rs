@@ -1,4 +1,4 @@
-//! Refusals: the table of paper 01.
+//! Refusals: the table of docs/FORMATS.md, section 6.
 
 use std::fmt;
 
@@ -103,7 +103,8 @@ const fn row(rule: Rule, place: Place, condition: &'static str, words: &'static 
     }
 }
 
-/// The table, in the order of the numbers: the paper's condition, and a sentence, which include/judge.h has too.
+/// The table, in the order of the numbers: the condition, in the words of docs/FORMATS.md, and a sentence, which
+/// include/judge.h has too.
 #[rustfmt::skip]
 const TABLE: [Row; 25] = [
     row(Rule::VocabularyLength, Whole, "under 8, over 4,096 or no multiple of 8",

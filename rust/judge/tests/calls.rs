@@ -5,7 +5,7 @@
 use judge::{Comparison, Refusal, Verdict, SURVIVOR_BYTES};
 use std::fmt::Write;
 
-/// Sample V of the paper: names 1, 2, 3; 4 = 1 and 2; 5: 4 within 3.
+/// Sample V of docs/FORMATS.md, section 10: names 1, 2, 3; 4 = 1 and 2; 5: 4 within 3.
 const V: &[u8] = include_bytes!("../../../examples/v.vocabulary");
 
 #[test]

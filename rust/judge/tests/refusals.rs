@@ -4,7 +4,7 @@
 
 use judge::{Place, Refusal, Rule};
 
-/// The table of paper 01 in words, as a refusal is printed.
+/// The table of docs/FORMATS.md in words, as a refusal is printed.
 const PRINTED: [&str; 25] = [
     "refused, 1: the vocabulary's length is under 8, over 4,096 or no multiple of 8",
     "refused, 2: the vocabulary's header has a wrong kind, second byte, role count or next",

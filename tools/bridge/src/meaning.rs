@@ -1,4 +1,5 @@
-//! The interpretation that a comparison writes, read back as paper 01 says, and the terms' meaning in it.
+//! The interpretation that a comparison writes, read back as docs/FORMATS.md, section 3, says, and the
+//! terms' meaning in it.
 //!
 //! This uses nothing of the library but the bytes it wrote, so that it settles whether a Different is right.
 

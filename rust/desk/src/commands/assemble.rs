@@ -8,9 +8,11 @@ use crate::input;
 use crate::json::Json;
 use crate::refused;
 use crate::report::{Report, Stop};
+use crate::streams;
 use crate::text::Kind;
 use base::arguments::{Arguments, Flag};
 use base::{Failure, Status};
+use std::path::Path;
 
 /// The options.
 pub const FLAGS: &[Flag] = &[Flag::valued("--output").letter('o'), Flag::switch("--force")];
@@ -20,6 +22,9 @@ pub fn run(arguments: &Arguments, console: &mut Console) -> Result<Status, Stop>
     let Some(output) = arguments.value("--output") else {
         return Err(Failure::usage("-o FILE is missing").into());
     };
+    if output == "-" && console.json {
+        return Err(Failure::usage("--json and '-o -' would both write to standard output").into());
+    }
     let (input, kind) = input::text(path, console.style)?;
     let refusal = match kind {
         Kind::Script => refused_script(&input.bytes),
@@ -28,7 +33,7 @@ pub fn run(arguments: &Arguments, console: &mut Console) -> Result<Status, Stop>
     if let Some(refusal) = refusal.filter(|_| !arguments.has("--force")) {
         return Ok(console.answer(refused::report(console.style, &input, refusal, None))?);
     }
-    if output == "-" {
+    if output == "-" || streams::is_output(Path::new(output)) {
         console.bytes(&input.bytes)?;
         return Ok(Status::Holds);
     }

@@ -2,16 +2,18 @@
 
 mod assemble;
 mod check;
+mod columns;
 mod compare;
 mod recheck;
 mod record;
 mod show;
 mod verify;
+mod within;
 
 use crate::console::{Colour, Console};
 use crate::files::Access;
 use crate::input::{self, Input};
-use crate::report::{Stop, Style};
+use crate::report::{Report, Stop, Style};
 use crate::text::vocabulary::Written;
 use base::arguments::{Arguments, Flag};
 use base::vocabulary::Vocabulary;
@@ -38,12 +40,14 @@ const fn command(
 }
 
 /// The commands, in the order of the help.
-const COMMANDS: [Command; 7] = [
+const COMMANDS: [Command; 9] = [
     command("check", &[], check::run),
     command("show", &[], show::run),
     command("record", &[], record::run),
     command("compare", compare::FLAGS, compare::run),
+    command("within", within::FLAGS, within::run),
     command("verify", verify::FLAGS, verify::run),
+    command("columns", columns::FLAGS, columns::run),
     command("assemble", assemble::FLAGS, assemble::run),
     command("recheck", &[], recheck::run),
 ];
@@ -81,6 +85,29 @@ pub fn run(command: &Command, words: Vec<OsString>, console: &mut Console) -> Re
     };
     *console = Console::new(command.name, arguments.has("--json"), arguments.has("--quiet"), colour);
     (command.run)(&arguments, console)
+}
+
+/// Answers about several files, one after the other; the greatest status. One that cannot be read does not keep the others
+/// from being answered about.
+fn each(
+    arguments: &Arguments,
+    name: &str,
+    console: &mut Console,
+    answer: impl Fn(&OsStr, Style) -> Result<Report, Stop>,
+) -> Result<Status, Stop> {
+    let mut greatest = Status::Holds;
+    for path in arguments.some_words(name)? {
+        let status = match answer(path, console.style) {
+            Ok(report) => console.answer(report)?,
+            Err(Stop::Answer(report)) => console.answer(*report)?,
+            Err(Stop::Failure(failure)) => console.fail(&failure, None),
+        };
+        greatest = greatest.max(status);
+        if console.is_gone() {
+            break;
+        }
+    }
+    Ok(greatest)
 }
 
 /// Reads a vocabulary, from its bytes or its text.

@@ -40,7 +40,7 @@ pub fn run(arguments: &Arguments, console: &mut Console) -> Result<Status, Stop>
         vocabulary: None,
     };
     let rows: Vec<(usize, &str)> = text.lines().enumerate().filter(|(_, line)| is_row(line)).collect();
-    let mut progress = Progress::new(rows.len());
+    let mut progress = Progress::new(rows.len(), console.quiet);
     let mut failing = Vec::new();
     for (i, (line, row)) in rows.iter().enumerate() {
         progress.show(i, failing.len());
@@ -249,11 +249,11 @@ struct Progress {
 }
 
 impl Progress {
-    fn new(total: usize) -> Progress {
+    fn new(total: usize, quiet: bool) -> Progress {
         Progress {
             total,
             drawn: None,
-            terminal: io::stderr().is_terminal() && !is_plain_terminal(),
+            terminal: !quiet && io::stderr().is_terminal() && !is_plain_terminal(),
         }
     }
 

@@ -1,6 +1,6 @@
 //! `desk show`.
 
-use super::refused_script;
+use super::{each, refused_script};
 use crate::console::Console;
 use crate::input::{self, Input};
 use crate::json::Json;
@@ -14,13 +14,10 @@ use base::Status;
 use judge::{Refusal, Rule};
 
 pub fn run(arguments: &Arguments, console: &mut Console) -> Result<Status, Stop> {
-    let mut status = Status::Holds;
-    for path in arguments.some_words("FILE")? {
-        let (input, kind) = input::either(path, console.style)?;
-        let report = show(console.style, &input, kind);
-        status = status.max(console.answer(report)?);
-    }
-    Ok(status)
+    each(arguments, "FILE", console, |path, style| {
+        let (input, kind) = input::either(path, style)?;
+        Ok(show(style, &input, kind))
+    })
 }
 
 fn show(style: Style, input: &Input, kind: Kind) -> Report {
@@ -56,6 +53,7 @@ fn shown(input: &Input, kind: Kind, verdict: &str, text: String, refusal: Option
         return Report::new(Status::Holds, text, json);
     };
     json.extend([("verdict", Json::from("refused")), ("refusal", refusal_json(refusal))]);
+    json.extend(refused::detail_json(input, refusal, None));
     Report {
         status: Status::Refused,
         text,

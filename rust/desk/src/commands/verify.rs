@@ -10,9 +10,10 @@ use crate::report::{Report, Stop, Style};
 use crate::script;
 use crate::text::vocabulary::Written;
 use crate::trace;
+use crate::why;
 use base::arguments::{Arguments, Flag};
 use base::Status;
-use judge::{Place, Refusal, Rule};
+use judge::{Place, Refusal};
 
 /// The options.
 pub const FLAGS: &[Flag] = &[WORDS, Flag::switch("--trace")];
@@ -24,29 +25,42 @@ pub fn run(arguments: &Arguments, console: &mut Console) -> Result<Status, Stop>
     let words = read_words(arguments, console.style)?;
     let written = written(&vocabulary, words.as_ref())?;
     let verdict = judge::check_script(&vocabulary.bytes, &script.bytes);
+    let trace = if arguments.has("--trace") {
+        trace::of(&written, &script, verdict)?
+    } else {
+        None
+    };
     let mut report = match verdict {
         Ok(steps) => accepted(console.style, &written, &script, steps),
         Err(refusal) if refusal.rule.number() <= 8 => refused::report(console.style, &vocabulary, refusal, None),
-        Err(refusal) => refused_script(console.style, &script, refusal),
+        Err(refusal) => refused_script(console.style, &vocabulary, &script, refusal, trace.is_some()),
     };
-    if arguments.has("--trace") {
-        if let Some(trace) = trace::of(&vocabulary.bytes, &script.bytes, verdict)? {
-            report.text.insert_str(0, &trace.text);
-            report.json.push(("trace", trace.json));
-        }
+    if let Some(trace) = trace {
+        report.text.insert_str(0, &trace.text);
+        report.json.push(("trace", trace.json));
     }
     Ok(console.answer(report)?)
 }
 
-/// The refusal of a script. It does not say for which vocabulary it is; what refers to records of another is refused.
-fn refused_script(style: Style, script: &Input, refusal: Refusal) -> Report {
+/// The refusal of a script, in detail, which a trace has said before. A script does not say for which vocabulary it is;
+/// what refers to records of another is refused.
+fn refused_script(style: Style, vocabulary: &Input, script: &Input, refusal: Refusal, traced: bool) -> Report {
     let place = match refusal.rule.place() {
         Place::Asked => script.line_of(0),
         _ => script.place_of(refusal),
     };
-    let foreign = matches!(refusal.rule, Rule::Query | Rule::Term | Rule::Step | Rule::Extension);
-    let detail = foreign.then_some("is it a script for this vocabulary?");
-    refused::at(style, script, place, refusal, detail)
+    let detail = why::detail(&vocabulary.bytes, &script.bytes, refusal);
+    let is_foreign = why::is_foreign(&vocabulary.bytes, &script.bytes, refusal);
+    let question = is_foreign.then_some("is it a script for this vocabulary?");
+    let whole = match (&detail, question) {
+        (Some(detail), Some(question)) => Some(format!("{detail}; {question}")),
+        _ => detail,
+    };
+    let mut report = refused::at(style, script, place, refusal, whole.as_deref());
+    if traced {
+        report.text = refused::at(style, script, place, refusal, question).text;
+    }
+    report
 }
 
 fn accepted(style: Style, written: &Written, script: &Input, steps: u32) -> Report {

@@ -1,17 +1,19 @@
 //! Reading and writing files, with a plain message for whatever is wrong.
 
+mod replace;
 mod write;
 
 pub use write::write;
 
 use crate::display::{grouped, plain};
+use crate::streams;
 use base::{Failure, Status};
 use std::ffi::OsStr;
 use std::fmt;
 use std::fs::{File, Metadata};
 use std::io::{self, ErrorKind, Read};
-use std::os::fd::AsFd;
 use std::os::unix::fs::MetadataExt;
+use std::path::Path;
 use std::sync::atomic::{AtomicBool, Ordering};
 
 /// The name of a file. Printed, it has no characters that a terminal would follow; `-` is standard input.
@@ -112,7 +114,7 @@ pub struct Opened {
     pub id: Option<FileId>,
     /// Its length, if it is a regular one.
     pub length: Option<u64>,
-    source: Box<dyn Read>,
+    source: File,
 }
 
 impl Read for Opened {
@@ -127,6 +129,10 @@ pub fn open(path: &OsStr, access: Access) -> Result<Opened, Failure> {
         return open_standard_input();
     }
     let name = Name::new(path);
+    // In place of a closed standard input there is /dev/null by now.
+    if streams::is_input(Path::new(path)) {
+        streams::input().map_err(|error| unreadable(&name, &error))?;
+    }
     // A named pipe would wait for a writer, so it is looked at before it is opened.
     if access == Access::Regular {
         let about = std::fs::metadata(path).map_err(|error| unreadable(&name, &error))?;
@@ -139,7 +145,7 @@ pub fn open(path: &OsStr, access: Access) -> Result<Opened, Failure> {
         name,
         id: FileId::of(&about),
         length: about.is_file().then_some(about.len()),
-        source: Box::new(file),
+        source: file,
     })
 }
 
@@ -161,13 +167,15 @@ fn open_standard_input() -> Result<Opened, Failure> {
     if TAKEN.swap(true, Ordering::Relaxed) {
         return Err(Failure::usage("'-', standard input, can be given just once"));
     }
-    let copy = io::stdin().as_fd().try_clone_to_owned().map(File::from);
-    let about = copy.and_then(|file| file.metadata()).ok();
+    let name = Name("-".to_string());
+    let file = streams::input().map_err(|error| unreadable(&name, &error))?;
+    let about = file.metadata().map_err(|error| unreadable(&name, &error))?;
+    check_sort(&name, &about, Access::Any)?;
     Ok(Opened {
-        name: Name("-".to_string()),
-        id: about.as_ref().and_then(FileId::of),
+        name,
+        id: FileId::of(&about),
         length: None,
-        source: Box::new(io::stdin()),
+        source: file,
     })
 }
 
@@ -226,7 +234,16 @@ pub fn unreadable(name: &Name, error: &io::Error) -> Failure {
         ErrorKind::NotFound => "there is no such file".to_string(),
         ErrorKind::PermissionDenied => "may not be read (permission denied)".to_string(),
         ErrorKind::IsADirectory => "is a directory, not a file".to_string(),
-        _ => format!("cannot be read ({error})"),
+        _ => format!("cannot be read ({})", reason(error)),
     };
     Failure::new(Status::NoInput, format!("{name}: {why}"))
+}
+
+/// An error of the system as a part of a sentence, without its number.
+pub fn reason(error: &io::Error) -> String {
+    let text = error.to_string();
+    let words = text.split_once(" (os error").map_or(text.as_str(), |(words, _)| words);
+    let mut letters = words.chars();
+    let first = letters.next().map(|letter| letter.to_ascii_lowercase());
+    first.into_iter().chain(letters).collect()
 }

@@ -1,9 +1,16 @@
 //! A place in a line of a text.
 
 use super::Line;
+use crate::display::{did_you_mean, plain};
+use base::spelling::nearest;
+
+/// The most faults of a line that are kept; more are mostly of one cause.
+const PER_LINE: usize = 2;
+/// The most characters of a word that a message quotes.
+const QUOTED: usize = 40;
 
 /// What is wrong with a text, and where.
-#[derive(Debug, PartialEq, Eq)]
+#[derive(Clone, Debug, PartialEq, Eq)]
 pub struct Fault {
     /// The line, from 1.
     pub line: usize,
@@ -24,6 +31,10 @@ impl Fault {
     }
 }
 
+/// A place in a line: how many bytes are left from there on. The column is found only where a fault is said.
+#[derive(Clone, Copy)]
+pub struct Here(usize);
+
 /// A line, and how far it has been read.
 #[derive(Clone)]
 pub struct Cursor<'a> {
@@ -31,6 +42,8 @@ pub struct Cursor<'a> {
     line: &'a str,
     rest: &'a str,
     comment: &'a str,
+    faults: Vec<Fault>,
+    guessed: bool,
 }
 
 impl<'a> Cursor<'a> {
@@ -42,6 +55,8 @@ impl<'a> Cursor<'a> {
             line,
             rest: line.trim(),
             comment: comment.trim(),
+            faults: Vec::new(),
+            guessed: false,
         }
     }
 
@@ -65,11 +80,59 @@ impl<'a> Cursor<'a> {
         self.rest.chars().next()
     }
 
+    /// This place.
+    pub fn here(&self) -> Here {
+        Here(self.rest.len())
+    }
+
     /// A fault here.
     pub fn fault(&self, message: &str) -> Fault {
-        let before = self.line.trim_end().len() - self.rest.len().min(self.line.trim_end().len());
-        let column = self.line.get(..before).unwrap_or_default().chars().count() + 1;
-        Fault::at(self.number, column, message)
+        self.fault_at(self.here(), message)
+    }
+
+    /// A fault at a place of the line.
+    pub fn fault_at(&self, Here(left): Here, message: &str) -> Fault {
+        let whole = self.line.trim_end();
+        let before = whole.get(..whole.len().saturating_sub(left)).unwrap_or_default();
+        Fault::at(self.number, before.chars().count() + 1, message)
+    }
+
+    /// Notes a fault after which the line can be read on. At most one is kept for a place.
+    pub fn note(&mut self, place: Here, message: &str) {
+        if self.faults.len() < PER_LINE {
+            self.keep(self.fault_at(place, message));
+        }
+    }
+
+    /// Notes a fault after which the line is read on by a guess at what was meant.
+    pub fn note_guess(&mut self, place: Here, message: &str) {
+        self.guessed = true;
+        self.note(place, message);
+    }
+
+    /// Notes a fault that ends the reading of the line, unless it may come from a guess.
+    pub fn stop(&mut self, fault: Fault) {
+        if !self.guessed {
+            self.keep(fault);
+        }
+    }
+
+    fn keep(&mut self, fault: Fault) {
+        let is_new = self.faults.iter().all(|kept| kept.column != fault.column);
+        if is_new && self.faults.len() < PER_LINE {
+            self.faults.push(fault);
+        }
+    }
+
+    /// Whether the line was read on by a guess.
+    pub fn is_guessed(&self) -> bool {
+        self.guessed
+    }
+
+    /// The faults that were noted, by column.
+    pub fn into_faults(mut self) -> Vec<Fault> {
+        self.faults.sort_by_key(|fault| fault.column);
+        self.faults
     }
 
     /// Moves past so many bytes and the blanks that follow.
@@ -77,13 +140,39 @@ impl<'a> Cursor<'a> {
         self.rest = self.rest.get(bytes..).unwrap_or_default().trim_start();
     }
 
+    /// The bytes from here up to the first character that is not of the kind.
+    fn run(&self, is_of_kind: impl Fn(char) -> bool) -> &'a str {
+        let end = self.rest.find(|c| !is_of_kind(c)).unwrap_or(self.rest.len());
+        self.rest.get(..end).unwrap_or_default()
+    }
+
     /// The word that stands here: letters, digits and colons within it, as in `owl:Thing`.
     fn word(&self) -> &'a str {
-        let end = self
-            .rest
-            .find(|c: char| !c.is_ascii_alphanumeric() && c != ':')
-            .unwrap_or(self.rest.len());
-        self.rest.get(..end).unwrap_or_default()
+        self.run(|c| c.is_ascii_alphanumeric() || c == ':')
+    }
+
+    /// What stands here as a word, be it misspelt: all up to a blank or a parenthesis.
+    fn written(&self) -> &'a str {
+        self.run(|c| !c.is_whitespace() && c != '(' && c != ')')
+    }
+
+    /// Moves past what stands here as a word.
+    pub fn skip_word(&mut self) {
+        self.advance(self.written().len());
+    }
+
+    /// Moves past digits.
+    pub fn skip_digits(&mut self) {
+        self.advance(self.run(|c| c.is_ascii_digit()).len());
+    }
+
+    /// Moves past this character if it stands here.
+    pub fn skip(&mut self, symbol: char) -> bool {
+        let here = self.peek() == Some(symbol);
+        if here {
+            self.advance(symbol.len_utf8());
+        }
+        here
     }
 
     /// Whether this word stands here; it is taken.
@@ -95,47 +184,71 @@ impl<'a> Cursor<'a> {
         here
     }
 
-    /// Takes this word, or says that it is missing.
-    pub fn expect(&mut self, word: &str) -> Result<(), Fault> {
-        if self.keyword(word) {
-            Ok(())
-        } else {
-            Err(self.fault(&format!("'{word}' is expected here")))
+    /// Takes one of these words, or says that none stands here. A misspelt word counts as the one that it clearly means,
+    /// and is noted.
+    pub fn choose<'w>(&mut self, words: &[&'w str], expected: &str) -> Result<&'w str, Fault> {
+        if let Some(word) = words.iter().find(|word| self.keyword(word)) {
+            return Ok(word);
         }
+        let written = self.written();
+        let (place, meant) = (self.here(), meant(written, words));
+        let Some((meant, is_clear)) = meant else {
+            return Err(self.fault(expected));
+        };
+        if !is_clear {
+            return Err(self.fault(&misspelt(written, meant)));
+        }
+        self.note_guess(place, &misspelt(written, meant));
+        self.skip_word();
+        Ok(meant)
     }
 
-    /// Takes this character, or says that it is missing.
+    /// Takes this word, or says that it is missing.
+    pub fn expect(&mut self, word: &str) -> Result<(), Fault> {
+        self.choose(&[word], &format!("'{word}' is expected here")).map(|_| ())
+    }
+
+    /// Takes this character, or says that it is missing. A parenthesis that is left open at the end of the line is noted.
     pub fn symbol(&mut self, symbol: char) -> Result<(), Fault> {
-        if self.peek() != Some(symbol) {
-            return Err(self.fault(&format!("'{symbol}' is expected here")));
+        if self.skip(symbol) {
+            return Ok(());
         }
-        self.advance(symbol.len_utf8());
+        let message = format!("'{symbol}' is expected here");
+        if symbol != ')' || !self.at_end() {
+            return Err(self.fault(&message));
+        }
+        self.note(self.here(), &message);
         Ok(())
     }
 
     /// Takes a number of 16 bits, without leading zeros.
     pub fn number(&mut self) -> Result<u16, Fault> {
-        let end = self.rest.find(|c: char| !c.is_ascii_digit()).unwrap_or(self.rest.len());
-        let digits = self.rest.get(..end).unwrap_or_default();
+        let digits = self.run(|c| c.is_ascii_digit());
         let plain = digits == "0" || !digits.starts_with('0');
         let Some(number) = digits.parse::<u16>().ok().filter(|_| plain) else {
             return Err(self.fault("a number from 0 to 65535 is expected here, without leading zeros"));
         };
-        self.advance(end);
+        self.advance(digits.len());
         Ok(number)
     }
 
+    /// Whether a number with this letter before it stands here, be the letter of the wrong case.
+    pub fn is_lettered(&self, letter: char) -> bool {
+        let mut next = self.rest.chars();
+        next.next().is_some_and(|first| first.eq_ignore_ascii_case(&letter))
+            && next.next().is_some_and(|second| second.is_ascii_digit())
+    }
+
     /// Takes a number with a letter before it, as in `c7`.
-    pub fn lettered(&mut self, letter: char, what: &str) -> Result<u16, Fault> {
-        let fault = self.fault(&format!("{what} is expected here"));
-        let Some(rest) = self
-            .rest
-            .strip_prefix(letter)
-            .filter(|rest| rest.starts_with(|c: char| c.is_ascii_digit()))
-        else {
-            return Err(fault);
-        };
-        self.rest = rest;
+    pub fn lettered(&mut self, letter: char, expected: &str) -> Result<u16, Fault> {
+        if !self.is_lettered(letter) {
+            return Err(self.fault(expected));
+        }
+        if self.peek() != Some(letter) {
+            let word = self.word();
+            self.note_guess(self.here(), &misspelt(word, &word.to_ascii_lowercase()));
+        }
+        self.rest = self.rest.get(letter.len_utf8()..).unwrap_or_default();
         self.number()
     }
 
@@ -152,4 +265,29 @@ impl<'a> Cursor<'a> {
             Err(self.fault("nothing more is expected on this line"))
         }
     }
+}
+
+/// The word of these that a misspelt one may mean, and whether no other is as near. A word of one letter is meant only by
+/// that letter, doubled or of the wrong case: any two letters are near each other.
+fn meant<'w>(written: &str, words: &[&'w str]) -> Option<(&'w str, bool)> {
+    let may_be_meant = |word: &&str| word.len() > 1 || written.chars().all(|c| word.contains(c.to_ascii_lowercase()));
+    let words = words.iter().copied().filter(may_be_meant);
+    let first = nearest(written, words.clone())?;
+    Some((first, nearest(written, words.rev()) == Some(first)))
+}
+
+/// What is said of a misspelt word.
+fn misspelt(written: &str, meant: &str) -> String {
+    format!(
+        "{} is not expected here{}",
+        quoted(written),
+        did_you_mean(written, [meant])
+    )
+}
+
+/// A word of a text in quotation marks, cut where it is long.
+pub fn quoted(word: &str) -> String {
+    let cut: String = word.chars().take(QUOTED).collect();
+    let more = if cut.len() < word.len() { ".." } else { "" };
+    format!("'{}{more}'", plain(&cut))
 }

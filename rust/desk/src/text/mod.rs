@@ -2,6 +2,8 @@
 //! (docs/DESK.md).
 
 pub mod cursor;
+mod records;
+mod said;
 pub mod script;
 #[cfg(test)]
 mod tests;
@@ -11,10 +13,6 @@ use cursor::{Cursor, Fault};
 
 /// The most bytes of a text; no vocabulary or script needs as many.
 pub const TEXT_BYTES: usize = 1 << 20;
-/// The greatest number of a record.
-const RECORDS: usize = 65_535;
-/// The deepest nesting of a term that is written out.
-const NESTING: usize = 16;
 /// The longest text of a term that is written out in another; a longer one is named by its record.
 const WRITTEN_OUT: usize = 60;
 
@@ -66,109 +64,53 @@ pub fn assemble(text: &str) -> Result<Assembled, Vec<Fault>> {
         let message = "the text is empty; its first line begins with 'vocabulary' or 'script'";
         return Err(vec![Fault::at(1, 1, message)]);
     };
-    let (kind, bytes) = if header.keyword(Kind::Vocabulary.word()) {
-        (Kind::Vocabulary, vocabulary::read(header, cursors))
-    } else if header.keyword(Kind::Script.word()) {
-        (Kind::Script, script::read(header, cursors))
-    } else {
-        return Err(vec![header.fault("a text begins with 'vocabulary' or 'script'")]);
-    };
+    let kind = read_kind(&mut header).map_err(|fault| vec![fault])?;
+    let bytes = match kind {
+        Kind::Vocabulary => vocabulary::read(header, cursors),
+        Kind::Script => script::read(header, cursors),
+    }?;
     Ok(Assembled {
         kind,
-        bytes: bytes.map_err(|fault| vec![fault])?,
+        bytes,
         lines: lines(text).map(|line| line.place()).collect(),
     })
+}
+
+/// Takes the first word of a text, which says what it is of. Where it is no such word, what follows it may say that.
+fn read_kind(header: &mut Cursor) -> Result<Kind, Fault> {
+    let (vocabulary, script) = (Kind::Vocabulary.word(), Kind::Script.word());
+    let place = header.here();
+    match header.choose(&[vocabulary, script], "a text begins with 'vocabulary' or 'script'") {
+        Ok(word) if word == vocabulary => Ok(Kind::Vocabulary),
+        Ok(_) => Ok(Kind::Script),
+        Err(fault) => {
+            header.note_guess(place, &fault.message);
+            let first = kind_by_header(header);
+            first
+                .or_else(|| {
+                    header.skip_word();
+                    kind_by_header(header)
+                })
+                .ok_or(fault)
+        }
+    }
+}
+
+/// The kind of a text by what stands in its header after the first word.
+fn kind_by_header(header: &Cursor) -> Option<Kind> {
+    if header.clone().keyword("roles") {
+        Some(Kind::Vocabulary)
+    } else if header.is_lettered('#') {
+        Some(Kind::Script)
+    } else {
+        None
+    }
 }
 
 /// The lines that say something, one for each record.
 fn lines(text: &str) -> impl Iterator<Item = Cursor<'_>> {
     let all = text.lines().enumerate().map(|(i, line)| Cursor::new(i + 1, line));
     all.filter(|line| !line.at_end())
-}
-
-/// Takes the record number that a line may begin with, which has to be its own.
-fn own_number(line: &mut Cursor, number: usize) -> Result<(), Fault> {
-    if number > RECORDS {
-        return Err(line.fault("this is one record too many; their numbers end at 65535"));
-    }
-    if !line.peek().is_some_and(|next| next.is_ascii_digit()) {
-        return Ok(());
-    }
-    let fault = line.fault(&format!("this line is record {number}"));
-    let written = line.number()?;
-    line.symbol(':')?;
-    if usize::from(written) == number {
-        Ok(())
-    } else {
-        Err(fault)
-    }
-}
-
-/// A record as it was read: whether it is on the chain, and the link where one is written.
-struct Linked<T> {
-    record: T,
-    on: bool,
-    link: Option<u16>,
-}
-
-/// The link of each record: the one that is written, else the next record on the chain, and 0 for one off it.
-fn links<T>(read: &[Linked<T>]) -> Vec<u16> {
-    let on: Vec<bool> = read.iter().map(|linked| linked.on).collect();
-    let link = |(number, linked): (usize, &Linked<T>)| match linked.link {
-        Some(link) => link,
-        None if linked.on || number == 0 => base::chain::default_link(&on, number),
-        None => 0,
-    };
-    read.iter().enumerate().map(link).collect()
-}
-
-/// The records of a text whose header is read: `read` takes a line, with the records before it, and `set` gives the record
-/// of a number its link. A record that is not linked, as a term, keeps what is written.
-fn read_records<'a, T: Copy>(
-    header: Linked<T>,
-    lines: impl Iterator<Item = Cursor<'a>>,
-    read: impl Fn(&mut Cursor, &[T]) -> Result<Linked<T>, Fault>,
-    set: impl Fn(&mut T, usize, u16),
-) -> Result<Vec<T>, Fault> {
-    let mut records = vec![header.record];
-    let mut all = vec![header];
-    for mut line in lines {
-        own_number(&mut line, all.len())?;
-        let linked = read(&mut line, &records)?;
-        line.end()?;
-        records.push(linked.record);
-        all.push(linked);
-    }
-    for (number, link) in links(&all).into_iter().enumerate() {
-        let is_linked = number == 0 || all.get(number).is_some_and(|linked| linked.on || linked.link.is_some());
-        if let Some(record) = records.get_mut(number).filter(|_| is_linked) {
-            set(record, number, link);
-        }
-    }
-    Ok(records)
-}
-
-/// The record that a line refers to: by its number, as `example`, or by what an earlier record says, which `read` takes.
-fn reference<T: PartialEq>(
-    line: &mut Cursor,
-    before: &[T],
-    nesting: usize,
-    example: &str,
-    read: impl Fn(&mut Cursor) -> Result<T, Fault>,
-) -> Result<u16, Fault> {
-    if line.peek() == Some('#') {
-        return line.lettered('#', &format!("a record, as {example},"));
-    }
-    if nesting > NESTING {
-        let message = format!("terms are nested too deep here; name one by its record, as {example}");
-        return Err(line.fault(&message));
-    }
-    let fault = line.fault(&format!(
-        "no earlier line says this term; give it a line of its own before, or name a record, as {example}"
-    ));
-    let said = read(line)?;
-    let found = find(before, &said).and_then(|number| u16::try_from(number).ok());
-    found.ok_or(fault)
 }
 
 /// The first record after the header that is equal to this.

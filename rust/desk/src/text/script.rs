@@ -1,7 +1,9 @@
 //! Scripts as text.
 
 use super::cursor::{Cursor, Fault};
-use super::{find, link_words, linked_line, read_records, reference, whole, Linked, WRITTEN_OUT};
+use super::records::{read_link, Form, Linked, Unread};
+use super::said::{Said, Says, Term};
+use super::{find, link_words, linked_line, whole, WRITTEN_OUT};
 use crate::script::{bytes, chained, Entry, Extension, Words, HEADER_WORD};
 use base::chain::default_link;
 
@@ -52,6 +54,14 @@ impl Written {
     /// A term, written out where it is short and else named by its record.
     pub fn named(&self, term: u16) -> String {
         self.term(usize::MAX, term)
+    }
+
+    /// The function and the inner term of a record, if it says them.
+    pub fn function(&self, term: u16) -> Option<(u16, u16)> {
+        match Entry::read(self.get(usize::from(term)))? {
+            Entry::Function(function, inner) => Some((function, inner)),
+            _ => None,
+        }
     }
 
     /// A function of a term record, where no record need say it.
@@ -120,126 +130,158 @@ fn raw(words: Words) -> String {
     format!("raw {}", words.join(" "))
 }
 
+/// The words that a line begins with.
+const WORDS: [&str; 6] = ["raw", "off", "start", "extend", "reduce", "a"];
+/// What is said of a line that begins with none of them.
+const NO_RECORD: &str = "a term (a, f7(a), ..) or a step (start, extend, reduce) is expected here";
+/// What is said where no term stands.
+const NO_TERM: &str = "a term (a, f7(a), #2, ..) is expected here";
+/// The kind of the constant.
+const CONSTANT: u8 = 1;
+/// The kind of functions.
+const FUNCTION: u8 = 2;
+
 /// The bytes of a script's text, of whose header the first word is taken.
-pub fn read<'a>(header: Cursor<'a>, lines: impl Iterator<Item = Cursor<'a>>) -> Result<Vec<u8>, Fault> {
-    let set_link = |[_, _, _, first, .., next]: &mut Words, number: usize, link: u16| match number {
-        0 => *first = link,
-        _ => *next = link,
+pub fn read<'a>(header: Cursor<'a>, lines: impl Iterator<Item = Cursor<'a>>) -> Result<Vec<u8>, Vec<Fault>> {
+    let form = Form {
+        header: |line| read_header(line).map_err(Unread::no_term),
+        record: read_record,
+        set_link: |[_, _, _, first, .., next]: &mut Words, number, link| match number {
+            0 => *first = link,
+            _ => *next = link,
+        },
     };
-    let records = read_records(read_header(header)?, lines, read_record, set_link)?;
+    let records = form.read(header, lines)?;
     Ok(records.iter().flat_map(bytes).collect())
 }
 
-fn read_header(mut line: Cursor) -> Result<Linked<Words>, Fault> {
-    let linked = if line.keyword("raw") {
-        let record = read_raw(&mut line)?;
-        let [_, _, _, first, ..] = record;
-        Linked {
-            record,
-            on: false,
-            link: Some(first),
-        }
-    } else {
-        let a = line.lettered('#', "a term of the vocabulary, as #4,")?;
+fn read_header(line: &mut Cursor) -> Result<Linked<Words>, Fault> {
+    let expected = "a term of the vocabulary, as #4, is expected here";
+    let (record, link) = if line.peek() == Some('#') {
+        let a = line.lettered('#', expected)?;
         line.expect("within")?;
-        let b = line.lettered('#', "a term of the vocabulary, as #3,")?;
-        let link = if line.keyword("first") {
-            Some(line.number()?)
-        } else {
-            None
-        };
-        Linked {
-            record: [HEADER_WORD, a, b, 0, 0, 0, 0, 0],
-            on: false,
-            link,
-        }
+        let b = line.lettered('#', "a term of the vocabulary, as #3, is expected here")?;
+        ([HEADER_WORD, a, b, 0, 0, 0, 0, 0], read_link(line, "first")?)
+    } else {
+        line.choose(&["raw"], expected)?;
+        let record = read_raw(line)?;
+        let [_, _, _, first, ..] = record;
+        (record, Some(first))
     };
-    line.end()?;
-    Ok(linked)
+    Ok(Linked {
+        link,
+        ..Linked::unchained(record, Says::Nothing)
+    })
 }
 
 /// A record by its words; the word `raw` is taken.
 fn read_raw(line: &mut Cursor) -> Result<Words, Fault> {
-    let fault = line.fault("eight numbers are expected here");
-    Words::try_from(line.numbers(8)?).map_err(|_| fault)
+    let place = line.here();
+    let words = Words::try_from(line.numbers(8)?);
+    words.map_err(|_| line.fault_at(place, "eight numbers are expected here"))
 }
 
-/// A record; `before` are those before it.
-fn read_record(line: &mut Cursor, before: &[Words]) -> Result<Linked<Words>, Fault> {
-    if line.keyword("raw") {
-        return Ok(Linked {
-            record: read_raw(line)?,
-            on: false,
-            link: None,
-        });
+/// A record; `said` is what the lines before it say.
+fn read_record(line: &mut Cursor, said: &Said) -> Result<Linked<Words>, Unread> {
+    if line.is_lettered('f') {
+        return read_whole_function(line, said);
     }
-    let off = line.keyword("off");
-    let entry = if let Some(step) = read_step(line, before)? {
-        step
-    } else if off {
-        return Err(line.fault("a step is expected here: start, extend or reduce"));
-    } else {
-        return Ok(Linked {
-            record: read_term(line, before, 1)?.words(0),
-            on: false,
-            link: None,
-        });
+    match line.choose(&WORDS, NO_RECORD)? {
+        "raw" => {
+            let record = read_raw(line)?;
+            Ok(Linked::unchained(record, raw_says(record)))
+        }
+        "a" => Ok(term_record(Term::new(CONSTANT, 0, 0))),
+        "off" => {
+            let steps = ["start", "extend", "reduce"];
+            let word = line.choose(&steps, "a step is expected here: start, extend or reduce")?;
+            read_step(line, said, word, false).map_err(Unread::no_term)
+        }
+        word => read_step(line, said, word, true).map_err(Unread::no_term),
+    }
+}
+
+/// A function as a line of its own.
+fn read_whole_function(line: &mut Cursor, said: &Said) -> Result<Linked<Words>, Unread> {
+    let says = Says::Term(Term::of_kind(FUNCTION));
+    let term = read_function(line, said, 1).map_err(|fault| Unread { fault, says })?;
+    Ok(term_record(term))
+}
+
+/// The record of a term.
+fn term_record(term: Term) -> Linked<Words> {
+    let (a, b) = term.numbers();
+    Linked::unchained([term.kind.into(), a, b, 0, 0, 0, 0, 0], Says::Term(term))
+}
+
+/// What a record says that is given by its words.
+fn raw_says(words: Words) -> Says {
+    match words {
+        [kind, a, b, 0, 0, 0, 0, 0] => {
+            u8::try_from(kind).map_or(Says::Nothing, |kind| Says::Term(Term::new(kind, a, b)))
+        }
+        _ => Says::Nothing,
+    }
+}
+
+/// A step; its word is taken.
+fn read_step(line: &mut Cursor, said: &Said, word: &str, on: bool) -> Result<Linked<Words>, Fault> {
+    let entry = match word {
+        "start" => Entry::Start(line.number()?),
+        "reduce" => Entry::Reduce(line.number()?),
+        _ => Entry::Extend(read_extension(line, said)?),
     };
-    let link = if line.keyword("next") {
-        Some(line.number()?)
-    } else {
-        None
-    };
+    let link = read_link(line, "next")?;
     Ok(Linked {
         record: entry.words(link.unwrap_or(0)),
-        on: !off,
+        on,
         link,
+        says: Says::Nothing,
     })
 }
 
-/// The step that stands here, if one does.
-fn read_step(line: &mut Cursor, before: &[Words]) -> Result<Option<Entry>, Fault> {
-    if line.keyword("start") {
-        Ok(Some(Entry::Start(line.number()?)))
-    } else if line.keyword("reduce") {
-        Ok(Some(Entry::Reduce(line.number()?)))
-    } else if line.keyword("extend") {
-        line.expect("owner")?;
-        let owner = line.number()?;
-        line.expect("column")?;
-        let column = line.number()?;
-        line.expect("x")?;
-        let x = term(line, before, 1)?;
-        let y = if line.keyword("y") { term(line, before, 1)? } else { 0 };
+/// An extension; its word is taken.
+fn read_extension(line: &mut Cursor, said: &Said) -> Result<Extension, Fault> {
+    line.expect("owner")?;
+    let owner = line.number()?;
+    line.expect("column")?;
+    let column = line.number()?;
+    line.expect("x")?;
+    let x = term(line, said, 1)?;
+    let mut y = Some(0);
+    if line.choose(&["y", "at"], "'y' or 'at' is expected here")? == "y" {
+        y = term(line, said, 1)?;
         line.expect("at")?;
-        let position = line.number()?;
-        Ok(Some(Entry::Extend(Extension {
-            owner,
-            column,
-            x,
-            y,
-            position,
-        })))
-    } else {
-        Ok(None)
     }
+    Ok(Extension {
+        owner,
+        column,
+        x: x.unwrap_or(0),
+        y: y.unwrap_or(0),
+        position: line.number()?,
+    })
 }
 
-/// The term that stands here, at this nesting.
-fn read_term(line: &mut Cursor, before: &[Words], nesting: usize) -> Result<Entry, Fault> {
-    if line.keyword("a") {
-        return Ok(Entry::Constant);
-    }
-    let function = line.lettered('f', "a term (a, f7(a), ..) or a step (start, extend, reduce)")?;
+/// The function that stands here, at this nesting.
+fn read_function(line: &mut Cursor, said: &Said, nesting: usize) -> Result<Term, Fault> {
+    let function = line.lettered('f', NO_TERM)?;
     line.symbol('(')?;
-    let inner = term(line, before, nesting + 1)?;
+    let inner = term(line, said, nesting + 1)?;
     line.symbol(')')?;
-    Ok(Entry::Function(function, inner))
+    Ok(Term {
+        kind: FUNCTION,
+        a: Some(function),
+        b: inner,
+    })
 }
 
 /// The record of a term: `#2`, or a term that an earlier record says.
-fn term(line: &mut Cursor, before: &[Words], nesting: usize) -> Result<u16, Fault> {
-    reference(line, before, nesting, "#2", |line| {
-        Ok(read_term(line, before, nesting)?.words(0))
+fn term(line: &mut Cursor, said: &Said, nesting: usize) -> Result<Option<u16>, Fault> {
+    said.reference(line, nesting, "#2", |line| {
+        if line.is_lettered('f') {
+            return read_function(line, said, nesting);
+        }
+        line.choose(&["a"], NO_TERM)?;
+        Ok(Term::new(CONSTANT, 0, 0))
     })
 }

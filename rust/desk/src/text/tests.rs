@@ -2,6 +2,8 @@
 
 #![allow(clippy::unwrap_used, clippy::indexing_slicing, clippy::panic)]
 
+mod faults;
+
 use super::{cursor::Fault, script, vocabulary, Kind};
 use crate::script::read as read_script;
 use base::vocabulary::Vocabulary;
@@ -232,18 +234,21 @@ fn mutated(random: &mut Random, text: &str, other: &str) -> String {
     text
 }
 
-#[test]
-fn damaged_texts_are_assembled_to_a_fixed_point_or_not_at_all() {
+/// The texts of the stored cases that are not long.
+fn short_texts() -> Vec<String> {
     let short = |bytes: &&[u8]| bytes.len() <= 400;
     let vocabularies = vocabularies().into_iter().filter(|bytes| is_whole_vocabulary(bytes));
     let scripts = verdicts().into_iter().map(|(_, bytes)| bytes);
-    let mut texts: Vec<String> = vocabularies.filter(short).map(|bytes| show(bytes, false)).collect();
-    texts.extend(
-        scripts
-            .filter(|bytes| is_whole_script(bytes))
-            .filter(short)
-            .map(|bytes| show(bytes, true)),
-    );
+    let scripts = scripts.filter(|bytes| is_whole_script(bytes));
+    let vocabularies = vocabularies.filter(short).map(|bytes| show(bytes, false));
+    vocabularies
+        .chain(scripts.filter(short).map(|bytes| show(bytes, true)))
+        .collect()
+}
+
+#[test]
+fn damaged_texts_are_assembled_to_a_fixed_point_or_not_at_all() {
+    let texts = short_texts();
     let mut random = Random(0x5eed);
     let mut assembled = 0;
     for _ in 0..20_000 {
@@ -258,13 +263,7 @@ fn damaged_texts_are_assembled_to_a_fixed_point_or_not_at_all() {
     assert!(assembled > 1_000, "{assembled} assembled");
 }
 
-/// The fault of a text.
-fn fault(text: &str) -> (usize, usize, String) {
-    let Fault { line, column, message } = assemble(text).unwrap_err().remove(0);
-    (line, column, message)
-}
-
-/// Texts with a fault: the text, the line and column of the fault, and what is said.
+/// Texts with one fault: the text, the line and column of the fault, and what is said.
 const FAULTY: [(&str, usize, usize, &str); 15] = [
     (
         "",
@@ -336,7 +335,11 @@ const FAULTY: [(&str, usize, usize, &str); 15] = [
 #[test]
 fn faults_are_said_with_line_and_column() {
     for (text, line, column, message) in FAULTY {
-        assert_eq!(fault(text), (line, column, message.to_string()), "{text}");
+        assert_eq!(
+            assemble(text).unwrap_err(),
+            [Fault::at(line, column, message)],
+            "{text}"
+        );
     }
 }
 

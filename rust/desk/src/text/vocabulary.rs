@@ -1,7 +1,9 @@
 //! Vocabularies as text, in OWL 2 functional syntax where a record has a form there.
 
 use super::cursor::{Cursor, Fault};
-use super::{find, link_words, linked_line, read_records, reference, whole, Linked, WRITTEN_OUT};
+use super::records::{read_link, Form, Linked, Unread};
+use super::said::{Said, Says, Term};
+use super::{find, link_words, linked_line, whole, WRITTEN_OUT};
 use crate::display::plain;
 use crate::json::Json;
 use base::chain::default_link;
@@ -54,8 +56,13 @@ impl Written {
         self.expression(number).filter(|text| text.len() <= WRITTEN_OUT)
     }
 
+    /// Whether people call some record something.
+    pub fn has_words(&self) -> bool {
+        self.words.iter().skip(1).any(|words| !words.is_empty())
+    }
+
     /// What people call a record.
-    fn words(&self, number: u16) -> Option<&str> {
+    pub fn words(&self, number: u16) -> Option<&str> {
         let words = self.words.get(usize::from(number)).map(String::as_str);
         words.filter(|words| !words.is_empty())
     }
@@ -141,138 +148,205 @@ fn raw(record: Record) -> String {
     )
 }
 
+/// What comes after the word of a term.
+#[derive(Clone, Copy)]
+enum Operands {
+    /// Nothing.
+    None,
+    /// A label, as the name `c7` has it.
+    Label,
+    /// A term in parentheses.
+    Term,
+    /// Two terms in parentheses.
+    Terms,
+    /// A role and a term in parentheses.
+    RoleAndTerm,
+}
+
+/// The words of terms. Of two that are as near to a misspelt word, the first is suggested.
+const TERMS: [&str; 7] = [
+    "owl:Nothing",
+    "owl:Thing",
+    "ObjectComplementOf",
+    "ObjectIntersectionOf",
+    "ObjectUnionOf",
+    "ObjectSomeValuesFrom",
+    "ObjectAllValuesFrom",
+];
+/// The other words that a line begins with.
+const OTHERS: [&str; 3] = ["raw", "off", "SubClassOf"];
+/// What is said of a line that begins with none of them.
+const NO_RECORD: &str =
+    "a term (c1, owl:Thing, ObjectUnionOf(..), ..) or a statement (SubClassOf(..)) is expected here";
+/// What is said where no term stands as an operand.
+const NO_TERM: &str = "a term (c1, #7, owl:Thing, ObjectUnionOf(..), ..) is expected here";
+
+/// The kind of a term by its word, and what comes after that. A name has no word.
+fn shape(word: &str) -> (u8, Operands) {
+    match word {
+        "owl:Thing" => (1, Operands::None),
+        "owl:Nothing" => (2, Operands::None),
+        "ObjectComplementOf" => (4, Operands::Term),
+        "ObjectIntersectionOf" => (5, Operands::Terms),
+        "ObjectUnionOf" => (6, Operands::Terms),
+        "ObjectSomeValuesFrom" => (7, Operands::RoleAndTerm),
+        "ObjectAllValuesFrom" => (8, Operands::RoleAndTerm),
+        _ => (3, Operands::Label),
+    }
+}
+
 /// The bytes of a vocabulary's text, of whose header the first word is taken.
-pub fn read<'a>(header: Cursor<'a>, lines: impl Iterator<Item = Cursor<'a>>) -> Result<Vec<u8>, Fault> {
-    let set_link = |record: &mut Record, number: usize, link: u16| match number {
-        0 => record.a = link,
-        _ => record.next = link,
+pub fn read<'a>(header: Cursor<'a>, lines: impl Iterator<Item = Cursor<'a>>) -> Result<Vec<u8>, Vec<Fault>> {
+    let form = Form {
+        header: |line| read_header(line).map_err(Unread::no_term),
+        record: read_record,
+        set_link: |record: &mut Record, number, link| match number {
+            0 => record.a = link,
+            _ => record.next = link,
+        },
     };
-    let records = read_records(read_header(header)?, lines, read_record, set_link)?;
+    let records = form.read(header, lines)?;
     Ok(records.into_iter().flat_map(Record::bytes).collect())
 }
 
-fn read_header(mut line: Cursor) -> Result<Linked<Record>, Fault> {
-    let linked = if line.keyword("raw") {
-        let record = read_raw(&mut line)?;
-        Linked {
-            record,
-            on: false,
-            link: Some(record.a),
-        }
+fn read_header(line: &mut Cursor) -> Result<Linked<Record>, Fault> {
+    let (record, link) = if line.choose(&["roles", "raw"], "'roles' is expected here")? == "raw" {
+        let record = read_raw(line)?;
+        (record, Some(record.a))
     } else {
-        line.expect("roles")?;
         let record = Record {
             kind: HEADER_KIND,
             second: EDITION,
             b: line.number()?,
             ..Record::default()
         };
-        Linked {
-            record,
-            on: false,
-            link: read_link(&mut line, "first")?,
-        }
+        (record, read_link(line, "first")?)
     };
-    line.end()?;
-    Ok(linked)
-}
-
-/// The link that may stand at the end of a line.
-fn read_link(line: &mut Cursor, word: &str) -> Result<Option<u16>, Fault> {
-    if line.keyword(word) {
-        line.number().map(Some)
-    } else {
-        Ok(None)
-    }
+    Ok(Linked {
+        link,
+        ..Linked::unchained(record, Says::Nothing)
+    })
 }
 
 /// A record by its fields; the word `raw` is taken.
 fn read_raw(line: &mut Cursor) -> Result<Record, Fault> {
-    let fault = line.fault("five numbers are expected here: kind and second byte, up to 255, A, B and next");
-    match line.numbers(5)?[..] {
-        [kind, second, a, b, next] => match (u8::try_from(kind), u8::try_from(second)) {
-            (Ok(kind), Ok(second)) => Ok(Record {
+    let place = line.here();
+    let numbers = line.numbers(5)?;
+    if let [kind, second, a, b, next] = numbers[..] {
+        if let (Ok(kind), Ok(second)) = (u8::try_from(kind), u8::try_from(second)) {
+            return Ok(Record {
                 kind,
                 second,
                 a,
                 b,
                 next,
-            }),
-            _ => Err(fault),
-        },
-        _ => Err(fault),
+            });
+        }
+    }
+    let message = "five numbers are expected here: kind and second byte, up to 255, A, B and next";
+    Err(line.fault_at(place, message))
+}
+
+/// A record; `said` is what the lines before it say.
+fn read_record(line: &mut Cursor, said: &Said) -> Result<Linked<Record>, Unread> {
+    match read_word(line, &OTHERS, NO_RECORD)? {
+        "raw" => {
+            let record = read_raw(line)?;
+            Ok(Linked::unchained(record, raw_says(record)))
+        }
+        "off" => {
+            line.expect("SubClassOf")?;
+            statement(line, said, false).map_err(Unread::no_term)
+        }
+        "SubClassOf" => statement(line, said, true).map_err(Unread::no_term),
+        word => {
+            let (kind, operands) = shape(word);
+            let says = Says::Term(Term::of_kind(kind));
+            let term = read_term(line, said, 1, (kind, operands)).map_err(|fault| Unread { fault, says })?;
+            Ok(Linked::unchained(record(term), Says::Term(term)))
+        }
     }
 }
 
-/// A record; `before` are those before it.
-fn read_record(line: &mut Cursor, before: &[Record]) -> Result<Linked<Record>, Fault> {
-    if line.keyword("raw") {
-        return Ok(Linked {
-            record: read_raw(line)?,
-            on: false,
-            link: None,
-        });
+/// The word that stands here, of a term or one of the others. The word of a name is empty: it stays, since its label is
+/// part of it.
+fn read_word(line: &mut Cursor, others: &[&'static str], expected: &str) -> Result<&'static str, Fault> {
+    if line.is_lettered('c') {
+        return Ok("");
     }
-    let off = line.keyword("off");
-    if off || line.clone().keyword("SubClassOf") {
-        line.expect("SubClassOf")?;
-        let (a, b) = pair(line, |line| operand(line, before, 1), |line| operand(line, before, 1))?;
-        let link = read_link(line, "next")?;
-        let record = Saying::Within(a, b).record(link.unwrap_or(0));
-        return Ok(Linked { record, on: !off, link });
+    line.choose(&[others, &TERMS].concat(), expected)
+}
+
+/// The record of a term.
+fn record(term: Term) -> Record {
+    let (a, b) = term.numbers();
+    Record {
+        kind: term.kind,
+        a,
+        b,
+        ..Record::default()
     }
+}
+
+/// What a record says that is given by its fields.
+fn raw_says(raw: Record) -> Says {
+    let term = Term::new(raw.kind, raw.a, raw.b);
+    if record(term) == raw {
+        Says::Term(term)
+    } else {
+        Says::Nothing
+    }
+}
+
+/// A statement; its word is taken.
+fn statement(line: &mut Cursor, said: &Said, on: bool) -> Result<Linked<Record>, Fault> {
+    let term = |line: &mut Cursor| operand(line, said, 1);
+    let (a, b) = pair(line, term, term)?;
+    let link = read_link(line, "next")?;
+    let saying = Saying::Within(a.unwrap_or(0), b.unwrap_or(0));
     Ok(Linked {
-        record: saying(line, before, 1)?.record(0),
-        on: false,
-        link: None,
+        record: saying.record(link.unwrap_or(0)),
+        on,
+        link,
+        says: Says::Nothing,
     })
 }
 
 /// Two things in parentheses.
-fn pair<A, B>(
+fn pair<T>(
     line: &mut Cursor,
-    first: impl Fn(&mut Cursor) -> Result<A, Fault>,
-    second: impl Fn(&mut Cursor) -> Result<B, Fault>,
-) -> Result<(A, B), Fault> {
+    first: impl Fn(&mut Cursor) -> Result<T, Fault>,
+    second: impl Fn(&mut Cursor) -> Result<T, Fault>,
+) -> Result<(T, T), Fault> {
     line.symbol('(')?;
     let both = (first(line)?, second(line)?);
     line.symbol(')')?;
     Ok(both)
 }
 
-/// A term at this nesting.
-fn saying(line: &mut Cursor, before: &[Record], nesting: usize) -> Result<Saying, Fault> {
-    let term = |line: &mut Cursor| operand(line, before, nesting + 1);
-    let role = |line: &mut Cursor| line.lettered('r', "a role, as r0,");
-    if line.keyword("owl:Thing") {
-        Ok(Saying::Top)
-    } else if line.keyword("owl:Nothing") {
-        Ok(Saying::Bottom)
-    } else if line.keyword("ObjectComplementOf") {
-        line.symbol('(')?;
-        let a = term(line)?;
-        line.symbol(')')?;
-        Ok(Saying::Not(a))
-    } else if line.keyword("ObjectIntersectionOf") {
-        pair(line, term, term).map(|(a, b)| Saying::And(a, b))
-    } else if line.keyword("ObjectUnionOf") {
-        pair(line, term, term).map(|(a, b)| Saying::Or(a, b))
-    } else if line.keyword("ObjectSomeValuesFrom") {
-        pair(line, role, term).map(|(role, b)| Saying::Some(role, b))
-    } else if line.keyword("ObjectAllValuesFrom") {
-        pair(line, role, term).map(|(role, b)| Saying::All(role, b))
-    } else {
-        line.lettered(
-            'c',
-            "a term (c1, owl:Thing, ObjectUnionOf(..), ..) or a statement (SubClassOf(..))",
-        )
-        .map(Saying::Name)
-    }
+/// A term at this nesting, of which the word is taken.
+fn read_term(line: &mut Cursor, said: &Said, nesting: usize, (kind, operands): (u8, Operands)) -> Result<Term, Fault> {
+    let term = |line: &mut Cursor| operand(line, said, nesting + 1);
+    let role = |line: &mut Cursor| line.lettered('r', "a role, as r0, is expected here").map(Some);
+    let (a, b) = match operands {
+        Operands::None => (Some(0), Some(0)),
+        Operands::Label => (Some(line.lettered('c', NO_TERM)?), Some(0)),
+        Operands::Term => {
+            line.symbol('(')?;
+            let a = term(line)?;
+            line.symbol(')')?;
+            (a, Some(0))
+        }
+        Operands::Terms => pair(line, term, term)?,
+        Operands::RoleAndTerm => pair(line, role, term)?,
+    };
+    Ok(Term { kind, a, b })
 }
 
 /// The record of an operand: `#7`, or a term that an earlier record says.
-fn operand(line: &mut Cursor, before: &[Record], nesting: usize) -> Result<u16, Fault> {
-    reference(line, before, nesting, "#7", |line| {
-        Ok(saying(line, before, nesting)?.record(0))
+fn operand(line: &mut Cursor, said: &Said, nesting: usize) -> Result<Option<u16>, Fault> {
+    said.reference(line, nesting, "#7", |line| {
+        let word = read_word(line, &[], NO_TERM)?;
+        read_term(line, said, nesting, shape(word))
     })
 }

@@ -1,7 +1,6 @@
 //! The steps of a script, replayed for display: the goal, the column used and the open frames of each. The verdict is
 //! the library's alone; where the replay comes to another, that is an error in desk.
 
-mod columns;
 mod program;
 mod run;
 mod words;
@@ -9,7 +8,9 @@ mod words;
 #[cfg(test)]
 mod tests;
 
+use crate::input::Input;
 use crate::json::Json;
+use crate::text::vocabulary::Written;
 use crate::{script, text};
 use base::vocabulary::Vocabulary;
 use base::{Failure, Status};
@@ -25,21 +26,36 @@ pub struct Shown {
 }
 
 /// The trace of a script on which the library has given its verdict; none if the script does not keep the form.
-pub fn of(vocabulary: &[u8], script: &[u8], verdict: Result<u32, Refusal>) -> Result<Option<Shown>, Failure> {
+pub fn of(vocabulary: &Written, script: &Input, verdict: Result<u32, Refusal>) -> Result<Option<Shown>, Failure> {
     if verdict.is_err_and(|refusal| !refusal.rule.is_of_chain()) {
         return Ok(None);
     }
-    let (vocabulary, records) = (Vocabulary::read(vocabulary), script::read(script));
-    let trace = run::replay(&vocabulary, &records);
+    let records = script::read(&script.bytes);
+    let trace = run::replay(vocabulary.vocabulary(), &records);
     agreed(&trace, verdict)?;
     let words = Words {
-        vocabulary: text::vocabulary::Written::new(vocabulary),
+        vocabulary,
         script: text::script::Written::new(records),
+        input: Some(script),
     };
     Ok(Some(Shown {
         text: words.trace(&trace),
         json: program::trace(&words, &trace),
     }))
+}
+
+/// Why the chain of a script that keeps the form is refused; nothing where the replay comes to another refusal.
+pub fn reason(vocabulary: &[u8], script: &[u8], refusal: Refusal) -> Option<String> {
+    let records = script::read(script);
+    let vocabulary = Written::new(Vocabulary::read(vocabulary));
+    let trace = run::replay(vocabulary.vocabulary(), &records);
+    let why = trace.refused.filter(|_| trace.agrees(Err(refusal)))?;
+    let words = Words {
+        vocabulary: &vocabulary,
+        script: text::script::Written::new(records),
+        input: None,
+    };
+    Some(words.reason(&trace, why))
 }
 
 /// A failure where replay and library disagree.

@@ -38,8 +38,10 @@ fn step(words: &Words, number: usize, step: &Step) -> Vec<(&'static str, Json)> 
     let mut object = vec![
         ("step", Json::from(number)),
         ("record", Json::from(step.record)),
+        ("line", Json::from(words.line(step).filter(|_| number > 0))),
         ("rule", Json::from(rule(step.entry))),
         ("goal", Json::from(step.goal.map(text))),
+        ("goal_words", Json::from(words.goal_words(step))),
     ];
     object.extend(fields(words, step.entry));
     object.extend([

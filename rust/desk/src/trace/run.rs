@@ -1,6 +1,6 @@
 //! The replay of a script that keeps the form: its frames, step by step.
 
-use super::columns::{columns, query, Column, Literal, Place};
+use crate::columns::{columns, query, Column, Literal, Place};
 use crate::script::{chained, Entry, Extension, Words};
 use base::vocabulary::Vocabulary;
 use judge::Refusal;

@@ -1,26 +1,43 @@
 //! The replay against the library, and the text of a trace.
 #![allow(clippy::unwrap_used, clippy::expect_used, clippy::panic, clippy::indexing_slicing)]
 
-use super::{agreed, of, run, Shown};
+use super::{agreed, run, Shown};
+use crate::files::Name;
+use crate::input::Input;
+use crate::stored::scripts;
+use crate::text::vocabulary::Written;
+use crate::text::{Assembled, Kind, Line};
 use crate::{script, text};
 use base::vocabulary::Vocabulary;
-use base::Status;
+use base::{Failure, Status};
 use judge::{check_script, Refusal, Rule};
 use std::collections::BTreeMap;
 
-/// The vocabulary and the script of each case of crates/verdicts/stdin.
-fn cases() -> Vec<(Vec<u8>, Vec<u8>)> {
-    let path = concat!(env!("CARGO_MANIFEST_DIR"), "/../../crates/verdicts/stdin");
-    let bytes = std::fs::read(path).expect("the cases");
-    let (mut rest, mut cases) = (bytes.as_slice(), Vec::new());
-    while let [v0, v1, s0, s1, after @ ..] = rest {
-        let (vocabulary, after) = after.split_at(u16::from_le_bytes([*v0, *v1]).into());
-        let (script, after) = after.split_at(u16::from_le_bytes([*s0, *s1]).into());
-        cases.push((vocabulary.to_vec(), script.to_vec()));
-        rest = after;
-    }
-    assert!(rest.is_empty());
-    cases
+/// A script of these bytes; `lines` are those of its text, if it has one.
+fn input(script: &[u8], lines: Vec<Line>) -> Input {
+    let assembled = Assembled {
+        kind: Kind::Script,
+        bytes: script.to_vec(),
+        lines,
+    };
+    Input::assembled(&Name::new("s.script".as_ref()), None, assembled)
+}
+
+/// The trace of bytes without words.
+fn of(vocabulary: &[u8], script: &[u8], verdict: Result<u32, Refusal>) -> Result<Option<Shown>, Failure> {
+    let vocabulary = Written::new(Vocabulary::read(vocabulary));
+    super::of(&vocabulary, &input(script, Vec::new()), verdict)
+}
+
+/// The trace of texts, with their words and lines.
+fn in_words(vocabulary: &str, script: &str) -> Shown {
+    let (vocabulary, script) = (text::assemble(vocabulary).unwrap(), text::assemble(script).unwrap());
+    let verdict = check_script(&vocabulary.bytes, &script.bytes);
+    let comments = vocabulary.lines.into_iter().map(|line| line.comment).collect();
+    let written = Written::new(Vocabulary::read(&vocabulary.bytes)).with_words(comments);
+    super::of(&written, &input(&script.bytes, script.lines), verdict)
+        .expect("agreement")
+        .expect("a trace")
 }
 
 /// The bytes of a text.
@@ -53,8 +70,7 @@ const LOOP: &str = "vocabulary roles 0\nc1\nSubClassOf(c1 c1)\n";
 
 #[test]
 fn the_replay_agrees_with_the_library_on_every_case() {
-    let cases = cases();
-    assert_eq!(cases.len(), 5205);
+    let cases = scripts();
     let mut replayed: BTreeMap<u8, usize> = BTreeMap::new();
     for (i, (vocabulary, script)) in cases.iter().enumerate() {
         let verdict = check_script(vocabulary, script);
@@ -82,7 +98,7 @@ fn the_replay_agrees_with_the_library_on_every_case() {
 
 #[test]
 fn a_trace_has_every_step_and_a_reason_where_it_is_refused() {
-    for (i, (vocabulary, script)) in cases().iter().enumerate() {
+    for (i, (vocabulary, script)) in scripts().iter().enumerate() {
         let verdict = check_script(vocabulary, script);
         let Some(shown) = of(vocabulary, script, verdict).expect("agreement") else {
             continue;
@@ -172,10 +188,10 @@ step 2, record 3: extend by owner 5, SubClassOf(ObjectIntersectionOf(c1 c2) c3),
 ";
     assert_eq!(shown.text, expected);
     let expected = concat!(
-        r#"[{"step":1,"record":2,"rule":"start","goal":null,"owner":0,"column":1,"x":null,"y":null,"position":null,"#,
-        r#""frame":null,"against":null,"literals":["C3(a)"],"frames":[["C3(a)"]]},"#,
-        r#"{"step":2,"record":3,"rule":"extend","goal":"C3(a)","owner":5,"column":0,"x":"a","y":null,"position":1,"#,
-        r#""frame":null,"against":"¬C3(a)","literals":["C4(a)","¬C3(a)"],"frames":[["C3(a)"],["C4(a)"]],"#,
+        r#"[{"step":1,"record":2,"line":null,"rule":"start","goal":null,"goal_words":null,"#,
+        r#""owner":0,"column":1,"x":null,"y":null,"position":null,"frame":null,"against":null,"literals":["C3(a)"],"frames":[["C3(a)"]]},"#,
+        r#"{"step":2,"record":3,"line":null,"rule":"extend","goal":"C3(a)","goal_words":null,"#,
+        r#""owner":5,"column":0,"x":"a","y":null,"position":1,"frame":null,"against":"¬C3(a)","literals":["C4(a)","¬C3(a)"],"frames":[["C3(a)"],["C4(a)"]],"#,
         r#""refused":true,"why":"the chain ends with 2 frames left; still to be closed: C4(a)"}]"#,
     );
     assert_eq!(shown.json.to_string(), expected);
@@ -232,7 +248,10 @@ fn refusal_20_in_words() {
          refused, 20: the chain has no step; the first has to be a start\n"
     );
     let json = no_step.json.to_string();
-    assert!(json.starts_with(r#"[{"step":0,"record":0,"rule":null,"#), "{json}");
+    assert!(
+        json.starts_with(r#"[{"step":0,"record":0,"line":null,"rule":null,"#),
+        "{json}"
+    );
     assert!(
         json.contains(r#""frames":[],"refused":true,"why":"the chain has no step"#),
         "{json}"
@@ -382,4 +401,74 @@ fn a_long_term_is_named_by_its_record() {
     let without = script.replace("f2(#15)\n", "");
     let named = shown(BOTTOM, &without, (21, 17)).text;
     assert!(named.contains(&format!("{{C2({long}), ¬C1(f2(#15))}}")), "{named}");
+}
+
+/// A vocabulary with a some restriction and an all restriction, each of whose records but 4 is called something.
+const WORDS: &str = "vocabulary roles 1
+c1 -- cat
+ObjectSomeValuesFrom(r0 c1) -- cat owner
+ObjectAllValuesFrom(r0 c1) -- has cats only
+owl:Nothing
+SubClassOf(#2 #3) -- who has a cat has cats only
+";
+
+#[test]
+fn goals_are_said_in_words() {
+    let script = "-- a comment\nscript #2 within #3\na\n\nstart 1\nextend owner 5 column 0 x a at 1\n\
+                  extend owner 0 column 0 x a at 0\n";
+    let expected = "\
+query: term 2, ObjectSomeValuesFrom(r0 c1) (cat owner), within term 3, ObjectAllValuesFrom(r0 c1) (has cats only)
+step 1, record 2 (line 5): start with query column 1
+  column {C3(a)}
+> frame 0: C3(a)
+step 2, record 3 (line 6): extend by owner 5, SubClassOf(ObjectSomeValuesFrom(r0 c1) ObjectAllValuesFrom(r0 c1)) \
+(who has a cat has cats only), column 0, x = a
+  goal C3(a), against ¬C3(a) at position 1 of {C2(a), ¬C3(a)}
+  in words: a is in term 3, ObjectAllValuesFrom(r0 c1) (has cats only)
+  frame 0: C3(a)
+> frame 1: C2(a)
+step 3, record 4 (line 7): extend by owner 0, the query, column 0, x = a
+  goal C2(a), against ¬C2(a) at position 0 of {¬C2(a)}
+  in words: a is in term 2, ObjectSomeValuesFrom(r0 c1) (cat owner)
+  all is closed
+";
+    let shown = in_words(WORDS, script);
+    assert_eq!(shown.text, expected);
+    let json = shown.json.to_string();
+    assert!(json.contains(r#"{"step":1,"record":2,"line":5,"rule":"start","goal":null,"goal_words":null,"#));
+    let second =
+        r#"{"step":2,"record":3,"line":6,"rule":"extend","goal":"C3(a)","goal_words":"a is in term 3, ObjectAll"#;
+    assert!(json.contains(second), "{json}");
+}
+
+#[test]
+fn roles_and_functions_are_said_in_words() {
+    // Column 2 of record 2, with y = f3(a), leaves the goals r0(a,f3(a)) and C1(f3(a)).
+    let script = "script #2 within #2\na\nf3(a)\nf2(f3(a))\nstart 1\nextend owner 2 column 2 x a y f3(a) at 0\n";
+    let pair = in_words(WORDS, &format!("{script}extend owner 3 column 0 x a at 1\n")).text;
+    let line = "\n  in words: the pair (a, f3(a)) is in role 0; \
+                f3(a) is the counterexample to term 3, ObjectAllValuesFrom(r0 c1) (has cats only), at a\n";
+    assert!(pair.contains(line), "{pair}");
+    // The start with column 0 leaves ¬C2(a), and column 1 of record 2 then ¬C1(f2(a)), of which no record is.
+    let script =
+        "script #2 within #2\na\nstart 0\nextend owner 2 column 1 x a at 0\nextend owner 4 column 0 x a at 0\n";
+    let negative = in_words(WORDS, script).text;
+    let line = "\n  in words: a is not in term 2, ObjectSomeValuesFrom(r0 c1) (cat owner)\n";
+    assert!(negative.contains(line), "{negative}");
+    let line = "\n  in words: f2(a) is not in term 1, c1 (cat); \
+                f2(a) is the witness of term 2, ObjectSomeValuesFrom(r0 c1) (cat owner), at a\n";
+    assert!(negative.contains(line), "{negative}");
+}
+
+#[test]
+fn without_words_only_the_lines_are_added() {
+    let script = "script #4 within #3\na\nstart 1\nextend owner 5 column 0 x a at 1\n";
+    let plain = shown(V, script, (24, 3)).text;
+    let header_only = V.replacen('\n', " -- a vocabulary\n", 1);
+    for vocabulary in [V, &header_only] {
+        let with_lines = in_words(vocabulary, script).text;
+        let without = with_lines.replace(" (line 3)", "").replace(" (line 4)", "");
+        assert_eq!(without, plain);
+        assert_ne!(with_lines, plain);
+    }
 }

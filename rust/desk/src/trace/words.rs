@@ -1,36 +1,38 @@
 //! A trace as text.
 
-use super::columns::{Literal, Sign};
 use super::run::{others, Frame, Goal, Step, Term, Trace, Why};
+use crate::columns::{braced, Literal, Sign};
 use crate::display::counted;
+use crate::input::Input;
 use crate::script::{Entry, Extension};
 use crate::text;
+use base::vocabulary::Saying;
 
 /// How many frames are listed after a step if there are more: the last ones.
 const LISTED: usize = 8;
 
 /// The texts of terms.
-pub struct Words {
+pub struct Words<'a> {
     /// Those of the vocabulary.
-    pub vocabulary: text::vocabulary::Written,
+    pub vocabulary: &'a text::vocabulary::Written,
     /// Those of the script.
     pub script: text::script::Written,
+    /// The script as it was given, which may have lines.
+    pub input: Option<&'a Input>,
 }
 
-impl Words {
+impl Words<'_> {
     /// The whole text.
     pub fn trace(&self, trace: &Trace) -> String {
         let [a, b] = trace.query.map(|number| self.vocabulary.term(number));
         let mut lines = vec![format!("query: {a}, within {b}")];
         for (i, step) in trace.steps.iter().enumerate() {
             let refused = trace.refused.filter(|_| i + 1 == trace.steps.len());
-            lines.push(format!(
-                "step {}, record {}: {}",
-                i + 1,
-                step.record,
-                self.heading(step)
-            ));
+            let (record, line) = (step.record, self.line(step));
+            let line = line.map(|line| format!(" (line {line})")).unwrap_or_default();
+            lines.push(format!("step {}, record {record}{line}: {}", i + 1, self.heading(step)));
             lines.extend(self.connection(step));
+            lines.extend(self.goal_words(step).map(|words| format!("  in words: {words}")));
             lines.extend(self.frames(step, refused));
         }
         if let Some(why) = trace.refused {
@@ -38,6 +40,12 @@ impl Words {
         }
         lines.push(String::new());
         lines.join("\n")
+    }
+
+    /// The line of a step, where the script was given as a text.
+    pub fn line(&self, step: &Step) -> Option<usize> {
+        let (line, _) = self.input?.line_of(step.record as u32)?;
+        Some(line)
     }
 
     /// What a step does.
@@ -53,7 +61,7 @@ impl Words {
     fn extension(&self, e: Extension) -> String {
         let owner = match e.owner {
             0 => "the query".to_string(),
-            owner => self.vocabulary.expression(usize::from(owner)).unwrap_or_default(),
+            owner => self.vocabulary.called(owner),
         };
         let y = match e.y {
             0 => String::new(),
@@ -104,6 +112,54 @@ impl Words {
         lines
     }
 
+    /// The goal of a step as a sentence, where the vocabulary has words.
+    pub fn goal_words(&self, step: &Step) -> Option<String> {
+        let goal = step.goal.filter(|_| self.vocabulary.has_words())?;
+        let is = match goal.sign() {
+            Sign::Is => "is",
+            Sign::Not => "is not",
+        };
+        let (sentence, terms) = match goal {
+            Literal::In(_, record, t) => {
+                let sentence = format!("{} {is} in {}", self.term(t), self.vocabulary.term(record));
+                (sentence, vec![t])
+            }
+            Literal::Pair(_, role, s, t) => {
+                let sentence = format!("the pair ({}, {}) {is} in role {role}", self.term(s), self.term(t));
+                (sentence, if s == t { vec![t] } else { vec![s, t] })
+            }
+        };
+        let witnesses = terms.into_iter().filter_map(|term| self.witness(term));
+        Some(witnesses.fold(sentence, |all, witness| format!("{all}; {witness}")))
+    }
+
+    /// What a function stands for: an element by which a restriction holds, or fails.
+    fn witness(&self, term: Term) -> Option<String> {
+        let (function, inner) = match term {
+            Term::Function(function, inner) => (function, inner),
+            Term::Record(record) => self.script.function(record)?,
+        };
+        let what = match self.vocabulary.vocabulary().get(usize::from(function)).saying() {
+            Some(Saying::All(..)) => "the counterexample to",
+            _ => "the witness of",
+        };
+        let (term, record, inner) = (
+            self.term(term),
+            self.vocabulary.term(function),
+            self.script.named(inner),
+        );
+        Some(format!("{term} is {what} {record}, at {inner}"))
+    }
+
+    /// Why a chain is refused, to go behind the words of the refusal: what they say is not said again.
+    pub fn reason(&self, trace: &Trace, why: Why) -> String {
+        match (why, trace.steps.last()) {
+            (Why::Open, Some(step)) => self.left(&step.frames),
+            (Why::AllClosed, _) => format!("all was closed by step {}", trace.steps.len() - 1),
+            _ => self.why(trace, why),
+        }
+    }
+
     /// Why the last step is refused, in detail.
     pub fn why(&self, trace: &Trace, why: Why) -> String {
         let Some(step) = trace.steps.last() else {
@@ -120,7 +176,10 @@ impl Words {
                 format!("{literal}, the goal of that frame, {difference}")
             }
             Why::Frames => self.too_many(step),
-            Why::Open => self.open(&step.frames),
+            Why::Open => {
+                let frames = counted(step.frames.len() as u64, "frame");
+                format!("the chain ends with {frames} left; {}", self.left(&step.frames))
+            }
             Why::AllClosed => format!("all was closed by step {before}, and no step may follow"),
         }
     }
@@ -134,7 +193,7 @@ impl Words {
         let (Some(goal), Some(against)) = (step.goal, step.against) else {
             return "is missing".to_string();
         };
-        let [goal_name, name] = [goal, against].map(predicate);
+        let [goal_name, name] = [goal, against].map(|literal| literal.predicate());
         let [goal_terms, terms] = [goal, against].map(|literal| self.terms(literal));
         let difference = if goal_name != name {
             format!("its predicate is {name}, the goal's {goal_name}")
@@ -156,20 +215,16 @@ impl Words {
 
     /// The literals that have yet to be closed by steps, in the order in which they become goals. The goal of a frame
     /// below the last is closed with the frame above it.
-    fn open(&self, frames: &[Frame]) -> String {
+    fn left(&self, frames: &[Frame]) -> String {
         let last_first = frames.iter().rev().enumerate();
         let left = last_first.flat_map(|(above, frame)| frame.iter().skip(usize::from(above > 0)));
         let left: Vec<String> = left.map(|literal| self.literal(*literal)).collect();
-        let frames = counted(frames.len() as u64, "frame");
-        format!(
-            "the chain ends with {frames} left; still to be closed: {}",
-            left.join(", ")
-        )
+        format!("still to be closed: {}", left.join(", "))
     }
 
     /// A column in braces.
     fn column(&self, literals: &[Goal]) -> String {
-        format!("{{{}}}", self.literals(literals).join(", "))
+        braced(&self.literals(literals))
     }
 
     /// The texts of literals.
@@ -179,18 +234,11 @@ impl Words {
 
     /// The text of a literal.
     pub fn literal(&self, literal: Goal) -> String {
-        let sign = match literal.sign() {
-            Sign::Is => "",
-            Sign::Not => "¬",
-        };
-        format!("{sign}{}({})", predicate(literal), self.terms(literal))
+        literal.text(|term| self.term(*term))
     }
 
     fn terms(&self, literal: Goal) -> String {
-        match literal {
-            Literal::In(_, _, t) => self.term(t),
-            Literal::Pair(_, _, s, t) => format!("{},{}", self.term(s), self.term(t)),
-        }
+        literal.terms(|term| self.term(*term))
     }
 
     fn term(&self, term: Term) -> String {
@@ -198,13 +246,6 @@ impl Words {
             Term::Record(record) => self.script.named(record),
             Term::Function(function, inner) => self.script.applied(function, inner),
         }
-    }
-}
-
-fn predicate(literal: Goal) -> String {
-    match literal {
-        Literal::In(_, record, _) => format!("C{record}"),
-        Literal::Pair(_, role, ..) => format!("r{role}"),
     }
 }
 

@@ -1,0 +1,117 @@
+//! Replacing a file at once: a new one is made beside it and takes its name when all of it is there, so that nobody ever
+//! finds a part of it, and the old one stays where anything fails.
+
+use super::write::{directory, fill, unwritable, unwritten};
+use super::Name;
+use crate::signals;
+use base::{Failure, Status};
+use std::fs::{self, File, Metadata, Permissions};
+use std::io::{self, ErrorKind};
+use std::os::unix::fs::{fchown, MetadataExt, OpenOptionsExt, PermissionsExt};
+use std::path::{Path, PathBuf};
+
+/// The most names that are tried for the new file. One is taken only where a run with the same process number was killed,
+/// or runs in another container.
+const NAMES: u32 = 1000;
+/// The mode of a new file before the caller's umask.
+const NEW_MODE: u32 = 0o666;
+/// The mode of a file that takes another's place, until it gets that one's.
+const PRIVATE_MODE: u32 = 0o600;
+/// What is kept of a mode; the other bits are lost at any write.
+const PERMISSIONS: u32 = 0o777;
+
+/// Puts a file of these bytes at a path, where there is a regular file or none.
+pub fn replace(name: &Name, path: &Path, bytes: &[u8]) -> Result<(), Failure> {
+    let old = old_file(path).map_err(|error| unwritable(name, &error))?;
+    let _catching = signals::catch();
+    let directory = directory(path);
+    let temporary = Temporary::new(&directory, old.as_ref()).map_err(|error| match error.kind() {
+        ErrorKind::PermissionDenied => unwritten(name, "its directory may not be written to (permission denied)"),
+        _ => unwritable(name, &error),
+    })?;
+    stop_if_caught(name)?;
+    let filled = temporary
+        .take_after(old.as_ref())
+        .and_then(|()| fill(&temporary.file, bytes));
+    filled.map_err(|error| unwritable(name, &error))?;
+    stop_if_caught(name)?;
+    temporary.rename(path).map_err(|error| match error.kind() {
+        ErrorKind::PermissionDenied => unwritten(name, "may not be replaced (permission denied)"),
+        _ => unwritable(name, &error),
+    })?;
+    // The file is whole, under the old name or the new, whether or not the directory can be waited for.
+    let _ = File::open(directory).and_then(|directory| directory.sync_all());
+    Ok(())
+}
+
+/// What is known of the old file, if there is one. It has to be one that may be written, though it is not written to.
+fn old_file(path: &Path) -> io::Result<Option<Metadata>> {
+    match File::options().write(true).open(path) {
+        Ok(file) => file.metadata().map(Some),
+        Err(error) if error.kind() == ErrorKind::NotFound => Ok(None),
+        Err(error) => Err(error),
+    }
+}
+
+/// Ends the run where a signal has asked for that.
+fn stop_if_caught(name: &Name) -> Result<(), Failure> {
+    if signals::caught() {
+        let message = format!("{name}: is not written, since a signal ended the run");
+        return Err(Failure::new(Status::Interrupted, message));
+    }
+    Ok(())
+}
+
+/// A file that is being made. It is removed, unless it gets its name.
+struct Temporary {
+    path: PathBuf,
+    file: File,
+    renamed: bool,
+}
+
+impl Temporary {
+    /// A new empty file, whose name is short whatever the output's is.
+    fn new(directory: &Path, old: Option<&Metadata>) -> io::Result<Temporary> {
+        let mode = if old.is_some() { PRIVATE_MODE } else { NEW_MODE };
+        for number in 0..NAMES {
+            let path = directory.join(format!(".desk-{}-{number}", std::process::id()));
+            match File::options().write(true).create_new(true).mode(mode).open(&path) {
+                Err(error) if error.kind() == ErrorKind::AlreadyExists => {}
+                opened => {
+                    return opened.map(|file| Temporary {
+                        path,
+                        file,
+                        renamed: false,
+                    })
+                }
+            }
+        }
+        Err(ErrorKind::AlreadyExists.into())
+    }
+
+    /// Takes the old file's mode, and its owner and group as far as the caller may give files away.
+    fn take_after(&self, old: Option<&Metadata>) -> io::Result<()> {
+        let Some(old) = old else { return Ok(()) };
+        let (owner, group) = (old.uid(), old.gid());
+        if fchown(&self.file, Some(owner), Some(group)).is_err() {
+            let _ = fchown(&self.file, None, Some(group));
+        }
+        let mode = old.mode() & PERMISSIONS;
+        self.file.set_permissions(Permissions::from_mode(mode))
+    }
+
+    fn rename(mut self, path: &Path) -> io::Result<()> {
+        fs::rename(&self.path, path)?;
+        self.renamed = true;
+        Ok(())
+    }
+}
+
+impl Drop for Temporary {
+    fn drop(&mut self) {
+        if !self.renamed {
+            // Where even that fails there is nothing more to do; the output itself is as it was.
+            let _ = fs::remove_file(&self.path);
+        }
+    }
+}

@@ -1,0 +1,120 @@
+//! What the lines of a text say, so that later lines can refer to it.
+
+use super::cursor::{Cursor, Fault};
+use std::collections::{HashMap, HashSet};
+
+/// The deepest nesting of a term that is written out.
+const NESTING: usize = 16;
+
+/// A term as a line says it: a kind with two numbers. Those that a faulty line leaves open are missing.
+#[derive(Clone, Copy, Debug, PartialEq, Eq, Hash)]
+pub struct Term {
+    /// The kind of the record.
+    pub kind: u8,
+    /// The first number, 0 where the kind has none.
+    pub a: Option<u16>,
+    /// The second number, 0 where the kind has none.
+    pub b: Option<u16>,
+}
+
+impl Term {
+    /// A term of which everything is known.
+    pub fn new(kind: u8, a: u16, b: u16) -> Term {
+        Term {
+            kind,
+            a: Some(a),
+            b: Some(b),
+        }
+    }
+
+    /// A term of which only the kind is known.
+    pub fn of_kind(kind: u8) -> Term {
+        Term { kind, a: None, b: None }
+    }
+
+    /// The numbers, 0 for one that is missing.
+    pub fn numbers(self) -> (u16, u16) {
+        (self.a.unwrap_or(0), self.b.unwrap_or(0))
+    }
+
+    fn is_known(self) -> bool {
+        self.a.is_some() && self.b.is_some()
+    }
+}
+
+/// What a line says that later ones may refer to.
+#[derive(Clone, Copy, Debug)]
+pub enum Says {
+    /// No term.
+    Nothing,
+    /// This term.
+    Term(Term),
+    /// Perhaps some term: the line cannot be read.
+    Anything,
+}
+
+/// What the lines read so far say.
+#[derive(Default)]
+pub struct Said {
+    first: HashMap<Term, u16>,
+    perhaps: HashSet<Term>,
+    anything: bool,
+}
+
+impl Said {
+    /// Adds what the line of a record says.
+    pub fn add(&mut self, number: u16, says: Says) {
+        match says {
+            Says::Nothing => (),
+            Says::Term(term) if term.is_known() => {
+                self.first.entry(term).or_insert(number);
+            }
+            Says::Term(term) => {
+                self.perhaps.insert(term);
+            }
+            Says::Anything => self.anything = true,
+        }
+    }
+
+    /// The first record that says a term.
+    fn number(&self, term: Term) -> Option<u16> {
+        self.first.get(&term).copied()
+    }
+
+    /// Whether a faulty line may have said a term.
+    fn may_say(&self, term: Term) -> bool {
+        let open = [
+            Term { a: None, ..term },
+            Term { b: None, ..term },
+            Term::of_kind(term.kind),
+        ];
+        self.anything || !term.is_known() || open.iter().any(|term| self.perhaps.contains(term))
+    }
+
+    /// The record that a line refers to: by its number, as `example`, or by a term that an earlier line says, which `read`
+    /// takes. None is known where no line says the term, which is noted, unless a faulty line may have said it.
+    pub fn reference(
+        &self,
+        line: &mut Cursor,
+        nesting: usize,
+        example: &str,
+        read: impl Fn(&mut Cursor) -> Result<Term, Fault>,
+    ) -> Result<Option<u16>, Fault> {
+        if line.peek() == Some('#') {
+            let expected = format!("a record, as {example}, is expected here");
+            return line.lettered('#', &expected).map(Some);
+        }
+        if nesting > NESTING {
+            let message = format!("terms are nested too deep here; name one by its record, as {example}");
+            return Err(line.fault(&message));
+        }
+        let place = line.here();
+        let term = read(line)?;
+        let number = self.number(term);
+        if number.is_none() && !self.may_say(term) {
+            let advice = "give it a line of its own before, or name a record, as";
+            line.note(place, &format!("no earlier line says this term; {advice} {example}"));
+        }
+        Ok(number)
+    }
+}

@@ -1,0 +1,89 @@
+//! How many cases of the comparison there are of each sort, and how many tell each error.
+
+use crate::comparison::call::Compared;
+use crate::comparison::checks::fault;
+use crate::comparison::errors::ERRORS;
+use crate::comparison::plan::Planned;
+use crate::comparison::print::{run, Outcome};
+use crate::comparison::types::Types;
+use crate::decode::records;
+use crate::table::Table;
+
+/// Vocabularies with more types do not have the errors tried on them, for their time.
+const MOST_TYPES: usize = 256;
+
+/// The refusals that cases have to meet.
+const REFUSALS: [u8; 11] = [1, 2, 3, 4, 5, 6, 7, 8, 10, 11, 12];
+
+/// A sort of answer: its name, and whether an answer is one.
+type Sort = (&'static str, fn(&Compared) -> bool);
+
+/// The sorts of answers that cases have to get.
+const SORTS: [Sort; 10] = [
+    ("equal", |c| c.element.is_none()),
+    ("different", |c| c.element.is_some()),
+    ("different, element not 0", |c| c.element.is_some_and(|t| t > 0)),
+    ("rounds 0", |c| c.rounds == 0),
+    ("rounds 1", |c| c.rounds == 1),
+    ("rounds 2", |c| c.rounds == 2),
+    ("rounds 3 to 9", |c| (3..10).contains(&c.rounds)),
+    ("rounds 10 and more", |c| c.rounds >= 10),
+    ("no survivor, no round", |c| c.survivors.is_empty() && c.rounds == 0),
+    ("no survivor, rounds", |c| c.survivors.is_empty() && c.rounds > 0),
+];
+
+/// For each error whether it changes the answer to a case.
+fn told(planned: &Planned, outcome: &Outcome) -> [bool; ERRORS.len()] {
+    let Ok(right) = &outcome.answer else {
+        return [false; ERRORS.len()];
+    };
+    let (a, b) = (planned.case.a, planned.case.b);
+    let types = Types::of(records(&planned.case.vocabulary));
+    let few = types.count() <= MOST_TYPES;
+    ERRORS.map(|(_, wrong)| few && wrong(&types, a, b) != *right)
+}
+
+/// The answers to the cases.
+fn outcomes(cases: &[Planned]) -> Vec<Outcome> {
+    cases.iter().map(|planned| run(&planned.case)).collect()
+}
+
+/// The cases whose answer is not borne out, a line for each.
+fn objections<'a>(cases: &'a [Planned], outcomes: &'a [Outcome]) -> impl Iterator<Item = String> + 'a {
+    let numbered = cases.iter().zip(outcomes).enumerate();
+    numbered.filter_map(|(i, (planned, outcome))| fault(planned, outcome).map(|text| format!("case {i} {text}")))
+}
+
+/// The table of cases of another seed: they have to be right, but need not be of every sort.
+pub fn seeded_table(cases: &[Planned]) -> Table {
+    let mut table = Table::default();
+    table.add("cases", cases.len(), 1);
+    table.object(objections(cases, &outcomes(cases)));
+    table
+}
+
+/// The table of the stored cases.
+pub fn table(cases: &[Planned]) -> Table {
+    let outcomes = outcomes(cases);
+    let with = |test: &dyn Fn(&Outcome) -> bool| outcomes.iter().filter(|o| test(o)).count();
+    let mut table = Table::default();
+    table.add("cases", cases.len(), 1);
+    for number in REFUSALS {
+        let refused = |o: &Outcome| o.answer.as_ref().is_err_and(|r| r.number == number);
+        table.add(&format!("refused {number}"), with(&refused), 1);
+    }
+    for (name, is_one) in SORTS {
+        table.add(name, with(&|o| o.answer.as_ref().is_ok_and(is_one)), 1);
+    }
+    let pairs = || cases.iter().zip(&outcomes);
+    let told: Vec<_> = pairs().map(|(planned, outcome)| told(planned, outcome)).collect();
+    for (i, (name, _)) in ERRORS.iter().enumerate() {
+        let count = told
+            .iter()
+            .filter(|errors| errors.get(i).is_some_and(|told| *told))
+            .count();
+        table.add(&format!("would change by: {name}"), count, 1);
+    }
+    table.object(objections(cases, &outcomes));
+    table
+}

@@ -1,0 +1,157 @@
+//! A second implementation of the paper (README.md says which), written from it alone, that makes test vectors and
+//! the output expected for them. See README.md.
+
+mod cases;
+mod comparison;
+mod decode;
+mod draft;
+mod faults;
+mod generate;
+mod print;
+mod random;
+mod script;
+mod select;
+mod table;
+#[cfg(test)]
+mod tests;
+mod vectors;
+mod vocabulary;
+
+use random::Seed;
+use std::io::{Read, Write};
+use std::process::ExitCode;
+
+/// The exit status where all went well.
+const DONE: u8 = 0;
+/// The exit status where the vectors are not what they are meant to be.
+const UNFIT: u8 = 1;
+/// The exit status where the command line or the vector file is malformed, or writing fails.
+const MALFORMED: u8 = 2;
+
+/// How the program is called.
+const USAGE: &str = "usage: second vectors|comparisons|scripts [SEED] > CASES, \
+     or second expect|expect-comparisons|expect-scripts < CASES > EXPECTED, \
+     or second new vectors|comparisons|scripts STORED < CASES > NEW, \
+     or second every vectors|comparisons|scripts STEP < CASES > CHOSEN";
+
+/// Runs the subcommand that the command line names.
+fn main() -> ExitCode {
+    let words: Vec<String> = std::env::args().skip(1).collect();
+    let status = match words.iter().map(String::as_str).collect::<Vec<_>>()[..] {
+        ["vectors"] => make_vectors(None),
+        ["vectors", seed] => seeded(seed, make_vectors),
+        ["expect"] => filter(|bytes| Ok(print::lines(&vectors::decode(bytes)?))),
+        ["comparisons"] => make_comparisons(None),
+        ["comparisons", seed] => seeded(seed, make_comparisons),
+        ["expect-comparisons"] => filter(|bytes| Ok(comparison::lines(&comparison::decode(bytes)?))),
+        ["scripts"] => make_scripts(None),
+        ["scripts", seed] => seeded(seed, make_scripts),
+        ["expect-scripts"] => filter(|bytes| Ok(script::lines(&script::decode(bytes)?))),
+        ["new", name, stored] => filter(|bytes| select::new(name, &file(stored)?, bytes)),
+        ["every", name, step] => filter(|bytes| select::every(name, step, bytes)),
+        _ => complain(USAGE),
+    };
+    ExitCode::from(status)
+}
+
+/// Makes cases by the seed that a word of the command line says.
+fn seeded(word: &str, make: fn(Seed) -> u8) -> u8 {
+    match word.parse() {
+        Ok(seed) => make(Some(seed)),
+        Err(_) => complain(USAGE),
+    }
+}
+
+/// Writes the vector file to standard output, and the table of refusals to standard error.
+fn make_vectors(seed: Seed) -> u8 {
+    let planned = generate::all(seed);
+    let faults = generate::misses(&planned);
+    let cases: Vec<vectors::Case> = planned.into_iter().map(|p| p.case).collect();
+    let table = print::Table::of(&cases);
+    eprint!("{}", table.text());
+    for fault in &faults {
+        eprintln!("second: {fault}");
+    }
+    match vectors::encode(&cases) {
+        Err(message) => return complain(&message),
+        Ok(bytes) if !write_out(&bytes) => return complain("cannot write"),
+        Ok(_) => {}
+    }
+    let never = table.never_met();
+    if !never.is_empty() {
+        eprintln!("second: refusals that no case meets: {never:?}");
+    }
+    if never.is_empty() && faults.is_empty() {
+        DONE
+    } else {
+        UNFIT
+    }
+}
+
+/// The bytes of a file.
+fn file(path: &str) -> Result<Vec<u8>, String> {
+    std::fs::read(path).map_err(|error| format!("{path}: {error}"))
+}
+
+/// Reads a file of cases from standard input, and writes what is made of it: the output expected for
+/// it, or some of its cases.
+fn filter<T: AsRef<[u8]>>(work: impl Fn(&[u8]) -> Result<T, String>) -> u8 {
+    let mut bytes = Vec::new();
+    if let Err(error) = std::io::stdin().read_to_end(&mut bytes) {
+        return complain(&error.to_string());
+    }
+    match work(&bytes) {
+        Err(message) => complain(&message),
+        Ok(made) if write_out(made.as_ref()) => DONE,
+        Ok(_) => complain("cannot write"),
+    }
+}
+
+/// Writes the file of comparison cases.
+fn make_comparisons(seed: Seed) -> u8 {
+    let planned = comparison::all(seed);
+    let table = match seed {
+        None => comparison::table(&planned),
+        Some(_) => comparison::seeded_table(&planned),
+    };
+    let cases: Vec<comparison::Case> = planned.into_iter().map(|p| p.case).collect();
+    make(&table, comparison::encode(&cases))
+}
+
+/// Writes the file of script cases.
+fn make_scripts(seed: Seed) -> u8 {
+    let planned = script::all(seed);
+    let table = match seed {
+        None => script::table(&planned),
+        Some(_) => script::seeded_table(&planned),
+    };
+    let cases: Vec<script::Case> = planned.into_iter().map(|p| p.case).collect();
+    make(&table, script::encode(&cases))
+}
+
+/// Writes a file of cases to standard output, and the table of their sorts to standard error.
+fn make(table: &table::Table, file: Result<Vec<u8>, String>) -> u8 {
+    eprint!("{}", table.text());
+    let faults = table.faults();
+    for fault in &faults {
+        eprintln!("second: {fault}");
+    }
+    match file {
+        Err(message) => complain(&message),
+        Ok(bytes) if !write_out(&bytes) => complain("cannot write"),
+        Ok(_) if faults.is_empty() => DONE,
+        Ok(_) => UNFIT,
+    }
+}
+
+/// Writes bytes to standard output, and answers whether that went well.
+fn write_out(bytes: &[u8]) -> bool {
+    let mut out = std::io::stdout().lock();
+    out.write_all(bytes).and_then(|()| out.flush()).is_ok()
+}
+
+/// Says what is wrong, and answers the exit status.
+fn complain(message: &str) -> u8 {
+    eprintln!("second: {message}");
+    MALFORMED
+}

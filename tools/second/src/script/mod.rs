@@ -1,0 +1,31 @@
+//! The script check (rows 1 to 8, 10 and 13 to 25), and the cases that try it.
+
+mod call;
+mod chain;
+mod checks;
+mod columns;
+mod damage;
+mod errors;
+mod families;
+mod faults;
+mod file;
+mod form;
+mod long;
+mod plan;
+mod prover;
+mod random;
+mod records;
+mod rules;
+mod samples;
+mod steps;
+mod table;
+#[cfg(test)]
+mod tests;
+mod towers;
+mod unrecorded;
+mod walks;
+mod writer;
+
+pub use file::{decode, encode, lines, Case};
+pub use plan::all;
+pub use table::{seeded_table, table};

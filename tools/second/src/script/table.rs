@@ -1,0 +1,106 @@
+//! How many cases of the script check there are of each sort, and how many tell each error.
+
+use crate::decode::{at as vocabulary_record, records};
+use crate::script::call::{check_by, check_script};
+use crate::script::checks::fault;
+use crate::script::errors::ERRORS;
+use crate::script::plan::Planned;
+use crate::script::records::{at, chain, decode, COLUMN, EXTENSION, KIND, MOST_RECORDS, OWNER, POSITION, RECORD_BYTES};
+use crate::table::Table;
+use crate::vocabulary::Refusal;
+use std::collections::BTreeSet;
+
+/// The refusals that cases have to meet, and how many cases have to.
+const REFUSALS: [(std::ops::RangeInclusive<u8>, usize); 3] = [(1..=8, 3), (10..=10, 30), (13..=25, 25)];
+/// How many cases have to tell each error.
+const TELLING: usize = 2;
+
+/// How many literals the columns have: of kinds 1, 2, 4 to 9, and of the query.
+const LITERALS: usize = 1 + 1 + 4 + 4 * 7 + 2 + 2;
+
+/// The answer to a case.
+type Answer = Result<usize, Refusal>;
+
+/// A sort of accepted cases: its name, how many there have to be, and whether a case with so many
+/// steps is one.
+type Sort = (&'static str, usize, fn(&Planned, usize) -> bool);
+
+/// The sorts of accepted cases.
+const SORTS: [Sort; 6] = [
+    ("accepted", 300, |_, _| true),
+    ("accepted, 2 to 9 steps", 100, |_, n| (2..10).contains(&n)),
+    ("accepted, 10 to 99 steps", 60, |_, n| (10..100).contains(&n)),
+    ("accepted, 100 steps and more", 10, |_, n| n >= 100),
+    ("accepted, all records used", 3, |planned, _| {
+        planned.case.script.len() == MOST_RECORDS * RECORD_BYTES
+    }),
+    ("accepted, records off the chain", 100, |planned, n| {
+        let records = decode(&planned.case.script);
+        chain(&records).len() == n && n + 2 < records.len()
+    }),
+];
+
+/// How many literals of columns the extensions of accepted scripts connect with, by kind of owner,
+/// column and position.
+fn connected(cases: &[Planned], answers: &[Answer]) -> usize {
+    let mut met = BTreeSet::new();
+    for (planned, _) in cases.iter().zip(answers).filter(|(_, a)| a.is_ok()) {
+        let vocabulary = records(&planned.case.vocabulary);
+        let script = decode(&planned.case.script);
+        let steps = chain(&script).into_iter().map(|place| at(&script, place));
+        for extension in steps.filter(|record| record[KIND] == EXTENSION) {
+            let owner = vocabulary_record(&vocabulary, extension[OWNER].into());
+            met.insert((owner.kind, extension[COLUMN], extension[POSITION]));
+        }
+    }
+    met.len()
+}
+
+/// The answers to the cases.
+fn answers(cases: &[Planned]) -> Vec<Answer> {
+    let answer = |p: &Planned| check_script(&p.case.vocabulary, &p.case.script);
+    cases.iter().map(answer).collect()
+}
+
+/// The cases whose answer is not borne out, a line for each.
+fn objections<'a>(cases: &'a [Planned], answers: &'a [Answer]) -> impl Iterator<Item = String> + 'a {
+    let numbered = cases.iter().zip(answers).enumerate();
+    numbered.filter_map(|(i, (planned, answer))| fault(planned, *answer).map(|text| format!("case {i} {text}")))
+}
+
+/// The table of cases of another seed: they have to be right, but need not be of every sort.
+pub fn seeded_table(cases: &[Planned]) -> Table {
+    let mut table = Table::default();
+    table.add("cases", cases.len(), 1);
+    table.object(objections(cases, &answers(cases)));
+    table
+}
+
+/// The table of the stored cases.
+pub fn table(cases: &[Planned]) -> Table {
+    let answers = answers(cases);
+    let mut table = Table::default();
+    table.add("cases", cases.len(), 1);
+    for (numbers, least) in REFUSALS {
+        for number in numbers {
+            let met = answers.iter().filter(|a| a.is_err_and(|r| r.number == number));
+            table.add(&format!("refused {number}"), met.count(), least);
+        }
+    }
+    let pairs = || cases.iter().zip(&answers);
+    for (name, least, is_one) in SORTS {
+        let with = pairs().filter(|(p, a)| a.is_ok_and(|steps| is_one(p, steps)));
+        table.add(name, with.count(), least);
+    }
+    table.add(
+        "different literals of columns connected",
+        connected(cases, &answers),
+        LITERALS,
+    );
+    for (name, wrong) in ERRORS {
+        let told = pairs().filter(|(p, a)| check_by(*wrong, &p.case.vocabulary, &p.case.script) != **a);
+        table.add(&format!("would change by: {name}"), told.count(), TELLING);
+    }
+    table.object(objections(cases, &answers));
+    table
+}

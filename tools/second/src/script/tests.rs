@@ -1,0 +1,141 @@
+//! The script check on the paper's samples, the cases made of them, and the file of cases.
+
+#![allow(clippy::unwrap_used, clippy::indexing_slicing)]
+
+use crate::random::Random;
+use crate::script::call::{check_by, check_script};
+use crate::script::checks::fault;
+use crate::script::errors::ERRORS;
+use crate::script::plan::{Plan, Planned};
+use crate::script::rules::{Paper, Rules};
+use crate::script::{decode, encode, lines, Case};
+use crate::tests::paper::{complements, header, refusal, script, scripts};
+use crate::tests::stored;
+
+/// The cases of some groups.
+fn planned(groups: impl Fn(&mut Plan)) -> Vec<Planned> {
+    let mut plan = Plan {
+        cases: Vec::new(),
+        bases: Vec::new(),
+        random: Random::new(1),
+    };
+    groups(&mut plan);
+    plan.cases
+}
+
+/// The answer to a case.
+fn answer(case: &Case) -> Result<usize, crate::vocabulary::Refusal> {
+    check_script(&case.vocabulary, &case.script)
+}
+
+/// Samples 7 to 9.
+#[test]
+fn samples_7_to_9() {
+    for (vocabulary, script, answer) in scripts() {
+        assert_eq!(check_script(&vocabulary, &script), answer);
+    }
+}
+
+/// Sample 10: each query of a header alone gives 10.
+#[test]
+fn sample_10() {
+    for query in [0, 1, 2, 511, 65535] {
+        let asked = script(&[[32, query, 1, 0, 0, 0, 0, 0], [1, 0, 0, 0, 0, 0, 0, 0]]);
+        assert_eq!(check_script(&header(0), &asked), Err(refusal(10, query.into())));
+    }
+}
+
+/// Sample 10: a 64th frame passes, a 65th gives 23. The start opens the first, each complement another, and the last
+/// extension none; records 0 to 2 are the header, the constant and the start.
+#[test]
+fn frames() {
+    for count in [1, 2, 62, 63] {
+        let (vocabulary, script) = complements(count);
+        assert_eq!(check_script(&vocabulary, &script), Ok(usize::from(count) + 2));
+    }
+    for count in [64, 65] {
+        let (vocabulary, script) = complements(count);
+        assert_eq!(check_script(&vocabulary, &script), Err(refusal(23, 2 + 64)));
+    }
+}
+
+/// The cases made of the samples are each made for an answer, and get it. Samples 7 to 9 are among them.
+#[test]
+fn planned_samples() {
+    let cases = planned(Plan::samples);
+    assert_eq!(cases.len(), 33);
+    for planned in &cases {
+        assert!(!planned.meant.is_empty());
+        assert_eq!(fault(planned, answer(&planned.case)), None);
+    }
+    for (vocabulary, script, _) in scripts() {
+        assert!(cases.iter().any(|p| p.case
+            == Case {
+                vocabulary: vocabulary.clone(),
+                script: script.clone()
+            }));
+    }
+}
+
+/// A case whose answer is not the one it was made for is found out, and so is acceptance where the query does not hold.
+#[test]
+fn faults_are_found() {
+    let mut cases = planned(Plan::samples);
+    let mut first = cases.swap_remove(0);
+    assert_eq!(first.meant, "accepted 3");
+    let wrong = fault(&first, Err(refusal(24, 3)));
+    assert_eq!(wrong, Some("is refused 24 3, meant accepted 3".to_string()));
+    // The query turned round: 3 does not lie within 4.
+    first.case.script.swap(2, 4);
+    let unfounded = fault(&first, Ok(3));
+    assert_eq!(
+        unfounded,
+        Some("is accepted 3, but the query does not hold".to_string())
+    );
+}
+
+/// Each wrong script check answers otherwise in some case; the paper's, by the same path, in none.
+#[test]
+fn errors_are_told() {
+    let cases = planned(|plan| {
+        plan.samples();
+        plan.families();
+        plan.low_towers();
+        plan.damaged(None);
+        plan.walks();
+        plan.high_towers();
+        plan.unrecorded();
+    });
+    let answered: Vec<_> = cases
+        .iter()
+        .map(|planned| (&planned.case, answer(&planned.case)))
+        .collect();
+    let told = |rules: &dyn Rules| {
+        let mut all = answered.iter();
+        all.any(|(case, right)| check_by(rules, &case.vocabulary, &case.script) != *right)
+    };
+    let untold = ERRORS.iter().filter(|(_, wrong)| !told(*wrong));
+    assert_eq!(untold.map(|(name, _)| *name).collect::<Vec<_>>(), Vec::<&str>::new());
+    assert!(!told(&Paper));
+}
+
+/// The stored file, read and written again, is the same; as many lines are expected as it has cases.
+#[test]
+fn round_trip() {
+    let file = stored("crates/verdicts/stdin");
+    let cases = decode(&file).unwrap();
+    assert_eq!(encode(&cases).unwrap(), file);
+    let expected = stored("crates/verdicts/stdout");
+    assert_eq!(expected.iter().filter(|byte| **byte == b'\n').count(), cases.len());
+}
+
+/// Cases are read back as they were written, a file that ends inside one says in which, and lines are as README.md says.
+#[test]
+fn written_cases() {
+    let cases = scripts().map(|(vocabulary, script, _)| Case { vocabulary, script });
+    let file = encode(&cases).unwrap();
+    assert_eq!(file[..4], [48, 0, 80, 0]);
+    assert_eq!(decode(&file).unwrap(), cases);
+    assert_eq!(decode(&file[..140]).unwrap_err(), "the file ends inside case 1");
+    assert_eq!(lines(&cases), "accepted 3\nrefused 24 3\naccepted 3\nrefused 21 5\n");
+}

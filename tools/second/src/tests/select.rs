@@ -1,0 +1,90 @@
+//! The choice of cases: those that are new, and every so many.
+
+use crate::select::{every, new};
+use crate::tests::paper::{header, names};
+use crate::{comparison, script, vectors};
+
+/// The vector file of some record numbers of a header alone.
+fn file(numbers: &[u32]) -> Vec<u8> {
+    let case = |number: &u32| vectors::Case {
+        vocabulary: header(0),
+        number: *number,
+    };
+    vectors::encode(&numbers.iter().map(case).collect::<Vec<_>>()).unwrap()
+}
+
+/// Stored cases go, and of equal ones all but the first; the order stays.
+#[test]
+fn new_cases() {
+    let made = file(&[3, 1, 4, 1, 5, 9, 2, 6, 5, 3]);
+    assert_eq!(new("vectors", &file(&[4, 2]), &made).unwrap(), file(&[3, 1, 5, 9, 6]));
+    assert_eq!(new("vectors", &[], &made).unwrap(), file(&[3, 1, 4, 5, 9, 2, 6]));
+    assert_eq!(new("vectors", &made, &made).unwrap(), []);
+}
+
+/// Comparisons that differ in nothing but what the lent bytes hold are one case; other bytes lent are another.
+#[test]
+fn new_comparisons() {
+    let case = |lent, seed| comparison::Case {
+        vocabulary: names(2),
+        a: 1,
+        b: 2,
+        lent,
+        seed,
+    };
+    let file = |cases: &[comparison::Case]| comparison::encode(cases).unwrap();
+    let made = file(&[case(512, 1), case(512, 2), case(513, 1)]);
+    assert_eq!(
+        new("comparisons", &[], &made).unwrap(),
+        file(&[case(512, 1), case(513, 1)])
+    );
+    assert_eq!(
+        new("comparisons", &file(&[case(512, 9)]), &made).unwrap(),
+        file(&[case(513, 1)])
+    );
+}
+
+/// A script case is told from others by its vocabulary and by its script.
+#[test]
+fn new_scripts() {
+    let case = |vocabulary: Vec<u8>, length| script::Case {
+        vocabulary,
+        script: vec![0; length],
+    };
+    let file = |cases: &[script::Case]| script::encode(cases).unwrap();
+    let made = file(&[
+        case(names(1), 16),
+        case(names(1), 17),
+        case(names(2), 16),
+        case(names(1), 16),
+    ]);
+    assert_eq!(
+        new("scripts", &file(&[case(names(1), 17)]), &made).unwrap(),
+        file(&[case(names(1), 16), case(names(2), 16)])
+    );
+}
+
+/// The first case and every third after it; a step of 1, and of 0, keeps all.
+#[test]
+fn every_case() {
+    let made = file(&[0, 1, 2, 3, 4, 5, 6]);
+    assert_eq!(every("vectors", "3", &made).unwrap(), file(&[0, 3, 6]));
+    assert_eq!(every("vectors", "7", &made).unwrap(), file(&[0]));
+    assert_eq!(every("vectors", "1", &made).unwrap(), made);
+    assert_eq!(every("vectors", "0", &made).unwrap(), made);
+    assert_eq!(every("vectors", "3", &[]).unwrap(), []);
+}
+
+/// What is wrong with a name, a step or a file is said.
+#[test]
+fn wrong_choices() {
+    let made = file(&[0, 1]);
+    let ends = "the file ends inside case 1";
+    assert_eq!(every("vectors", "1", &made[..made.len() - 1]).unwrap_err(), ends);
+    assert_eq!(new("vectors", &made[..made.len() - 1], &made).unwrap_err(), ends);
+    assert_eq!(every("vectors", "x", &made).unwrap_err(), "a step is a number");
+    assert_eq!(
+        new("verdicts", &[], &made).unwrap_err(),
+        "there are no cases by the name verdicts"
+    );
+}
