@@ -7,7 +7,8 @@
 # questions over one vocabulary; the worst known vocabularies, with 60 s for each run of a reasoner. All times are wall
 # time of whole processes, alternating; up to 15 minutes. With --quick fewer repeats, and 5 s: minutes.
 # ARCHIVE: default target/staticlib/libjudge.a in the repository.
-# Exit status: 0 done, 1 a build or a run failed, 2 bad usage or no archive, 69 a reasoner is missing.
+# Exit status: 0 done, 1 a build failed, 2 bad usage or no archive; where a run fails, that of tools/bridge (README.md
+# there): 69 a reasoner is missing, 71 a process cannot be run, 66 or 73 a file cannot be read or written.
 set -eu
 
 repeats=21 tables=11 limit=60

@@ -61,6 +61,16 @@ impl Record {
         }
     }
 
+    /// The header of a vocabulary with no statement on the chain.
+    pub fn header(roles: u16) -> Record {
+        Record {
+            kind: HEADER_KIND,
+            second: 1,
+            b: roles,
+            ..Record::default()
+        }
+    }
+
     /// The eight bytes of the fields.
     pub fn bytes(self) -> [u8; 8] {
         let ([a0, a1], [b0, b1], [n0, n1]) = (self.a.to_le_bytes(), self.b.to_le_bytes(), self.next.to_le_bytes());
@@ -96,6 +106,15 @@ impl Record {
 }
 
 impl Saying {
+    /// The numbers of the records that it is made of.
+    pub fn operands(self) -> Vec<u16> {
+        match self {
+            Saying::Top | Saying::Bottom | Saying::Name(_) => Vec::new(),
+            Saying::Not(a) | Saying::Some(_, a) | Saying::All(_, a) => vec![a],
+            Saying::And(a, b) | Saying::Or(a, b) | Saying::Within(a, b) => vec![a, b],
+        }
+    }
+
     /// The record that says it. `next` is a statement's.
     pub fn record(self, next: u16) -> Record {
         let (kind, a, b, next) = match self {
@@ -134,6 +153,11 @@ impl Vocabulary {
         }
     }
 
+    /// The bytes of the records.
+    pub fn bytes(&self) -> Vec<u8> {
+        self.records.iter().flat_map(|record| record.bytes()).collect()
+    }
+
     /// A record; where there is none, one of no kind.
     pub fn get(&self, number: usize) -> Record {
         self.records.get(number).copied().unwrap_or_default()
@@ -144,10 +168,32 @@ impl Vocabulary {
         self.records.iter().copied().enumerate().skip(1)
     }
 
+    /// What the records after the header say, with their numbers; those that say nothing are left out.
+    pub fn sayings(&self) -> impl Iterator<Item = (u16, Saying)> + '_ {
+        self.numbered()
+            .filter_map(|(number, record)| Some((u16::try_from(number).ok()?, record.saying()?)))
+    }
+
     /// The numbers of the atoms, in record order.
     pub fn atoms(&self) -> Vec<u16> {
-        let atoms = self.numbered().filter(|(_, record)| record.is_atom());
-        atoms.filter_map(|(number, _)| u16::try_from(number).ok()).collect()
+        self.numbers_of(Record::is_atom)
+    }
+
+    /// The numbers of the terms, in record order.
+    pub fn terms(&self) -> Vec<u16> {
+        self.numbers_of(Record::is_term)
+    }
+
+    /// The numbers of the records of a sort, in record order.
+    fn numbers_of(&self, is_wanted: fn(Record) -> bool) -> Vec<u16> {
+        let wanted = self.numbered().filter(|(_, record)| is_wanted(*record));
+        wanted.filter_map(|(number, _)| u16::try_from(number).ok()).collect()
+    }
+
+    /// A and B of each statement on the chain.
+    pub fn statements(&self) -> Vec<(u16, u16)> {
+        let chained = self.records.iter().zip(self.chained()).filter(|(_, on)| *on);
+        chained.map(|(record, _)| (record.a, record.b)).collect()
     }
 
     /// Which records are statements on the chain. A link that leads back or to no statement, or to one that has no form,

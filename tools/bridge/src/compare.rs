@@ -1,19 +1,27 @@
 //! The library's answers beside those of the reasoners, over random vocabularies.
 
+use std::ffi::OsStr;
+use std::fmt::Write;
 use std::path::PathBuf;
 use std::time::Duration;
 
+use base::arguments::Arguments;
+use base::{Failure, Status};
 use judge::Verdict;
 
-use crate::arguments::Arguments;
+use crate::commands::{COUNT, SEED, TO};
 use crate::draw;
 use crate::emit::Form;
-use crate::failure::Failure;
+use crate::files::{self, Scratch};
+use crate::output::say_line;
 use crate::process;
 use crate::question::Question;
 use crate::random::Random;
 use crate::reasoner::{self, Reasoner, Reply};
-use crate::report::{self, share, Scratch};
+use crate::report::share;
+
+#[cfg(test)]
+mod tests;
 
 /// How often a reasoner that answers otherwise is asked again.
 const AGAIN: usize = 10;
@@ -36,6 +44,8 @@ struct Score {
     same: usize,
     steady: usize,
     unsteady: usize,
+    /// Of the steady ones, those that count against the library.
+    open: usize,
     /// No answer with the terms named: past the time limit, and before it.
     out_of_time: usize,
     no_answer: usize,
@@ -66,28 +76,65 @@ struct Trial {
     to: PathBuf,
 }
 
-/// Draws the questions, puts them to all, and prints each disagreement and the tables.
-pub fn run(arguments: &Arguments) -> Result<(), Failure> {
+/// Draws the questions, puts them to all, and prints each disagreement and the tables. It does not hold where some
+/// answer of the library is left open.
+pub fn run(arguments: &Arguments) -> Result<Status, Failure> {
+    let [] = arguments.words([])?;
+    let count = arguments.number(COUNT.name, 600)?;
+    let (seed, limit) = (arguments.number(SEED.name, 1)?, process::limit(arguments, 20)?);
     let reasoners = Reasoner::both(arguments)?;
     let trial = Trial {
-        seed: arguments.number("seed", 1)?,
-        limit: arguments.limit(20)?,
+        seed,
+        limit,
         scratch: Scratch::new()?,
-        to: PathBuf::from(arguments.text("to").unwrap_or("target/bridge")),
+        to: PathBuf::from(arguments.value(TO.name).unwrap_or(OsStr::new("target/bridge"))),
     };
-    let mut random = Random::new(trial.seed);
+    let mut random = Random::new(seed);
     let mut shares = Shares::default();
     let mut scores: Vec<Score> = reasoners.iter().map(|_| Score::default()).collect();
-    for number in 0..arguments.number("count", 600)? {
+    for number in 0..count {
         let question = draw::question(&mut random)?;
         shares.add(&question)?;
+        if !question.is_equal()? && !question.is_confirmed()? {
+            trial.keep(number, &question, "the meaning does not confirm it")?;
+        }
         for (reasoner, score) in reasoners.iter().zip(&mut scores) {
             trial.put(number, &question, reasoner, score)?;
         }
     }
-    shares.print();
-    print_scores(&reasoners, &scores, shares.questions);
-    Ok(())
+    say_line(&shares.table())?;
+    say_line(&table_of(&reasoners, &scores, shares.questions))?;
+    say_line(&summary(&shares, &scores))?;
+    Ok(status(&shares, &scores))
+}
+
+/// What is left open.
+fn summary(shares: &Shares, scores: &[Score]) -> String {
+    format!(
+        "left open: {} different that the meaning does not confirm, {} denials of an equal in every run and form",
+        shares.unconfirmed(),
+        denied(scores)
+    )
+}
+
+/// How often a reasoner denies an Equal of the library so that it counts.
+fn denied(scores: &[Score]) -> usize {
+    scores.iter().map(|score| score.open).sum()
+}
+
+fn status(shares: &Shares, scores: &[Score]) -> Status {
+    if shares.unconfirmed() + denied(scores) > 0 {
+        Status::DoesNotHold
+    } else {
+        Status::Holds
+    }
+}
+
+/// Whether a steady disagreement counts against the library. A Different of the library has its interpretation, which
+/// is looked at apart; an Equal has none, but a reasoner that answers Equal too where the terms are written out
+/// contradicts itself.
+fn is_open(expected: Reply, written_out: Reply) -> bool {
+    expected == Reply::Equal && written_out != Reply::Equal
 }
 
 impl Trial {
@@ -106,22 +153,36 @@ impl Trial {
             }
         }
         if !is_answer(reply) {
-            self.keep(number, question, reasoner, "no answer, in neither form")?;
+            let what = format!("{}: no answer, in neither form", reasoner.name());
+            self.keep(number, question, &what)?;
         } else if reply == expected {
             score.same += 1;
         } else {
-            let as_before = self.ask_again(reasoner, reply)?;
-            let count = if as_before == AGAIN {
-                &mut score.steady
-            } else {
-                &mut score.unsteady
-            };
-            *count += 1;
-            let out = self.ask_written_out(reasoner, question)?;
-            let what = format!("{reply:?}, again in {as_before} of {AGAIN} runs; written out: {out:?}");
-            self.keep(number, question, reasoner, &what)?;
+            self.settle(number, question, reasoner, (expected, reply), score)?;
         }
         Ok(())
+    }
+
+    /// Asks a reasoner that answers otherwise than expected again, counts what it does, and says so.
+    fn settle(
+        &self,
+        number: u64,
+        question: &Question,
+        reasoner: &Reasoner,
+        (expected, reply): (Reply, Reply),
+        score: &mut Score,
+    ) -> Result<(), Failure> {
+        let as_before = self.ask_again(reasoner, reply)?;
+        let out = self.ask_written_out(reasoner, question)?;
+        if as_before < AGAIN {
+            score.unsteady += 1;
+        } else {
+            score.steady += 1;
+            score.open += usize::from(is_open(expected, out));
+        }
+        let name = reasoner.name();
+        let what = format!("{name}: {reply:?}, again in {as_before} of {AGAIN} runs; written out: {out:?}");
+        self.keep(number, question, &what)
     }
 
     fn stem(&self) -> PathBuf {
@@ -151,10 +212,10 @@ impl Trial {
     }
 
     /// Keeps the vocabulary of a disagreement, and says what it is.
-    fn keep(&self, number: u64, question: &Question, reasoner: &Reasoner, what: &str) -> Result<(), Failure> {
-        report::create(&self.to)?;
+    fn keep(&self, number: u64, question: &Question, what: &str) -> Result<(), Failure> {
+        files::create(&self.to)?;
         let path = self.to.join(format!("seed-{}-{number}.vocabulary", self.seed));
-        reasoner::write(&path, &question.bytes)?;
+        files::write(&path, &question.bytes)?;
         let ours = match question.answer()?.0.verdict {
             Verdict::Equal => "equal".to_owned(),
             Verdict::Different { element } if question.is_confirmed()? => {
@@ -162,12 +223,8 @@ impl Trial {
             }
             Verdict::Different { element } => format!("different, element {element}, NOT confirmed"),
         };
-        let (name, path) = (reasoner.name(), path.display());
-        println!(
-            "{path}, terms {} and {}: library: {ours}; {name}: {what}",
-            question.a, question.b
-        );
-        Ok(())
+        let (path, a, b) = (path.display(), question.a, question.b);
+        say_line(&format!("{path}, terms {a} and {b}: library: {ours}; {what}"))
     }
 }
 
@@ -184,8 +241,13 @@ impl Shares {
         Ok(())
     }
 
-    fn print(&self) {
-        println!("| questions | {} |\n|---|---:|", self.questions);
+    /// How many Different of the library the meaning does not confirm.
+    fn unconfirmed(&self) -> usize {
+        self.different - self.confirmed
+    }
+
+    fn table(&self) -> String {
+        let mut table = format!("| questions | {} |\n|---|---:|\n", self.questions);
         for (what, count) in [
             ("equal", self.equal),
             ("different", self.different),
@@ -197,30 +259,35 @@ impl Shares {
             ("nothing satisfies the statements", self.inconsistent),
             ("some type removed in a round", self.with_rounds),
         ] {
-            println!("| {what} | {} |", share(count, self.questions));
+            let _ = writeln!(table, "| {what} | {} |", share(count, self.questions));
         }
-        println!();
+        table
     }
 }
 
 /// What a row of the table counts.
 type Count = fn(&Score) -> usize;
 
-fn print_scores(reasoners: &[Reasoner], scores: &[Score], questions: usize) {
-    print!("| of {questions} answers |");
-    reasoners.iter().for_each(|reasoner| print!(" {} |", reasoner.name()));
-    println!("\n|---|{}", "---:|".repeat(reasoners.len()));
-    let rows: [(&str, Count); 6] = [
+/// The answers of the reasoners.
+fn table_of(reasoners: &[Reasoner], scores: &[Score], questions: usize) -> String {
+    let names: String = reasoners
+        .iter()
+        .map(|reasoner| format!(" {} |", reasoner.name()))
+        .collect();
+    let rule = "---:|".repeat(reasoners.len());
+    let mut table = format!("| of {questions} answers |{names}\n|---|{rule}\n");
+    let rows: [(&str, Count); 7] = [
         ("as the library", |score| score.same),
         ("otherwise, the same in ten more runs", |score| score.steady),
+        ("of these, left open", |score| score.open),
         ("otherwise, not the same in ten more runs", |score| score.unsteady),
         ("none in either form", |score| score.silent),
         ("past the time limit with the terms named", |score| score.out_of_time),
         ("ended without an answer with the terms named", |score| score.no_answer),
     ];
     for (what, count) in rows {
-        print!("| {what} |");
-        scores.iter().for_each(|score| print!(" {} |", count(score)));
-        println!();
+        let counts: String = scores.iter().map(|score| format!(" {} |", count(score))).collect();
+        let _ = writeln!(table, "| {what} |{counts}");
     }
+    table
 }

@@ -2,35 +2,48 @@
 //! of the two in bench/questions.c.
 
 use std::fmt::Write;
-use std::path::Path;
+use std::path::{Path, PathBuf};
 
-use crate::arguments::Arguments;
+use base::arguments::Arguments;
+use base::vocabulary::{Saying, Vocabulary};
+use base::{Failure, Status};
+
+use crate::commands::{COUNT, SEED};
 use crate::emit::{Form, Language};
-use crate::failure::Failure;
+use crate::files::{create, write};
+use crate::making::Making;
 use crate::question::{choose, Question, Wanted};
 use crate::random::Random;
-use crate::reasoner::{write, write_query, write_table};
-use crate::report::create;
-use crate::vocabulary::{Record, Vocabulary};
-use Record::{AllTo, And, Bottom, Name, Not, Or, SomeTo};
+use crate::reasoner::{write_query, write_table};
+
+/// The fewest atoms of a customs vocabulary; the most are those that can be compared.
+pub const FEWEST_ATOMS: usize = 6;
 
 /// How many pairs the shorter table of a vocabulary has.
 pub const PAIRS: usize = 40;
 
-/// Writes vocabularies of 6 to 12 atoms by turns, each with a question, tables of pairs, and the reasoners' files; the
-/// file `list` has a line for each: its name and the two terms.
-pub fn write_all(directory: &Path, arguments: &Arguments) -> Result<(), Failure> {
-    let mut random = Random::new(arguments.number("seed", 1)?);
+/// The command `customs`.
+pub fn run(arguments: &Arguments) -> Result<Status, Failure> {
+    let [directory] = arguments.words(["DIRECTORY"])?;
+    let (seed, count) = (arguments.number(SEED.name, 1)?, arguments.number(COUNT.name, 21)?);
+    write_all(Path::new(directory), seed, count)?;
+    Ok(Status::Holds)
+}
+
+/// Writes vocabularies of each number of atoms by turns, each with a question, tables of pairs, and the reasoners'
+/// files; the file `list` has a line for each: its name and the two terms.
+fn write_all(directory: &Path, seed: u64, count: u64) -> Result<(), Failure> {
+    let mut random = Random::new(seed);
     let mut list = String::new();
     create(directory)?;
-    for number in 0..arguments.number("count", 21)? {
+    for (number, atoms) in (0..count).zip((FEWEST_ATOMS..=judge::ATOMS).cycle()) {
         // Equal and different by turns, for each number of atoms.
         let wanted = if number % 2 == 0 {
             Wanted::Equal
         } else {
             Wanted::Different
         };
-        let question = question(&mut random, 6 + (number % 7) as u16, wanted)?;
+        let question = question(&mut random, atoms as u16, wanted)?;
         let name = format!("customs{number}");
         write_question(&mut random, &directory.join(&name), &question)?;
         let _ = writeln!(list, "{name} {} {}", question.a, question.b);
@@ -56,7 +69,7 @@ fn write_question(random: &mut Random, stem: &Path, question: &Question) -> Resu
 }
 
 /// The stem of the reasoners' files for a query or a table.
-pub fn beside(stem: &Path, what: &str) -> std::path::PathBuf {
+pub fn beside(stem: &Path, what: &str) -> PathBuf {
     let name = stem.file_name().unwrap_or_default().to_string_lossy();
     stem.with_file_name(format!("{name}-{what}"))
 }
@@ -81,7 +94,7 @@ fn question(random: &mut Random, atoms: u16, wanted: Wanted) -> Result<Question,
 
 /// A vocabulary under way: what its terms can be made of.
 struct Draft {
-    made: Vocabulary,
+    made: Making,
     roles: u16,
     names: Vec<u16>,
     /// Names and what is said of one thing by them.
@@ -94,7 +107,7 @@ fn vocabulary(random: &mut Random, atoms: u16) -> Vocabulary {
     let names = atoms / 2 + random.below(2);
     let roles = (atoms - names).min(3);
     let mut draft = Draft {
-        made: Vocabulary::new(roles),
+        made: Making::new(roles),
         roles,
         names: Vec::new(),
         properties: Vec::new(),
@@ -107,12 +120,12 @@ fn vocabulary(random: &mut Random, atoms: u16) -> Vocabulary {
     draft.state_taxonomy(random);
     draft.state_rules(random, atoms / 2);
     draft.put_goods(random, atoms / 2);
-    draft.made
+    draft.made.vocabulary
 }
 
 impl Draft {
     fn put_names(&mut self, count: u16) {
-        self.names = (0..count).map(|name| self.made.put(Name(101 + name))).collect();
+        self.names = (0..count).map(|name| self.made.put(Saying::Name(101 + name))).collect();
         self.properties.clone_from(&self.names);
     }
 
@@ -121,9 +134,9 @@ impl Draft {
         for _ in 0..count {
             let (a, b) = (random.pick(&self.properties), random.pick(&self.names));
             let record = match random.below(3) {
-                0 => Not(b),
-                1 if a != b => And(a, b),
-                _ => Or(a, b),
+                0 => Saying::Not(b),
+                1 if a != b => Saying::And(a, b),
+                _ => Saying::Or(a, b),
             };
             let number = self.made.put(record);
             self.properties.push(number);
@@ -136,9 +149,9 @@ impl Draft {
         for place in 0..count {
             let (role, inner) = (place % self.roles, random.pick(&self.properties));
             let record = if random.chance(3) {
-                AllTo(role, inner)
+                Saying::All(role, inner)
             } else {
-                SomeTo(role, inner)
+                Saying::Some(role, inner)
             };
             let number = self.made.put(record);
             self.goods.push(number);
@@ -150,9 +163,9 @@ impl Draft {
         for _ in 0..count {
             let (a, b) = (random.pick(&self.goods), random.pick(&self.goods));
             let record = match random.below(5) {
-                0 => Not(a),
-                1 | 2 => Or(a, b),
-                _ => And(a, b),
+                0 => Saying::Not(a),
+                1 | 2 => Saying::Or(a, b),
+                _ => Saying::And(a, b),
             };
             let number = self.made.put(record);
             self.goods.push(number);
@@ -164,15 +177,15 @@ impl Draft {
         let wide = random.pick(&self.names);
         let others: Vec<u16> = self.names.iter().copied().filter(|name| *name != wide).collect();
         self.made.state(random.pick(&others), wide);
-        let both = self.made.put(And(wide, random.pick(&others)));
-        let bottom = self.made.put(Bottom);
+        let both = self.made.put(Saying::And(wide, random.pick(&others)));
+        let bottom = self.made.put(Saying::Bottom);
         self.made.state(both, bottom);
     }
 
     /// "Animal products from such a country must be treated".
     fn state_rules(&mut self, random: &mut Random, count: u16) {
         for _ in 0..count {
-            let both = And(random.pick(&self.goods), random.pick(&self.goods));
+            let both = Saying::And(random.pick(&self.goods), random.pick(&self.goods));
             let condition = self.made.put(both);
             let duty = random.pick(&self.goods);
             self.made.state(condition, duty);

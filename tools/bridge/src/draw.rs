@@ -1,10 +1,14 @@
 //! Random questions for the comparison with the reasoners.
 
-use crate::failure::Failure;
+use base::vocabulary::{Saying, Vocabulary};
+use base::Failure;
+
+use crate::making::Making;
 use crate::question::{choose, Question, Wanted};
 use crate::random::Random;
-use crate::vocabulary::{Record, Vocabulary};
-use Record::{AllTo, And, Bottom, Name, Not, Or, SomeTo, Statement, Top};
+
+/// The fewest atoms of a vocabulary; the most are those that can be compared.
+const FEWEST_ATOMS: usize = 2;
 
 /// A random question. The sort of the pair is drawn first, since most pairs drawn blindly are different; of the
 /// vocabularies that nothing satisfies, which make all pairs equal, two in three are left out.
@@ -24,11 +28,11 @@ pub fn question(random: &mut Random) -> Result<Question, Failure> {
     }
 }
 
-/// A random vocabulary of 2 to 12 atoms and 1 to 4 roles.
+/// A random vocabulary of 1 to 4 roles.
 fn vocabulary(random: &mut Random) -> Vocabulary {
     let roles = 1 + random.below(4);
-    let mut made = Vocabulary::new(roles);
-    let mut atoms = 2 + random.below(11);
+    let mut made = Making::new(roles);
+    let mut atoms = FEWEST_ATOMS as u16 + random.below((judge::ATOMS - FEWEST_ATOMS + 1) as u16);
     let mut others = 3 + random.below(14);
     let mut statements = 1 + random.below(8);
     while atoms + others > 0 {
@@ -47,12 +51,12 @@ fn vocabulary(random: &mut Random) -> Vocabulary {
     for _ in 0..statements {
         put_statement(random, &mut made);
     }
-    made
+    made.vocabulary
 }
 
 /// A term; half of the time one of the later, so that terms are nested.
-fn term(random: &mut Random, made: &Vocabulary) -> u16 {
-    let terms = made.terms();
+fn term(random: &mut Random, made: &Making) -> u16 {
+    let terms = made.vocabulary.terms();
     let drawn = random.pick(&terms);
     if random.chance(2) {
         drawn.max(random.pick(&terms))
@@ -62,34 +66,34 @@ fn term(random: &mut Random, made: &Vocabulary) -> u16 {
 }
 
 /// A name, a some or an all; the first is a name, since there is no term before it.
-fn put_atom(random: &mut Random, made: &mut Vocabulary, roles: u16) {
+fn put_atom(random: &mut Random, made: &mut Making, roles: u16) {
     let inner = term(random, made);
     let record = match random.below(5) {
-        0 | 1 if inner != 0 => SomeTo(random.below(roles), inner),
-        2 if inner != 0 => AllTo(random.below(roles), inner),
-        _ => Name(made.len() as u16),
+        0 | 1 if inner != 0 => Saying::Some(random.below(roles), inner),
+        2 if inner != 0 => Saying::All(random.below(roles), inner),
+        _ => Saying::Name(made.vocabulary.records.len() as u16),
     };
     made.put(record);
 }
 
-fn put_connected(random: &mut Random, made: &mut Vocabulary) {
+fn put_connected(random: &mut Random, made: &mut Making) {
     let (a, b) = (term(random, made), term(random, made));
     let record = match random.below(16) {
-        _ if a == 0 => Top,
-        0 => Top,
-        1 => Bottom,
-        2..=5 => Not(a),
-        6..=10 => And(a, b),
-        _ => Or(a, b),
+        _ if a == 0 => Saying::Top,
+        0 => Saying::Top,
+        1 => Saying::Bottom,
+        2..=5 => Saying::Not(a),
+        6..=10 => Saying::And(a, b),
+        _ => Saying::Or(a, b),
     };
     made.put(record);
 }
 
 /// A statement: one in six off the chain; one in three of the others both ways, as a definition is.
-fn put_statement(random: &mut Random, made: &mut Vocabulary) {
+fn put_statement(random: &mut Random, made: &mut Making) {
     let (a, b) = (term(random, made), term(random, made));
     if random.chance(6) {
-        made.put(Statement(a, b));
+        made.put(Saying::Within(a, b));
     } else {
         made.state(a, b);
         if random.chance(3) {

@@ -6,8 +6,10 @@
 use std::collections::{BTreeMap, BTreeSet};
 use std::fmt::Write;
 
-use crate::vocabulary::{Record, Vocabulary};
-use Record::{AllTo, And, Bottom, Name, Not, Or, SomeTo, Statement, Top};
+use base::vocabulary::{Saying, Vocabulary};
+
+#[cfg(test)]
+mod tests;
 
 /// A reasoner's language.
 #[derive(Clone, Copy, Debug, PartialEq, Eq)]
@@ -63,8 +65,9 @@ fn needed(vocabulary: &Vocabulary, roots: &[u16]) -> BTreeSet<u16> {
     let mut found: BTreeSet<u16> = roots.iter().copied().collect();
     let mut left = roots.to_vec();
     while let Some(number) = left.pop() {
-        let parts = vocabulary.record(number).map_or_else(Vec::new, Record::parts);
-        left.extend(parts.into_iter().filter(|part| found.insert(*part)));
+        let saying = vocabulary.get(number.into()).saying();
+        let operands = saying.map_or_else(Vec::new, Saying::operands);
+        left.extend(operands.into_iter().filter(|operand| found.insert(*operand)));
     }
     found
 }
@@ -73,27 +76,27 @@ fn needed(vocabulary: &Vocabulary, roots: &[u16]) -> BTreeSet<u16> {
 struct Terms {
     /// How each stands where it is used.
     texts: BTreeMap<u16, String>,
-    /// The records of those that have a class of their own.
-    classes: Vec<(u16, Record)>,
-    /// The records of all.
-    records: Vec<(u16, Record)>,
+    /// What those say that have a class of their own.
+    classes: Vec<(u16, Saying)>,
+    /// What all say.
+    sayings: Vec<(u16, Saying)>,
 }
 
 impl Terms {
     fn new(language: Language, form: Form, vocabulary: &Vocabulary, numbers: &BTreeSet<u16>) -> Option<Terms> {
-        let records: Vec<(u16, Record)> = vocabulary
-            .records()
+        let sayings: Vec<(u16, Saying)> = vocabulary
+            .sayings()
             .filter(|(number, _)| numbers.contains(number))
             .collect();
         let mut terms = Terms {
             texts: BTreeMap::new(),
             classes: Vec::new(),
-            records: records.clone(),
+            sayings: sayings.clone(),
         };
-        for (number, record) in records {
-            let written = expression(language, record, &terms).filter(|_| form == Form::WrittenOut);
+        for (number, saying) in sayings {
+            let written = expression(language, saying, &terms).filter(|_| form == Form::WrittenOut);
             if written.is_none() {
-                terms.classes.push((number, record));
+                terms.classes.push((number, saying));
             }
             let text = written.unwrap_or_else(|| class(language, number));
             if text.len() > LONGEST {
@@ -111,14 +114,14 @@ impl Terms {
 
 fn document(language: Language, vocabulary: &Vocabulary, terms: &Terms, question: &str) -> String {
     let mut text = String::new();
-    for (number, record) in &terms.classes {
-        if language == Konclude || matches!(record, Name(_)) {
+    for (number, saying) in &terms.classes {
+        if language == Konclude || matches!(saying, Saying::Name(_)) {
             text += &declaration(language, &class(language, *number));
         }
     }
-    text += &roles(language, &terms.records);
-    for (number, record) in &terms.classes {
-        if let Some(meaning) = expression(language, *record, terms) {
+    text += &roles(language, &terms.sayings);
+    for (number, saying) in &terms.classes {
+        if let Some(meaning) = expression(language, *saying, terms) {
             text += &definition(language, &format!("T{number}"), &meaning);
         }
     }
@@ -160,12 +163,12 @@ fn declaration(language: Language, class: &str) -> String {
     }
 }
 
-/// The declarations of the roles that the records use.
-fn roles(language: Language, records: &[(u16, Record)]) -> String {
-    let used: BTreeSet<u16> = records
+/// The declarations of the roles that the terms use.
+fn roles(language: Language, sayings: &[(u16, Saying)]) -> String {
+    let used: BTreeSet<u16> = sayings
         .iter()
-        .filter_map(|(_, record)| match record {
-            SomeTo(role, _) | AllTo(role, _) => Some(*role),
+        .filter_map(|(_, saying)| match saying {
+            Saying::Some(role, _) | Saying::All(role, _) => Some(*role),
             _ => None,
         })
         .collect();
@@ -196,7 +199,7 @@ fn inclusion(language: Language, a: &str, b: &str) -> String {
 }
 
 /// What a term is made of; nothing for a name, which is primitive, and for a statement.
-fn expression(language: Language, record: Record, terms: &Terms) -> Option<String> {
+fn expression(language: Language, saying: Saying, terms: &Terms) -> Option<String> {
     let (top, bottom, some, all) = match language {
         Konclude => (
             "owl:Thing",
@@ -207,15 +210,15 @@ fn expression(language: Language, record: Record, terms: &Terms) -> Option<Strin
         Fact => ("*TOP*", "*BOTTOM*", "some", "all"),
     };
     let role = |number| role(language, number);
-    Some(match record {
-        Top => top.to_owned(),
-        Bottom => bottom.to_owned(),
-        Not(a) => not(language, terms.of(a)),
-        And(a, b) => joined(language, true, terms.of(a), terms.of(b)),
-        Or(a, b) => joined(language, false, terms.of(a), terms.of(b)),
-        SomeTo(r, b) => applied(language, some, &[&role(r), terms.of(b)]),
-        AllTo(r, b) => applied(language, all, &[&role(r), terms.of(b)]),
-        Name(_) | Statement(..) => return None,
+    Some(match saying {
+        Saying::Top => top.to_owned(),
+        Saying::Bottom => bottom.to_owned(),
+        Saying::Not(a) => not(language, terms.of(a)),
+        Saying::And(a, b) => joined(language, true, terms.of(a), terms.of(b)),
+        Saying::Or(a, b) => joined(language, false, terms.of(a), terms.of(b)),
+        Saying::Some(r, b) => applied(language, some, &[&role(r), terms.of(b)]),
+        Saying::All(r, b) => applied(language, all, &[&role(r), terms.of(b)]),
+        Saying::Name(_) | Saying::Within(..) => return None,
     })
 }
 

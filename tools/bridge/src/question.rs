@@ -1,11 +1,12 @@
 //! A vocabulary with a pair of terms, the library's answer, and the choice of a pair.
 
-use judge::{Comparison, Verdict, SURVIVOR_BYTES};
+use base::vocabulary::Vocabulary;
+use base::{Failure, Status};
+use judge::{Comparison, Refusal, Verdict, SURVIVOR_BYTES};
 
-use crate::failure::Failure;
+use crate::making::without_chain;
 use crate::meaning;
 use crate::random::Random;
-use crate::vocabulary::Vocabulary;
 
 /// Which pairs are looked for.
 #[derive(Clone, Copy, Debug, PartialEq, Eq)]
@@ -33,22 +34,23 @@ pub struct Question {
 impl Question {
     /// A question about a vocabulary.
     pub fn new(vocabulary: Vocabulary, a: u16, b: u16) -> Question {
-        let bytes = vocabulary.bytes();
         Question {
+            bytes: vocabulary.bytes(),
             vocabulary,
-            bytes,
             a,
             b,
         }
     }
 
+    /// The same about numbers that people gave; the library refuses those that are no terms.
+    pub fn asked(vocabulary: Vocabulary, a: u32, b: u32) -> Result<Question, Failure> {
+        compare(&vocabulary.bytes(), a, b)?;
+        Ok(Question::new(vocabulary, a as u16, b as u16))
+    }
+
     /// The library's answer, and the survivors that it wrote.
     pub fn answer(&self) -> Result<(Comparison, [u8; SURVIVOR_BYTES]), Failure> {
-        let mut survivors = [0; SURVIVOR_BYTES];
-        let comparison = judge::compare(&self.bytes, self.a.into(), self.b.into(), &mut survivors);
-        comparison
-            .map(|comparison| (comparison, survivors))
-            .map_err(Failure::refused)
+        compare(&self.bytes, self.a.into(), self.b.into())
     }
 
     /// Whether the terms are equal.
@@ -58,7 +60,7 @@ impl Question {
 
     /// Whether they are one term, or equal with no statement at all.
     pub fn is_trivial(&self) -> Result<bool, Failure> {
-        Ok(self.a == self.b || Question::new(self.vocabulary.without_chain(), self.a, self.b).is_equal()?)
+        Ok(self.a == self.b || Question::new(without_chain(&self.vocabulary), self.a, self.b).is_equal()?)
     }
 
     /// For Different, whether the survivors written tell the terms apart, by the meaning alone.
@@ -84,6 +86,14 @@ impl Question {
             Wanted::Equal => self.is_equal()? && !self.is_trivial()?,
         })
     }
+}
+
+/// The library's answer about two terms, and the survivors that it wrote.
+pub fn compare(bytes: &[u8], a: u32, b: u32) -> Result<(Comparison, [u8; SURVIVOR_BYTES]), Failure> {
+    let mut survivors = [0; SURVIVOR_BYTES];
+    let refused = |refusal: Refusal| Failure::new(Status::Refused, refusal.to_string());
+    let comparison = judge::compare(bytes, a, b, &mut survivors).map_err(refused)?;
+    Ok((comparison, survivors))
 }
 
 /// How many pairs of a vocabulary are tried.

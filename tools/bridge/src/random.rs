@@ -34,3 +34,48 @@ impl Random {
         numbers.get(place as usize).copied().unwrap_or(0)
     }
 }
+
+#[cfg(test)]
+mod tests {
+    #![allow(clippy::unwrap_used)]
+
+    use super::Random;
+    use crate::draw;
+
+    /// The first numbers that splitmix64 is known by, of seed 1234567.
+    #[test]
+    fn the_numbers_are_those_of_splitmix64() {
+        let mut random = Random::new(1_234_567);
+        for expected in [
+            6_457_827_717_110_365_317,
+            3_203_168_211_198_807_973,
+            9_817_491_932_198_370_423,
+        ] {
+            assert_eq!(random.bits(), expected);
+        }
+    }
+
+    #[test]
+    fn what_is_drawn_stays_below_its_end() {
+        let mut random = Random::new(1);
+        let drawn: Vec<u16> = (0..200).map(|_| random.below(3)).collect();
+        assert!([0, 1, 2].iter().all(|number| drawn.contains(number)));
+        assert!(drawn.iter().all(|number| *number < 3));
+        assert_eq!((random.below(0), random.pick(&[])), (0, 0));
+        assert_eq!(random.pick(&[8]), 8);
+    }
+
+    #[test]
+    fn a_seed_draws_the_same_questions_again_and_another_seed_others() {
+        let draw = |seed| {
+            let mut random = Random::new(seed);
+            let question = |_| {
+                let question = draw::question(&mut random).unwrap();
+                (question.bytes, question.a, question.b)
+            };
+            (0..5).map(question).collect::<Vec<_>>()
+        };
+        assert_eq!(draw(1), draw(1));
+        assert_ne!(draw(1), draw(2));
+    }
+}

@@ -1,22 +1,26 @@
 //! The reasoners' programs: their files, their commands and their answers.
 
+use std::ffi::{OsStr, OsString};
 use std::fs;
 use std::path::{Path, PathBuf};
 use std::process::{Command, Stdio};
 
-use crate::arguments::Arguments;
+use base::arguments::Arguments;
+use base::vocabulary::Vocabulary;
+use base::{Failure, Status};
+
+use crate::commands::{FACT, KONCLUDE};
 use crate::emit::{self, Form, Language};
-use crate::failure::Failure;
+use crate::files::{read, write};
 use crate::process::Run;
 use crate::question::Question;
-use crate::vocabulary::Vocabulary;
 use Language::{Fact, Konclude};
 
 /// A reasoner's program.
 pub struct Reasoner {
     /// The language it reads.
     pub language: Language,
-    program: String,
+    program: PathBuf,
 }
 
 /// What a reasoner says of two terms.
@@ -34,26 +38,26 @@ pub enum Reply {
 
 impl Reasoner {
     /// The reasoner of a language, where its program can be started.
-    fn find(language: Language, path: Option<&str>) -> Result<Reasoner, Failure> {
+    fn find(language: Language, path: Option<&OsStr>) -> Result<Reasoner, Failure> {
         let (usual, package) = match language {
             Konclude => ("Konclude", "konclude"),
             Fact => ("FaCT++", "fact++"),
         };
-        let program = path.unwrap_or(usual).to_owned();
-        if is_found(&program) {
-            Ok(Reasoner { language, program })
-        } else {
-            Err(Failure::missing(format!(
-                "there is no reasoner {program}; the Debian package {package} has it"
-            )))
-        }
+        let named = path.unwrap_or(OsStr::new(usual));
+        find_program(named)
+            .map(|program| Reasoner { language, program })
+            .ok_or_else(|| {
+                let name = named.to_string_lossy();
+                let message = format!("there is no reasoner {name}; the Debian package {package} has it");
+                Failure::new(Status::Unavailable, message)
+            })
     }
 
     /// Both reasoners, where the options or the search path have them.
     pub fn both(arguments: &Arguments) -> Result<Vec<Reasoner>, Failure> {
         Ok(vec![
-            Reasoner::find(Fact, arguments.text("fact"))?,
-            Reasoner::find(Konclude, arguments.text("konclude"))?,
+            Reasoner::find(Fact, arguments.value(FACT.name))?,
+            Reasoner::find(Konclude, arguments.value(KONCLUDE.name))?,
         ])
     }
 
@@ -146,15 +150,18 @@ impl Reasoner {
     }
 }
 
-/// Whether a program is there, by its path or on the search path. It is not started: `Konclude -h` hung once.
-fn is_found(program: &str) -> bool {
+/// The path of a program, by itself or on the search path; it runs in other directories than this one. It is not
+/// started: `Konclude -h` hung once.
+fn find_program(named: &OsStr) -> Option<PathBuf> {
     let paths = std::env::var_os("PATH").unwrap_or_default();
-    let on_path = || std::env::split_paths(&paths).any(|directory| directory.join(program).is_file());
-    if program.contains('/') {
-        Path::new(program).is_file()
+    let found = if named.as_encoded_bytes().contains(&b'/') {
+        Some(PathBuf::from(named))
     } else {
-        on_path()
-    }
+        std::env::split_paths(&paths)
+            .map(|directory| directory.join(named))
+            .find(|path| path.is_file())
+    };
+    std::path::absolute(found.filter(|path| path.is_file())?).ok()
 }
 
 /// Writes the files that ask whether two terms are equal: `stem` and the endings that the language's program wants.
@@ -185,7 +192,7 @@ fn write_input(language: Language, stem: &Path, text: &str, target: Option<&str>
 }
 
 /// The file's name after a stem and an ending, without its directory.
-fn named(stem: &Path, ending: &str) -> std::ffi::OsString {
+fn named(stem: &Path, ending: &str) -> OsString {
     stem.with_extension(ending).file_name().unwrap_or_default().to_owned()
 }
 
@@ -196,14 +203,4 @@ fn numbers(text: &str, mark: &str) -> Vec<u16> {
         .skip(1)
         .filter_map(|rest| digits(rest).parse().ok())
         .collect()
-}
-
-/// Writes a file.
-pub fn write(path: &Path, content: impl AsRef<[u8]>) -> Result<(), Failure> {
-    fs::write(path, content).map_err(|error| Failure::file(path, &error))
-}
-
-/// Reads a file.
-pub fn read(path: &Path) -> Result<String, Failure> {
-    fs::read_to_string(path).map_err(|error| Failure::file(path, &error))
 }

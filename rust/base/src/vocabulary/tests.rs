@@ -68,3 +68,33 @@ fn records_with_a_form_come_back_from_what_they_say() {
         }
     }
 }
+
+#[test]
+fn bytes_terms_and_statements_are_those_of_the_records() {
+    let (mut accepted, mut statements) = (0, 0);
+    for (bytes, ..) in cases() {
+        let vocabulary = Vocabulary::read(bytes);
+        assert_eq!(vocabulary.bytes(), &bytes[..bytes.len() / 8 * 8]);
+        if judge::check_vocabulary(bytes).is_err() {
+            continue;
+        }
+        accepted += 1;
+        // Each record of an accepted vocabulary says something, and its operands are terms before it.
+        assert_eq!(vocabulary.sayings().count() + 1, vocabulary.records.len());
+        let terms = vocabulary.terms();
+        for (number, saying) in vocabulary.sayings() {
+            assert_eq!(terms.contains(&number), !matches!(saying, Saying::Within(..)));
+            assert!(saying.operands().iter().all(|a| *a < number && terms.contains(a)));
+        }
+        let (mut link, mut chained) = (vocabulary.get(0).a, Vec::new());
+        while link != 0 {
+            let statement = vocabulary.get(link.into());
+            chained.push((statement.a, statement.b));
+            link = statement.next;
+        }
+        assert_eq!(vocabulary.statements(), chained);
+        statements += chained.len();
+    }
+    assert_eq!((accepted, statements), (4_232, 5_674));
+    assert_eq!(super::Record::header(258).bytes(), [16, 1, 0, 0, 2, 1, 0, 0]);
+}

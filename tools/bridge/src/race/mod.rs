@@ -8,17 +8,20 @@ pub use one::one;
 pub use table::{answer_pairs, table};
 pub use worst::worst;
 
+use std::ffi::OsStr;
 use std::path::{Path, PathBuf};
 use std::process::Command;
 use std::time::Instant;
 
+use base::arguments::{digits, Arguments};
+use base::{Failure, Status};
 use judge::SURVIVOR_BYTES;
 
-use crate::arguments::Arguments;
-use crate::failure::Failure;
+use crate::commands::OURS;
+use crate::files::{read, read_vocabulary};
 use crate::process::Run;
 use crate::question::Question;
-use crate::reasoner::{read, Reply};
+use crate::reasoner::Reply;
 use crate::report::{median, milliseconds};
 
 /// A question of a directory's list.
@@ -56,25 +59,38 @@ fn entries(directory: &Path) -> Result<Vec<Entry>, Failure> {
     let list = read(&directory.join("list"))?;
     let mut entries = Vec::new();
     for line in list.lines() {
-        let mut words = line.split(' ');
-        let (Some(name), Some(a), Some(b)) = (words.next(), words.next(), words.next()) else {
-            return Err(Failure::refused(format!("no question: {line}")));
+        let Some((name, (a, b))) = line
+            .split_once(' ')
+            .and_then(|(name, pair)| Some((name, read_pair(pair)?)))
+        else {
+            return Err(Failure::new(Status::Refused, format!("no question: {line}")));
         };
         let stem = directory.join(name);
-        let question = crate::asked(&stem.with_extension("vocabulary").to_string_lossy(), a, b)?;
+        let vocabulary = read_vocabulary(&stem.with_extension("vocabulary"))?;
+        let question = Question::asked(vocabulary, a, b)?;
         entries.push(Entry { stem, question });
     }
     Ok(entries)
 }
 
-/// The command of the library's side: a program that takes a vocabulary and two terms and says equal or different.
-fn ours(arguments: &Arguments, vocabulary: &Path, a: u16, b: u16) -> Result<Command, Failure> {
-    let program = arguments
-        .text("ours")
-        .ok_or_else(|| Failure::usage("--ours has to name a program"))?;
+/// Two term numbers with a space between.
+fn read_pair(text: &str) -> Option<(u32, u32)> {
+    let (a, b) = text.split_once(' ')?;
+    Some((digits(a)?, digits(b)?))
+}
+
+/// The program of the library's side: it takes a vocabulary and two terms and says equal or different.
+fn our_program(arguments: &Arguments) -> Result<&OsStr, Failure> {
+    let program = arguments.value(OURS.name);
+    program.ok_or_else(|| Failure::usage("--ours has to name a program"))
+}
+
+/// The command of the library's side.
+fn ours(program: &OsStr, vocabulary: &Path, question: &Question) -> Command {
     let mut command = Command::new(program);
-    command.arg(vocabulary).arg(a.to_string()).arg(b.to_string());
-    Ok(command)
+    command.arg(vocabulary);
+    command.args([question.a.to_string(), question.b.to_string()]);
+    command
 }
 
 /// What the library's side said.

@@ -1,12 +1,17 @@
 //! One question, one process.
 
+use std::ffi::OsStr;
+use std::fmt::Write;
 use std::path::Path;
 use std::time::Duration;
 
-use super::{call_alone, entries, expected, failures, judged, medians, ours, reply, spread, Entry, Times};
-use crate::arguments::Arguments;
-use crate::customs::beside;
-use crate::failure::Failure;
+use base::arguments::Arguments;
+use base::{Failure, Status};
+
+use super::{call_alone, entries, expected, failures, judged, medians, our_program, ours, reply, spread, Entry, Times};
+use crate::commands::REPEATS;
+use crate::customs::{beside, FEWEST_ATOMS};
+use crate::output::say_line;
 use crate::process;
 use crate::reasoner::Reasoner;
 use crate::report::median;
@@ -15,26 +20,29 @@ use crate::report::median;
 const TO_REACH: (f64, f64) = (2.0, 20.0);
 
 /// One question a process: the table by numbers of atoms, and the whole beside what is to be reached.
-pub fn one(directory: &Path, arguments: &Arguments) -> Result<(), Failure> {
-    let (reasoners, limit) = (Reasoner::both(arguments)?, arguments.limit(60)?);
-    let entries = entries(directory)?;
+pub fn one(arguments: &Arguments) -> Result<Status, Failure> {
+    let [directory] = arguments.words(["DIRECTORY"])?;
+    let (program, limit) = (our_program(arguments)?, process::limit(arguments, 60)?);
+    let repeats = arguments.number(REPEATS.name, 11)?;
+    let reasoners = Reasoner::both(arguments)?;
+    let entries = entries(Path::new(directory))?;
     let mut sides = vec![vec![Times::default(); 1 + reasoners.len()]; entries.len()];
-    for _ in 0..arguments.number("repeats", 11)? {
+    for _ in 0..repeats {
         for (entry, sides) in entries.iter().zip(&mut sides) {
-            run_all(entry, &reasoners, arguments, limit, sides)?;
+            run_all(entry, &reasoners, program, limit, sides)?;
         }
     }
     let calls: Vec<f64> = entries.iter().map(|entry| call_alone(&entry.question)).collect();
-    print_by_atoms(&entries, &sides, &calls);
-    print_whole(&reasoners, &sides, &calls);
-    Ok(())
+    say_line(&by_atoms(&entries, &sides, &calls))?;
+    say_line(&whole(&reasoners, &sides, &calls))?;
+    Ok(Status::Holds)
 }
 
 /// Runs the library's program and each reasoner once.
 fn run_all(
     entry: &Entry,
     reasoners: &[Reasoner],
-    arguments: &Arguments,
+    program: &OsStr,
     limit: Duration,
     sides: &mut [Times],
 ) -> Result<(), Failure> {
@@ -42,7 +50,7 @@ fn run_all(
     let mut sides = sides.iter_mut();
     if let Some(side) = sides.next() {
         let vocabulary = entry.stem.with_extension("vocabulary");
-        let run = process::run(ours(arguments, &vocabulary, question.a, question.b)?, limit)?;
+        let run = process::run(ours(program, &vocabulary, question), limit)?;
         side.add(&run, judged(reply(&run), expected));
     }
     for (reasoner, side) in reasoners.iter().zip(sides) {
@@ -52,33 +60,29 @@ fn run_all(
     Ok(())
 }
 
-fn print_by_atoms(entries: &[Entry], sides: &[Vec<Times>], calls: &[f64]) {
-    println!(
-        "| atoms | vocabularies | records | the call alone, ms | library, ms | FaCT++, ms | times | Konclude, ms | \
-         times |"
-    );
-    println!("|---:|---:|---:|---:|---:|---:|---:|---:|---:|");
-    for atoms in 6..=12 {
-        let here = |place: &usize| {
-            entries
-                .get(*place)
-                .is_some_and(|entry| entry.question.vocabulary.atoms() == atoms)
-        };
-        let places: Vec<usize> = (0..entries.len()).filter(here).collect();
-        let of = |figures: &[f64]| {
-            median(
-                &places
-                    .iter()
-                    .filter_map(|place| figures.get(*place).copied())
-                    .collect::<Vec<_>>(),
-            )
-        };
-        let records: Vec<f64> = entries
-            .iter()
-            .map(|entry| entry.question.vocabulary.len() as f64)
+/// The table by numbers of atoms.
+fn by_atoms(entries: &[Entry], sides: &[Vec<Times>], calls: &[f64]) -> String {
+    let mut table = "| atoms | vocabularies | records | the call alone, ms | library, ms | FaCT++, ms | times | \
+                     Konclude, ms | times |\n|---:|---:|---:|---:|---:|---:|---:|---:|---:|\n"
+        .to_owned();
+    let records: Vec<f64> = entries
+        .iter()
+        .map(|entry| entry.question.vocabulary.records.len() as f64)
+        .collect();
+    for atoms in FEWEST_ATOMS..=judge::ATOMS {
+        let has = |entry: &Entry| entry.question.vocabulary.atoms().len() == atoms;
+        let places: Vec<usize> = (0..)
+            .zip(entries)
+            .filter(|(_, entry)| has(entry))
+            .map(|(place, _)| place)
             .collect();
+        let of = |figures: &[f64]| {
+            let here = places.iter().filter_map(|place| figures.get(*place).copied());
+            median(&here.collect::<Vec<_>>())
+        };
         let (library, fact, konclude) = (of(&medians(sides, 0)), of(&medians(sides, 1)), of(&medians(sides, 2)));
-        println!(
+        let _ = writeln!(
+            table,
             "| {atoms} | {} | {:.0} | {:.4} | {library:.2} | {fact:.2} | {} | {konclude:.2} | {} |",
             places.len(),
             of(&records),
@@ -87,29 +91,25 @@ fn print_by_atoms(entries: &[Entry], sides: &[Vec<Times>], calls: &[f64]) {
             ratio(konclude / library, TO_REACH.1)
         );
     }
-    println!();
+    table
 }
 
-fn print_whole(reasoners: &[Reasoner], sides: &[Vec<Times>], calls: &[f64]) {
+/// The table of all vocabularies, beside what is to be reached.
+fn whole(reasoners: &[Reasoner], sides: &[Vec<Times>], calls: &[f64]) -> String {
     let library = median(&medians(sides, 0));
-    println!(
+    let mut table = format!(
         "| all vocabularies | median, ms | least, ms | most, ms | times the library's | to reach | wrong answers | \
-         no answer |"
-    );
-    println!("|---|---:|---:|---:|---:|---:|---:|---:|");
-    println!(
-        "| library, the call alone | {} | {:.3} | | | |",
+         no answer |\n|---|---:|---:|---:|---:|---:|---:|---:|\n\
+         | library, the call alone | {} | {:.3} | | | |\n| library, a process | {} | 1 | | {} |\n",
         spread(calls, 4),
-        median(calls) / library
-    );
-    println!(
-        "| library, a process | {} | 1 | | {} |",
+        median(calls) / library,
         spread(&medians(sides, 0), 2),
         failures(sides, 0)
     );
     for ((place, reasoner), to_reach) in (1..).zip(reasoners).zip([TO_REACH.0, TO_REACH.1]) {
         let figures = medians(sides, place);
-        println!(
+        let _ = writeln!(
+            table,
             "| {} | {} | {} | {to_reach} | {} |",
             reasoner.name(),
             spread(&figures, 2),
@@ -117,7 +117,7 @@ fn print_whole(reasoners: &[Reasoner], sides: &[Vec<Times>], calls: &[f64]) {
             failures(sides, place)
         );
     }
-    println!();
+    table
 }
 
 /// A ratio, marked where it is under the one to reach.

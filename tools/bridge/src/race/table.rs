@@ -1,41 +1,41 @@
 //! A table of questions over one vocabulary.
 
+use std::fmt::Write;
 use std::path::Path;
 use std::process::Command;
 use std::time::Duration;
 
-use judge::SURVIVOR_BYTES;
+use base::arguments::Arguments;
+use base::vocabulary::Vocabulary;
+use base::{Failure, Status};
+use judge::Verdict;
 
-use super::{entries, failures, medians, spread, Entry, Times};
-use crate::arguments::Arguments;
+use super::{entries, failures, medians, read_pair, spread, Entry, Times};
+use crate::commands::REPEATS;
 use crate::customs::{beside, PAIRS};
-use crate::failure::Failure;
+use crate::files::read;
+use crate::output::{complain, say_line};
 use crate::process::{self, Run};
-use crate::reasoner::{read, Reasoner};
+use crate::question::compare;
+use crate::reasoner::Reasoner;
 use crate::report::median;
-use crate::vocabulary::Vocabulary;
 
 /// The answers to the pairs in a file, a line for each that is equal: all calls of one process.
 pub fn answer_pairs(vocabulary: &Vocabulary, pairs: &Path) -> Result<(), Failure> {
     let bytes = vocabulary.bytes();
-    let mut survivors = [0; SURVIVOR_BYTES];
     for (a, b) in read_pairs(pairs)? {
-        let answer = judge::compare(&bytes, a.into(), b.into(), &mut survivors).map_err(Failure::refused)?;
-        if answer.verdict == judge::Verdict::Equal {
-            println!("{a} {b}");
+        if compare(&bytes, a, b)?.0.verdict == Verdict::Equal {
+            say_line(&format!("{a} {b}"))?;
         }
     }
     Ok(())
 }
 
-fn read_pairs(path: &Path) -> Result<Vec<(u16, u16)>, Failure> {
-    let text = read(path)?;
-    let pair = |line: &str| {
-        line.split_once(' ')
-            .and_then(|(a, b)| Some((a.parse().ok()?, b.parse().ok()?)))
-    };
-    text.lines()
-        .map(|line| pair(line).ok_or_else(|| Failure::refused(format!("no pair: {line}"))))
+fn read_pairs(path: &Path) -> Result<Vec<(u32, u32)>, Failure> {
+    let no_pair = |line: &str| Failure::new(Status::Refused, format!("{}: no pair: {line}", path.display()));
+    read(path)?
+        .lines()
+        .map(|line| read_pair(line).ok_or_else(|| no_pair(line)))
         .collect()
 }
 
@@ -48,24 +48,27 @@ struct TableTimes {
 }
 
 /// Tables of questions over one vocabulary: all calls in one process beside one classification.
-pub fn table(directory: &Path, arguments: &Arguments) -> Result<(), Failure> {
-    let (reasoners, limit) = (Reasoner::both(arguments)?, arguments.limit(60)?);
-    let entries = entries(directory)?;
+pub fn table(arguments: &Arguments) -> Result<Status, Failure> {
+    let [directory] = arguments.words(["DIRECTORY"])?;
+    let (repeats, limit) = (arguments.number(REPEATS.name, 5)?, process::limit(arguments, 60)?);
+    let reasoners = Reasoner::both(arguments)?;
+    let entries = entries(Path::new(directory))?;
     let start = TableTimes {
         classified: vec![Times::default(); reasoners.len()],
         ..TableTimes::default()
     };
     let mut times = vec![start; entries.len()];
-    for _ in 0..arguments.number("repeats", 5)? {
+    for _ in 0..repeats {
         for (entry, times) in entries.iter().zip(&mut times) {
             run_table(entry, &reasoners, limit, times)?;
         }
     }
-    print_tables(&entries, &reasoners, &times)
+    say_line(&written(&entries, &reasoners, &times)?)?;
+    Ok(Status::Holds)
 }
 
 fn run_table(entry: &Entry, reasoners: &[Reasoner], limit: Duration, times: &mut TableTimes) -> Result<(), Failure> {
-    let program = std::env::current_exe().map_err(|error| Failure::process(&error))?;
+    let program = std::env::current_exe().map_err(|error| process::failed(&error))?;
     let answer = |ending: &str| {
         let mut command = Command::new(&program);
         command
@@ -93,10 +96,10 @@ fn run_table(entry: &Entry, reasoners: &[Reasoner], limit: Duration, times: &mut
 fn say_difference(reasoner: &Reasoner, stem: &Path, run: &Run, ours: &str, theirs: Option<&str>) {
     let (name, stem) = (reasoner.name(), stem.display());
     let Some(theirs) = theirs else {
-        eprintln!(
-            "{name}, {stem}: no table, status {:?}; it said:\n{}",
-            run.status, run.text
-        );
+        let (status, text) = (run.status, &run.text);
+        complain(&format!(
+            "{name}, {stem}: no table, status {status:?}; it said:\n{text}"
+        ));
         return;
     };
     let only = |here: &str, there: &str| {
@@ -104,11 +107,11 @@ fn say_difference(reasoner: &Reasoner, stem: &Path, run: &Run, ours: &str, their
         lines.collect::<Vec<_>>().join(", ")
     };
     if ours != theirs {
-        eprintln!(
+        complain(&format!(
             "{name}, {stem}: equal for the library only: {}; equal for {name} only: {}",
             only(ours, theirs),
             only(theirs, ours)
-        );
+        ));
     }
 }
 
@@ -126,7 +129,8 @@ fn pairs_of(groups: &[Vec<u16>]) -> String {
     pairs.iter().map(|(a, b)| format!("{a} {b}\n")).collect()
 }
 
-fn print_tables(entries: &[Entry], reasoners: &[Reasoner], times: &[TableTimes]) -> Result<(), Failure> {
+/// The table of the figures.
+fn written(entries: &[Entry], reasoners: &[Reasoner], times: &[TableTimes]) -> Result<String, Failure> {
     let numbers = entries
         .iter()
         .map(|entry| Ok(read_pairs(&entry.stem.with_extension("all"))?.len() as f64));
@@ -134,11 +138,10 @@ fn print_tables(entries: &[Entry], reasoners: &[Reasoner], times: &[TableTimes])
     let column = |pick: fn(&TableTimes) -> &Times| vec_of(times, |times| Some(pick(times)));
     let (some, all) = (column(|times| &times.some), column(|times| &times.all));
     let (some_median, all_median) = (median(&medians(&some, 0)), median(&medians(&all, 0)));
-    println!(
+    let mut table = format!(
         "| a table over one vocabulary | median, ms | least, ms | most, ms | times {PAIRS} pairs | times all pairs | \
-         wrong tables | no answer |"
+         wrong tables | no answer |\n|---|---:|---:|---:|---:|---:|---:|---:|\n"
     );
-    println!("|---|---:|---:|---:|---:|---:|---:|---:|");
     let rows = [
         (format!("library, {PAIRS} pairs"), some),
         (format!("library, all pairs (median {pairs:.0})"), all),
@@ -151,7 +154,8 @@ fn print_tables(entries: &[Entry], reasoners: &[Reasoner], times: &[TableTimes])
     });
     for (name, sides) in rows.into_iter().chain(theirs) {
         let figures = medians(&sides, 0);
-        println!(
+        let _ = writeln!(
+            table,
             "| {name} | {} | {:.2} | {:.2} | {} |",
             spread(&figures, 2),
             median(&figures) / some_median,
@@ -159,8 +163,7 @@ fn print_tables(entries: &[Entry], reasoners: &[Reasoner], times: &[TableTimes])
             failures(&sides, 0)
         );
     }
-    println!();
-    Ok(())
+    Ok(table)
 }
 
 /// One side of the tables, in the shape that the other functions take.

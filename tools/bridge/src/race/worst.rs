@@ -3,14 +3,17 @@
 use std::path::Path;
 use std::time::Duration;
 
-use super::{call_alone, expected, judged, ours, reply, Times};
-use crate::arguments::Arguments;
+use base::arguments::Arguments;
+use base::{Failure, Status};
+
+use super::{call_alone, expected, judged, our_program, ours, reply, Times};
 use crate::emit::Form;
-use crate::failure::Failure;
+use crate::files::{read_vocabulary, Scratch};
+use crate::output::say_line;
 use crate::process;
 use crate::question::Question;
 use crate::reasoner::{write_query, Reasoner};
-use crate::report::{milliseconds, Scratch};
+use crate::report::milliseconds;
 
 /// The files of bench/data, whose question is their first and their last term, as in bench/questions.c.
 const WORST: [&str; 7] = [
@@ -26,36 +29,35 @@ const WORST: [&str; 7] = [
 /// How often a process that ends within the limit is run.
 const WORST_RUNS: usize = 5;
 
-/// The vocabularies of bench/data.
-pub fn worst(directory: &Path, arguments: &Arguments) -> Result<(), Failure> {
-    let (reasoners, limit) = (Reasoner::both(arguments)?, arguments.limit(60)?);
+/// The vocabularies of bench/data; a row is printed as soon as it is known.
+pub fn worst(arguments: &Arguments) -> Result<Status, Failure> {
+    let [directory] = arguments.words(["DIRECTORY"])?;
+    let (program, limit) = (our_program(arguments)?, process::limit(arguments, 60)?);
+    let reasoners = Reasoner::both(arguments)?;
     let scratch = Scratch::new()?;
-    println!("| input | answer | the call alone, ms | library, ms | FaCT++, ms | times | Konclude, ms | times |");
-    println!("|---|---|---:|---:|---:|---:|---:|---:|");
+    say_line("| input | answer | the call alone, ms | library, ms | FaCT++, ms | times | Konclude, ms | times |")?;
+    say_line("|---|---|---:|---:|---:|---:|---:|---:|")?;
     for name in WORST {
-        let path = directory.join(format!("{name}.bin"));
-        let vocabulary = crate::read(&path.to_string_lossy())?;
+        let path = Path::new(directory).join(format!("{name}.bin"));
+        let vocabulary = read_vocabulary(&path)?;
         let last = vocabulary.terms().last().copied().unwrap_or(0);
         let question = Question::new(vocabulary, 1, last);
+        let expected = expected(&question)?;
         let mut library = Times::default();
         for _ in 0..WORST_RUNS {
-            let run = process::run(ours(arguments, &path, question.a, question.b)?, limit)?;
-            library.add(&run, judged(reply(&run), expected(&question)?));
+            let run = process::run(ours(program, &path, &question), limit)?;
+            library.add(&run, judged(reply(&run), expected));
         }
-        print!(
-            "| {name} | {:?} | {:.3} | {:.2}",
-            expected(&question)?,
-            call_alone(&question),
-            library.median()
-        );
+        let (call, ours) = (call_alone(&question), library.median());
+        let mut row = format!("| {name} | {expected:?} | {call:.3} | {ours:.2}");
         for reasoner in &reasoners {
             let times = run_worst(&scratch, reasoner, &question, limit)?;
-            print!(" | {}", cells(&times, library.median(), limit));
+            row += &format!(" | {}", cells(&times, ours, limit));
         }
-        println!(" |");
+        say_line(&format!("{row} |"))?;
     }
-    println!();
-    Ok(())
+    say_line("")?;
+    Ok(Status::Holds)
 }
 
 /// The runs of a reasoner: one where it takes over a tenth of the limit.
