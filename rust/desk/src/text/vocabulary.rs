@@ -7,10 +7,7 @@ use super::{find, link_words, linked_line, whole, WRITTEN_OUT};
 use crate::display::plain;
 use crate::json::Json;
 use base::chain::default_link;
-use base::vocabulary::{Record, Saying, Vocabulary, HEADER_KIND, STATEMENT_KIND};
-
-/// The second byte of the header.
-const EDITION: u8 = 1;
+use base::vocabulary::{Record, Saying, Vocabulary, STATEMENT_KIND};
 
 /// A vocabulary with the text of each record as an operand.
 pub struct Written {
@@ -113,11 +110,12 @@ impl Written {
     /// The line of the header.
     pub fn header(&self) -> String {
         let header = self.vocabulary.get(0);
-        if (header.kind, header.second, header.next) != (HEADER_KIND, EDITION, 0) {
+        let (first, roles) = (header.a, header.b);
+        if (Record { a: 0, ..header }) != Record::header(roles) {
             return format!("vocabulary {}", raw(header));
         }
-        let first = link_words("first", header.a, default_link(&self.chained, 0));
-        format!("vocabulary roles {}{first}", header.b)
+        let first = link_words("first", first, default_link(&self.chained, 0));
+        format!("vocabulary roles {roles}{first}")
     }
 
     /// A record's line, without its number.
@@ -214,12 +212,7 @@ fn read_header(line: &mut Cursor) -> Result<Linked<Record>, Fault> {
         let record = read_raw(line)?;
         (record, Some(record.a))
     } else {
-        let record = Record {
-            kind: HEADER_KIND,
-            second: EDITION,
-            b: line.number()?,
-            ..Record::default()
-        };
+        let record = Record::header(line.number()?);
         (record, read_link(line, "first")?)
     };
     Ok(Linked {
