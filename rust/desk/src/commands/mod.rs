@@ -49,7 +49,7 @@ const COMMANDS: [Command; 9] = [
     command("verify", verify::FLAGS, verify::run),
     command("columns", columns::FLAGS, columns::run),
     command("assemble", assemble::FLAGS, assemble::run),
-    command("recheck", &[], recheck::run),
+    command("recheck", recheck::FLAGS, recheck::run),
 ];
 
 /// The options of every command.

@@ -1,0 +1,175 @@
+//! The vocabularies that lines name. Each worker keeps those that it used last, since lines of one vocabulary mostly
+//! follow one another.
+//!
+//! A file is read when a worker first needs it, and again when it was not among the last ones. Where a file changes
+//! during the run, each line is judged by what was read of it before or after the change, and which of the two is left
+//! open; a file that is written over while it is read may be seen in part.
+
+use crate::files::Access;
+use crate::input::{self, Input};
+use crate::question::Questions;
+use crate::report::{Stop, Style};
+use crate::text::vocabulary::Written;
+use base::vocabulary::{Record, Saying, Vocabulary};
+use base::Status;
+use std::collections::BTreeMap;
+use std::ffi::OsString;
+use std::path::{Path, PathBuf};
+use std::sync::Arc;
+
+/// How many vocabularies are kept.
+const KEPT: usize = 16;
+
+/// Why a file gives no vocabulary or script.
+#[derive(Clone, Debug)]
+pub struct Trouble {
+    /// The exit status that it asks for.
+    pub status: Status,
+    /// The reason.
+    pub why: String,
+}
+
+impl From<Stop> for Trouble {
+    fn from(stop: Stop) -> Trouble {
+        match stop {
+            Stop::Failure(failure) => Trouble {
+                status: failure.status,
+                why: failure.message,
+            },
+            Stop::Answer(report) => Trouble {
+                status: report.status,
+                why: report.text,
+            },
+        }
+    }
+}
+
+/// Where files are looked for, and what is known of them beside.
+#[derive(Clone)]
+pub struct Files {
+    /// The directory of the table.
+    pub directory: PathBuf,
+    /// The text whose comments say what records are called.
+    pub words: Option<Arc<Input>>,
+}
+
+impl Files {
+    /// Reads a vocabulary.
+    fn vocabulary(&self, file: &str) -> Result<Known, Trouble> {
+        let input = input::vocabulary(&self.path(file), Access::Regular, Style { colour: false })?;
+        let same = self.words.as_ref().filter(|words| words.bytes == input.bytes);
+        let words = same.map(|words| words.as_ref()).unwrap_or(&input).comments();
+        Ok(Known::new(input, words))
+    }
+
+    /// Reads a script.
+    pub fn script(&self, file: &str) -> Result<Input, Trouble> {
+        Ok(input::script(
+            &self.path(file),
+            Access::Regular,
+            Style { colour: false },
+        )?)
+    }
+
+    /// The path of a file that the table names.
+    fn path(&self, file: &str) -> OsString {
+        let path = self.directory.join(file);
+        // So that messages do not call it standard input.
+        if path == Path::new("-") {
+            return "./-".into();
+        }
+        path.into_os_string()
+    }
+}
+
+/// A vocabulary, with what was found out about it.
+pub struct Known {
+    /// The vocabulary.
+    pub input: Input,
+    words: Option<Vec<String>>,
+    written: Option<Written>,
+    is_contradictory: Option<bool>,
+    empty: BTreeMap<u32, bool>,
+}
+
+impl Known {
+    fn new(input: Input, words: Option<Vec<String>>) -> Known {
+        Known {
+            input,
+            words,
+            written: None,
+            is_contradictory: None,
+            empty: BTreeMap::new(),
+        }
+    }
+
+    /// Whether no interpretation satisfies the statements; false where that cannot be asked.
+    pub fn is_contradictory(&mut self) -> bool {
+        let asked = || Questions::new(&self.input.bytes).is_contradictory().unwrap_or(false);
+        *self.is_contradictory.get_or_insert_with(asked)
+    }
+
+    /// Whether nothing can belong to a term; false where that cannot be asked.
+    pub fn is_empty(&mut self, term: u32) -> bool {
+        let asked = || Questions::new(&self.input.bytes).is_empty(term) == Ok(Some(true));
+        *self.empty.entry(term).or_insert_with(asked)
+    }
+
+    /// Whether a record is bottom, to which nothing belongs by its meaning.
+    pub fn is_bottom(&self, term: u32) -> bool {
+        let record = judge::record(&self.input.bytes, term).map(Record::read);
+        record.is_ok_and(|record| record.saying() == Some(Saying::Bottom))
+    }
+
+    /// The vocabulary written out, with the words for its records where there are some.
+    pub fn written(&mut self) -> &Written {
+        let (bytes, words) = (&self.input.bytes, &mut self.words);
+        self.written.get_or_insert_with(|| {
+            let written = Written::new(Vocabulary::read(bytes));
+            match words.take() {
+                Some(words) => written.with_words(words),
+                None => written,
+            }
+        })
+    }
+}
+
+/// The vocabularies used last, the last first. A file that cannot be read is kept as such.
+pub struct Kept {
+    /// Where they are read from.
+    pub files: Files,
+    last: Vec<(String, Result<Known, Trouble>)>,
+}
+
+impl Kept {
+    /// None yet.
+    pub fn new(files: Files) -> Kept {
+        Kept {
+            files,
+            last: Vec::new(),
+        }
+    }
+
+    /// The vocabulary of a file.
+    pub fn vocabulary(&mut self, file: &str) -> Result<&mut Known, Trouble> {
+        match self.last.iter().position(|(name, _)| name == file) {
+            Some(0) => {}
+            Some(at) => {
+                let found = self.last.remove(at);
+                self.last.insert(0, found);
+            }
+            None => {
+                self.last.truncate(KEPT - 1);
+                self.last.insert(0, (file.to_string(), self.files.vocabulary(file)));
+            }
+        }
+        match self.last.first_mut() {
+            Some((_, Ok(known))) => Ok(known),
+            Some((_, Err(trouble))) => Err(trouble.clone()),
+            None => Err(Trouble {
+                status: Status::Defect,
+                why: "no vocabulary is kept".to_string(),
+            }),
+        }
+    }
+}
