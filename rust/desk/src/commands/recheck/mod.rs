@@ -113,7 +113,7 @@ impl Teller<'_> {
         for told in piece.told {
             let number = told.number;
             self.progress.make_room();
-            self.console.answer(report(&self.name, told))?;
+            self.console.answer(report(&self.name, told, self.console.json))?;
             if self.console.is_gone() {
                 let before = number - 1;
                 let message =
@@ -131,51 +131,52 @@ impl Teller<'_> {
         let failure = error.map(|error| unreadable(&self.name, &error));
         match failure {
             Some(failure) if self.tally.lines() == 0 => Err(failure.into()),
-            Some(failure) => {
-                self.console
-                    .answer(self.tally.report(self.console.style, &self.name, end))?;
-                Err(failure.into())
+            failure => {
+                let report = self.tally.report(self.console.style, &self.name, end);
+                let status = self.console.answer(report)?;
+                failure.map_or(Ok(status), |failure| Err(failure.into()))
             }
-            None => Ok(self
-                .console
-                .answer(self.tally.report(self.console.style, &self.name, end))?),
         }
     }
 }
 
-/// What is told of a line.
-fn report(name: &Name, told: Told) -> Report {
-    let Told {
-        number,
-        text: row,
-        outcome,
-    } = told;
-    let Outcome {
-        sort,
-        status,
-        column,
-        why,
-        detail,
-        element,
-    } = outcome;
-    let mut text = format!("{name}:{number}:{column}: {}\n", plain(&row));
-    for line in why.lines().chain(detail.lines()) {
-        text.push_str(&format!("  {}\n", plain(line)));
+/// What is told of a line. Of the two forms, the one that is not asked for is left out, since there may be many lines.
+fn report(name: &Name, told: Told, as_json: bool) -> Report {
+    let status = told.outcome.status;
+    if as_json {
+        Report::new(status, String::new(), json(name, told))
+    } else {
+        Report::new(status, text(name, &told), Vec::new())
     }
+}
+
+fn text(name: &Name, told: &Told) -> String {
+    let Outcome {
+        column, why, detail, ..
+    } = &told.outcome;
+    let mut text = format!("{name}:{}:{column}: {}\n", told.number, plain(&told.text));
+    for line in why.lines().chain(detail.lines()) {
+        text.extend(["  ", &plain(line), "\n"]);
+    }
+    text
+}
+
+fn json(name: &Name, told: Told) -> Vec<(&'static str, Json)> {
+    let outcome = told.outcome;
     let mut json = vec![
         ("file", Json::from(name.as_str())),
-        ("line", Json::from(number)),
-        ("column", Json::from(column)),
-        ("text", Json::from(row)),
-        ("verdict", Json::from(verdict(sort))),
-        ("why", Json::from(why)),
+        ("line", Json::from(told.number)),
+        ("column", Json::from(outcome.column)),
+        ("text", Json::from(told.text)),
+        ("verdict", Json::from(verdict(outcome.sort))),
+        ("why", Json::from(outcome.why)),
     ];
-    match element {
+    match outcome.element {
         Some(element) => json.push(("element", element)),
-        None if !detail.is_empty() => json.push(("detail", Json::from(detail.trim_end()))),
+        None if !outcome.detail.is_empty() => json.push(("detail", Json::from(outcome.detail.trim_end()))),
         None => {}
     }
-    Report::new(status, text, json)
+    json
 }
 
 /// The word for a sort.
