@@ -1,4 +1,4 @@
-//! What `--json` writes is JSON: one object on one line, with the same status as the command exits with. Checked on the
+//! What `--json` writes is JSON: objects, one a line, the last with the same status as the command exits with. Checked on the
 //! transcript tests/desk.expected and on damaged inputs.
 
 #![allow(clippy::unwrap_used, clippy::indexing_slicing)]
@@ -174,7 +174,7 @@ fn the_transcript_has_json_where_it_was_asked_for() {
     assert!(found >= 27, "{found}");
 }
 
-/// Runs desk with --json on a file of these bytes, and answers whether it said JSON with its own exit status.
+/// Runs desk with --json on a file of these bytes, and answers whether it said JSON, the last line with its own exit status.
 fn says_json(name: &str, bytes: &[u8], before: &[&str], after: &[&str]) -> bool {
     let path = PathBuf::from(env!("CARGO_TARGET_TMPDIR")).join(name);
     std::fs::write(&path, bytes).unwrap();
@@ -188,7 +188,9 @@ fn says_json(name: &str, bytes: &[u8], before: &[&str], after: &[&str]) -> bool 
         .unwrap();
     let text = String::from_utf8(output.stdout).unwrap();
     let status = output.status.code().unwrap();
-    output.stderr.is_empty() && text.ends_with('\n') && is_answer(text.trim_end(), status.try_into().unwrap())
+    let last = text.lines().last().unwrap_or_default();
+    let are_objects = text.lines().all(|line| fields(line).is_some());
+    output.stderr.is_empty() && text.ends_with('\n') && are_objects && is_answer(last, status.try_into().unwrap())
 }
 
 #[test]

@@ -55,7 +55,7 @@ impl Progress {
     /// Takes the bar away.
     pub fn clear(&mut self) {
         if std::mem::take(&mut self.is_drawn) {
-            let _ = write!(io::stderr(), "\r\x1b[K");
+            let _ = write!(io::stderr(), "\r\x1b[2K");
         }
     }
 }
