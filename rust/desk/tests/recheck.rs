@@ -314,7 +314,7 @@ fn failing_lines_are_explained_with_words() {
              A: term 3, {three2}\n    B: term 4, ObjectIntersectionOf(c1 c2)\n  element 4 belongs to A and not to B\n    \
              at it holds: {three2}\n    does not hold: {one2}, {two2}\n\
              t:3:1: v.text 4 3 within s.text\n  refused, 24, at script record 2: the chain ends with a frame left\n  \
-             the chain ends with 1 frame left; still to be closed: C3(a)\n{}",
+             still to be closed: C3(a)\n{}",
             summary([0, 3, 0, 3, 0, 0, 0])
         )
     };
@@ -341,9 +341,29 @@ fn failing_lines_are_explained_with_words() {
         lines[1]
     );
     assert!(
-        lines[2].ends_with("\"detail\":\"the chain ends with 1 frame left; still to be closed: C3(a)\"}"),
+        lines[2].ends_with("\"detail\":\"still to be closed: C3(a)\"}"),
         "{}",
         lines[2]
+    );
+}
+
+#[test]
+fn a_refused_script_is_explained_if_that_is_wanted() {
+    let files = Files::new("refused");
+    files.write(
+        "s.text",
+        "script #4 within #3\na\nstart 1\nextend owner 9 column 0 x a at 0\n",
+    );
+    let told =
+        "t:1:1: v.text 4 3 within s.text\n  refused, 18, at script record 3: the step names a query column, owner, \
+                column, position or term that does not exist for it\n";
+    let detail = "  there is no record 9; the vocabulary ends at record 5\n";
+    let last = summary([0, 1, 0, 0, 1, 0, 0]);
+    let table = "v.text 4 3 within s.text\n";
+    assert_eq!(files.recheck(table, &[]), (format!("{told}{last}"), 2));
+    assert_eq!(
+        files.recheck(table, &["--explain"]),
+        (format!("{told}{detail}{last}"), 2)
     );
 }
 
@@ -514,7 +534,6 @@ fn a_table_that_cannot_be_read_to_its_end_is_summed_up() {
 }
 
 #[test]
-#[ignore = "signals.rs is a stub, which catches none"]
 fn an_interrupted_run_has_said_what_it_saw() {
     let files = Files::new("interrupted");
     let (mut child, mut said) = begun(&files, Stdio::piped());
