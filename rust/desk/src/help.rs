@@ -158,21 +158,22 @@ exit status: 0 written, 2 refused, or a fault in the text
 ";
 
 const RECHECK: &str = "\
-usage: desk recheck TABLE [--strict] [--explain] [--words TEXT] [-j N] [--json]
+usage: desk recheck TABLE [-j N] [--strict] [--explain] [--words TEXT] [--json]
 
-Rechecks a filed table, a line each ('desk help tables'). Prints each line that does not hold when it is found, in the
-order of the table, and a summary; a progress bar where standard error is a terminal. Lines that hold only because
-nothing satisfies the statements, or because nothing can belong to the terms, are marked and counted.
+Rechecks a filed table ('desk help tables'). Each line that does not hold is printed when it is found, in the order of the
+lines, as TABLE:LINE:COLUMN with the reason below it; then a summary. Lines that hold only because nothing satisfies the
+statements, or because nothing can belong to the terms, are marked. A progress bar is shown where standard error is a
+terminal.
 
-  --strict       lines that hold only for such a reason do not hold
-  --explain      explains each line that does not hold, as 'compare' and 'verify' do
-  --words TEXT   the text of the vocabulary, whose comments say what each record is called; explains, too
-  -j N, --jobs N works on N lines at once (1 to 64); the output is the same
+  -j N, --jobs N   judges with N threads, 1 to 64 (default 1); the answer is the same for every N
+  --strict         lines that are so marked fail, with status 1
+  --explain        explains each line that does not hold, as 'desk compare' does, and why a script is refused
+  --words TEXT     the text of a vocabulary, for lines whose vocabulary has its bytes; implies --explain
 
-With --json a line is written for each of these lines, and a last one that sums up.
+--json writes an object for each such line, and a last one with the summary.
 
 exit status: the greatest of the lines' own: 0 all hold (or there is none), 1 some do not, 2 some input was refused or a
-line is malformed, 66 some file cannot be read; 130 interrupted
+line is malformed, 66 some file, or the table, cannot be read; 74 standard output was closed, 130 interrupted
 ";
 
 const TEXTS: &str = "\
@@ -227,18 +228,21 @@ A line is VOCABULARY A B CLAIM. A and B are record numbers. The claim is one of
 
   equal            the terms A and B are equal
   different        they are not
-  within           A lies within B
-  within SCRIPT    the script is accepted, and its query is \"A within B\"
+  within           A lies within B, decided by the comparison (at most 12 atoms)
+  within SCRIPT    A lies within B by a script, which is accepted and has the query \"A within B\"
 
-in every finite interpretation that satisfies the vocabulary's statements. Files are named relative to the table's
-directory; only regular files are read. A vocabulary or a script may be its text. Fields are set apart by blanks, or by
-tabs if the line has a tab (then names may have blanks). Empty lines and lines that begin with '--' are left out; a table
-without lines holds.
+in every finite interpretation that satisfies the vocabulary's statements.
 
   -- filed in March
   v.vocabulary 4 3 different
   v.vocabulary 4 3 within
   v.vocabulary 4 3 within four-within-three.script
+
+Files are named relative to the table's directory ('-': the current one), as bytes or as texts; only regular files are
+read, and '-' is a file's name. Fields are set apart by blanks, or by tabs if there is one between them (then names may
+have blanks). Empty lines and lines that begin with '--' are left out. CR LF line ends and a byte order mark do not
+matter. A line has at most 65,536 bytes. One that is longer, is no UTF-8 or has a byte 0 is malformed; the others are
+judged. A table may have any length; one without lines holds.
 
 A line comes out as one of: it holds; it holds only because nothing satisfies the statements, or because nothing can
 belong to the terms; it does not hold; an input is refused; the line is malformed; a file cannot be read.

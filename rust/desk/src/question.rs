@@ -9,8 +9,8 @@ use judge::{Comparison, Refusal, Verdict};
 use std::collections::BTreeMap;
 
 /// Questions about a vocabulary, with what is known of it so far.
-pub struct Questions<'a> {
-    bytes: &'a [u8],
+pub struct Questions {
+    bytes: Vec<u8>,
     vocabulary: Vocabulary,
     /// What was found out of the terms that were asked about.
     empty: BTreeMap<u32, Option<bool>>,
@@ -27,11 +27,11 @@ pub enum Within {
     NoRoom,
 }
 
-impl<'a> Questions<'a> {
+impl Questions {
     /// Questions about a vocabulary, accepted or not.
-    pub fn new(bytes: &'a [u8]) -> Questions<'a> {
+    pub fn new(bytes: &[u8]) -> Questions {
         Questions {
-            bytes,
+            bytes: bytes.to_vec(),
             vocabulary: Vocabulary::read(bytes),
             empty: BTreeMap::new(),
             contradictory: None,
@@ -40,11 +40,7 @@ impl<'a> Questions<'a> {
 
     /// Whether two terms are equal.
     pub fn compare(&mut self, a: u32, b: u32) -> Result<Comparison, Refusal> {
-        self.compare_in(self.bytes, a, b)
-    }
-
-    fn compare_in(&mut self, bytes: &[u8], a: u32, b: u32) -> Result<Comparison, Refusal> {
-        let answer = judge::compare(bytes, a, b, &mut [0; judge::SURVIVOR_BYTES])?;
+        let answer = ask(&self.bytes, a, b)?;
         self.contradictory = Some(answer.survivors == 0);
         Ok(answer)
     }
@@ -61,7 +57,7 @@ impl<'a> Questions<'a> {
         } else if let Some(either) = self.find([or(first, second), or(second, first)]) {
             self.compare(either, b)?
         } else if let Some((copy, both)) = self.with(and(first, second)) {
-            self.compare_in(&copy, a, both)?
+            ask(&copy, a, both)?
         } else {
             // Equal terms lie within each other; it is refused here, too, if that is for another reason than the room.
             match self.compare(a, b)? {
@@ -89,7 +85,7 @@ impl<'a> Questions<'a> {
         } else if let Some(bottom) = self.find([Saying::Bottom]) {
             self.compare(term, bottom)?
         } else if let Some((copy, bottom)) = self.with(Saying::Bottom) {
-            self.compare_in(&copy, term, bottom)?
+            ask(&copy, term, bottom)?
         } else {
             self.compare(term, term)?;
             return Ok(None);
@@ -103,7 +99,7 @@ impl<'a> Questions<'a> {
         if let Some(known) = self.contradictory {
             return Ok(known);
         }
-        judge::check_vocabulary(self.bytes)?;
+        judge::check_vocabulary(&self.bytes)?;
         let term = self.vocabulary.numbered().find(|(_, record)| record.is_term());
         // Without a term there is no statement.
         let Some((term, _)) = term else {
@@ -133,4 +129,9 @@ impl<'a> Questions<'a> {
         copy.extend(saying.record(0).bytes());
         (records < judge::RECORDS).then_some((copy, records as u32))
     }
+}
+
+/// The comparison, for its answer alone.
+fn ask(vocabulary: &[u8], a: u32, b: u32) -> Result<Comparison, Refusal> {
+    judge::compare(vocabulary, a, b, &mut [0; judge::SURVIVOR_BYTES])
 }

@@ -89,7 +89,7 @@ fn text(bytes: Vec<u8>) -> String {
 /// The last line of what was said of the table t.
 fn summary([holding, lines, vacuous, failing, refused, malformed, unread]: [u32; 7]) -> String {
     format!(
-        "t: {holding} of {lines} lines hold; {vacuous} hold vacuously, {failing} do not hold, {refused} refused, \
+        "t: {holding} of {lines} lines hold; {vacuous} hold only vacuously, {failing} do not hold, {refused} refused, \
          {malformed} malformed, {unread} not readable\n"
     )
 }
@@ -221,13 +221,16 @@ fn lines_that_hold_vacuously_are_marked_and_fail_if_that_is_wanted() {
         ("empty.text 5 4 within", "nothing can belong to term 5"),
         ("empty.text 3 7 within top7.text", "nothing can belong to term 3"),
         ("empty.text 6 4 within", "nothing can belong to term 6"),
+        ("empty.text 3 6 equal", "nothing can belong to either term"),
+        ("empty.text 6 5 equal", "nothing can belong to either term"),
+        ("empty.text 3 6 within", "nothing can belong to term 3"),
     ];
     let table: String = marked.iter().map(|(line, _)| format!("{line}\n")).collect();
     let told: String = (1..)
         .zip(marked)
         .map(|(number, (line, why))| because(number, line, why))
         .collect();
-    let expected = told + &summary([0, 7, 7, 0, 0, 0, 0]);
+    let expected = told + &summary([0, 10, 10, 0, 0, 0, 0]);
     assert_eq!(files.recheck(&table, &[]), (expected.clone(), 0));
     assert_eq!(files.recheck(&table, &["--strict"]), (expected, 1));
     let json = "{\"command\":\"recheck\",\"status\":1,\"file\":\"t\",\"line\":1,\"column\":1,\
@@ -258,11 +261,9 @@ fn other_lines_are_not_marked() {
     let names: String = (1..=13).map(|label| format!("c{label}\n")).collect();
     let large = format!("vocabulary roles 0\nowl:Thing\n{names}owl:Nothing\nSubClassOf(owl:Thing owl:Nothing)\n");
     files.write("large.text", large);
-    // That a term is equal to bottom, or lies within it, is a claim like others.
     let table = "v.text 4 4 equal\nv.text 4 3 within\nempty.text 1 7 within\nempty.text 1 7 within top7.text\n\
-                 empty.text 3 6 equal\nempty.text 6 5 equal\nempty.text 3 6 within\nempty.text 1 3 different\n\
-                 large.text 2 1 within s.text\n";
-    let expected = summary([9, 9, 0, 0, 0, 0, 0]);
+                 empty.text 1 3 different\nlarge.text 2 1 within s.text\n";
+    let expected = summary([6, 6, 0, 0, 0, 0, 0]);
     assert_eq!(files.recheck(table, &["--strict"]), (expected, 0));
     let (said, status) = files.recheck("no.text 3 2 different\n", &["--strict", "--explain"]);
     let expected = format!(
@@ -286,7 +287,7 @@ fn within_needs_room_for_a_record() {
     files.write("said.text", full("ObjectIntersectionOf(c1 c2)"));
     let (said, status) = files.recheck("full.text 1 2 within\nsaid.text 1 2 within\n", &[]);
     let expected = format!(
-        "t:1:1: full.text 1 2 within\n  the vocabulary has 512 records, so that there is no room for the record \"A and B\", \
+        "t:1:1: full.text 1 2 within\n  the vocabulary has 512 records, which leaves no room for the record \"1 and 2\", \
          and none says it\nt:2:1: said.text 1 2 within\n  term 1 does not lie within term 2, element 1\n{}",
         summary([0, 2, 0, 1, 1, 0, 0])
     );
@@ -443,7 +444,7 @@ fn a_million_bad_lines_take_little_memory() {
     let (count, last, status) = counted(files.limited("recheck t"), |_| {});
     assert_eq!((count, status), (2_000_001, 2));
     let expected =
-        "t: 0 of 1,000,000 lines hold; 0 hold vacuously, 0 do not hold, 0 refused, 1,000,000 malformed, 0 not readable";
+        "t: 0 of 1,000,000 lines hold; 0 hold only vacuously, 0 do not hold, 0 refused, 1,000,000 malformed, 0 not readable";
     assert_eq!(last, expected);
     files.write("t", "v.text 4 3 equal\n".repeat(100_000));
     let (count, last, status) = counted(files.limited("recheck t -j 4 --json --explain"), |_| {});
@@ -462,7 +463,7 @@ fn a_line_without_an_end_takes_little_memory() {
         stdin.write_all(b"\nv.text 4 3 different\n").unwrap();
     });
     let expected =
-        "standard input: 1 of 2 lines hold; 0 hold vacuously, 0 do not hold, 0 refused, 1 malformed, 0 not readable";
+        "standard input: 1 of 2 lines hold; 0 hold only vacuously, 0 do not hold, 0 refused, 1 malformed, 0 not readable";
     assert_eq!((count, last.as_str(), status), (3, expected, 2));
 }
 
@@ -521,7 +522,7 @@ fn a_table_that_cannot_be_read_to_its_end_is_summed_up() {
     let mut rest = String::new();
     said.read_to_string(&mut rest).unwrap();
     let expected =
-        "standard input: not readable after line 2; 1 of 2 lines hold; 0 hold vacuously, 1 do not hold, 0 refused, \
+        "standard input: not readable after line 2; 1 of 2 lines hold; 0 hold only vacuously, 1 do not hold, 0 refused, \
                     0 malformed, 0 not readable\n";
     assert_eq!(rest, expected);
     let output = ended(Ok(child));
@@ -546,7 +547,7 @@ fn an_interrupted_run_has_said_what_it_saw() {
     let mut rest = String::new();
     said.read_to_string(&mut rest).unwrap();
     let expected =
-        "standard input: interrupted after line 2; 1 of 2 lines hold; 0 hold vacuously, 1 do not hold, 0 refused, \
+        "standard input: interrupted after line 2; 1 of 2 lines hold; 0 hold only vacuously, 1 do not hold, 0 refused, \
                     0 malformed, 0 not readable\n";
     assert_eq!(rest, expected);
     let output = ended(Ok(child));

@@ -23,7 +23,7 @@ fn on_terminal(place: &Place, words: &str) -> Option<String> {
 fn place(name: &str) -> Place {
     let place = Place::new(name);
     fs::copy(root().join("examples/v.vocabulary"), place.file("v.vocabulary")).unwrap();
-    fs::write(place.file("long.table"), "v.vocabulary 4 3 different\n".repeat(50_000)).unwrap();
+    fs::write(place.file("long.table"), "v.vocabulary 4 3 different\n".repeat(300_000)).unwrap();
     place
 }
 
@@ -59,7 +59,7 @@ fn a_progress_bar_is_drawn_and_cleared() {
         "{said}"
     );
     assert!(said.contains("\r\x1b[2K"), "{said}");
-    assert!(said.contains("50,000 of 50,000 lines hold"), "{said}");
+    assert!(said.contains("300,000 of 300,000 lines hold"), "{said}");
     for words in [
         "TERM=dumb desk recheck long.table",
         "TERM=xterm desk recheck -q long.table",

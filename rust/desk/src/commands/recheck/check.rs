@@ -3,10 +3,11 @@
 use super::kept::{Files, Kept, Known, Trouble};
 use super::line::{repeated, Claim, Field, Row, Text};
 use super::table::Line;
+use crate::commands::within::room_words;
 use crate::explain::Explained;
 use crate::input::Input;
 use crate::json::Json;
-use crate::question::{Questions, Within};
+use crate::question::Within;
 use crate::refused;
 use crate::report::refusal_status;
 use crate::script;
@@ -212,8 +213,8 @@ impl From<Outcome> for Judged {
 const NO_SURVIVOR: &str = "nothing satisfies the statements";
 
 /// Compares two terms.
-fn compared(known: &Known, [a, b]: [u32; 2]) -> Result<Comparison, Outcome> {
-    let answer = judge::compare(&known.input.bytes, a, b, &mut [0; judge::SURVIVOR_BYTES]);
+fn compared(known: &mut Known, [a, b]: [u32; 2]) -> Result<Comparison, Outcome> {
+    let answer = known.questions.compare(a, b);
     answer.map_err(|refusal| Outcome::refused(refusal, &known.input))
 }
 
@@ -226,11 +227,10 @@ fn equal(known: &mut Known, pair: [u32; 2], explain: bool) -> Judged {
         let outcome = Outcome::fails(format!("the terms are different, element {element}"));
         return told_apart(known, pair, element, outcome, explain).into();
     }
-    // A line that names bottom claims that nothing belongs to the other term, which is a claim like others.
-    let [a, b] = pair;
+    let [a, _] = pair;
     Judged::Holds(if answer.survivors == 0 {
         Some(NO_SURVIVOR.to_string())
-    } else if !known.is_bottom(a) && !known.is_bottom(b) && known.is_empty(a) {
+    } else if known.is_empty(a) {
         Some("nothing can belong to either term".to_string())
     } else {
         None
@@ -256,11 +256,10 @@ fn different(known: &mut Known, pair: [u32; 2], explain: bool) -> Judged {
 
 fn within(known: &mut Known, pair: [u32; 2], explain: bool) -> Judged {
     let [a, b] = pair;
-    let answer = match Questions::new(&known.input.bytes).within(a, b) {
+    let answer = match known.questions.within(a, b) {
         Err(refusal) => return Outcome::refused(refusal, &known.input).into(),
         Ok(Within::NoRoom) => {
-            let why = "the vocabulary has 512 records, so that there is no room for the record \"A and B\", \
-                       and none says it";
+            let why = format!("the vocabulary {}", room_words(pair));
             return Outcome::new(Sort::Refused, Status::Refused, why).into();
         }
         Ok(Within::Answer(answer)) => answer,
@@ -275,10 +274,9 @@ fn within(known: &mut Known, pair: [u32; 2], explain: bool) -> Judged {
     }
 }
 
-/// Why one term lies within another whatever that is. That a term lies within bottom is a claim like others.
-fn within_nothing(known: &mut Known, [a, b]: [u32; 2]) -> Option<String> {
-    let empty = !known.is_bottom(b) && known.is_empty(a);
-    empty.then(|| format!("nothing can belong to term {a}"))
+/// Why one term lies within another whatever that is.
+fn within_nothing(known: &mut Known, [a, _]: [u32; 2]) -> Option<String> {
+    known.is_empty(a).then(|| format!("nothing can belong to term {a}"))
 }
 
 fn proved(known: &mut Known, pair: [u32; 2], script: &Input, explain: bool) -> Judged {

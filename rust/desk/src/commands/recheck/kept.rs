@@ -10,9 +10,8 @@ use crate::input::{self, Input};
 use crate::question::Questions;
 use crate::report::{Stop, Style};
 use crate::text::vocabulary::Written;
-use base::vocabulary::{Record, Saying, Vocabulary};
+use base::vocabulary::Vocabulary;
 use base::Status;
-use std::collections::BTreeMap;
 use std::ffi::OsString;
 use std::path::{Path, PathBuf};
 use std::sync::Arc;
@@ -88,37 +87,28 @@ pub struct Known {
     pub input: Input,
     words: Option<Vec<String>>,
     written: Option<Written>,
-    is_contradictory: Option<bool>,
-    empty: BTreeMap<u32, bool>,
+    /// What is asked about it.
+    pub questions: Questions,
 }
 
 impl Known {
     fn new(input: Input, words: Option<Vec<String>>) -> Known {
         Known {
+            questions: Questions::new(&input.bytes),
             input,
             words,
             written: None,
-            is_contradictory: None,
-            empty: BTreeMap::new(),
         }
     }
 
     /// Whether no interpretation satisfies the statements; false where that cannot be asked.
     pub fn is_contradictory(&mut self) -> bool {
-        let asked = || Questions::new(&self.input.bytes).is_contradictory().unwrap_or(false);
-        *self.is_contradictory.get_or_insert_with(asked)
+        self.questions.is_contradictory().unwrap_or(false)
     }
 
     /// Whether nothing can belong to a term; false where that cannot be asked.
     pub fn is_empty(&mut self, term: u32) -> bool {
-        let asked = || Questions::new(&self.input.bytes).is_empty(term) == Ok(Some(true));
-        *self.empty.entry(term).or_insert_with(asked)
-    }
-
-    /// Whether a record is bottom, to which nothing belongs by its meaning.
-    pub fn is_bottom(&self, term: u32) -> bool {
-        let record = judge::record(&self.input.bytes, term).map(Record::read);
-        record.is_ok_and(|record| record.saying() == Some(Saying::Bottom))
+        self.questions.is_empty(term) == Ok(Some(true))
     }
 
     /// The vocabulary written out, with the words for its records where there are some.

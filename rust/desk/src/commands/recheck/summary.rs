@@ -109,7 +109,7 @@ impl Tally {
         let [holding, vacuous, not_holding, refused, malformed, not_readable] = self.counts.map(grouped);
         let holding = style.paint(colour, &format!("{holding} of {} lines hold", grouped(lines)));
         format!(
-            "{holding}; {vacuous} hold vacuously, {not_holding} do not hold, {refused} refused, {malformed} malformed, \
+            "{holding}; {vacuous} hold only vacuously, {not_holding} do not hold, {refused} refused, {malformed} malformed, \
              {not_readable} not readable"
         )
     }
