@@ -1,6 +1,6 @@
 #!/bin/sh
 # Prints every table of docs/BENCHMARKS.md: the library's three checks beside C, in time and in instructions, and the
-# comparison beside FaCT++ and Konclude. A quarter of an hour on an idle machine.
+# comparison beside FaCT++ and Konclude; `desk recheck` on long tables. A quarter of an hour on an idle machine.
 #
 # usage: all.sh [ARCHIVE]      (after `rt staticlib judge`)
 # Exit status: 0 done; else that of the first part that failed.
@@ -14,3 +14,5 @@ for part in run compare script; do
 done
 printf '## reasoners\n\n'
 "$bench/reasoners.sh" "$@"
+printf '## recheck\n\n'
+"$bench/recheck.sh"

@@ -43,7 +43,11 @@ enum {
     JUDGE_VOCABULARY_BYTES = 4096, /* the longest vocabulary */
     JUDGE_SCRIPT_BYTES = 32768,    /* the longest script */
     JUDGE_SURVIVOR_BYTES = 512,    /* what a comparison writes and asks for */
-    JUDGE_ATOMS = 12               /* the most names and restrictions of a vocabulary that can be compared */
+    JUDGE_RECORDS = 512,           /* the most records of a vocabulary, header included */
+    JUDGE_SCRIPT_RECORDS = 2048,   /* the most records of a script, header included */
+    JUDGE_ROLES = 64,              /* the most roles of a vocabulary */
+    JUDGE_ATOMS = 12,              /* the most names and restrictions of a vocabulary that can be compared */
+    JUDGE_FRAMES = 64              /* the most frames that may be open together while a script is checked */
 };
 
 /* Stack that is enough for any call. Measured (tests/stack.c; the kit's compiler, x86-64): the vocabulary check needs
