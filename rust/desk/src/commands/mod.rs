@@ -4,6 +4,7 @@ mod assemble;
 mod check;
 mod columns;
 mod compare;
+mod pair;
 mod recheck;
 mod record;
 mod show;

@@ -1,0 +1,132 @@
+//! What came of a question about two terms, for people and for programs.
+
+use crate::display::counted;
+use crate::explain::Explained;
+use crate::input::Input;
+use crate::json::Json;
+use crate::question::Questions;
+use crate::report::{Report, Style};
+use crate::text::vocabulary::Written;
+use base::{Failure, Status};
+use judge::{Comparison, Refusal, Verdict};
+
+/// The terms that are asked about, A and B.
+pub type Pair = [u32; 2];
+
+/// How an answer is worded, for people and for programs.
+pub struct Wording {
+    /// Where the comparison says Equal.
+    pub holds: [&'static str; 2],
+    /// Where it says Different.
+    pub fails: [&'static str; 2],
+}
+
+/// An answer about two terms.
+pub struct Answered {
+    /// The vocabulary.
+    pub written: Written,
+    /// The terms.
+    pub pair: Pair,
+    /// What the comparison said.
+    pub answer: Comparison,
+    /// Whether nothing can belong to the terms.
+    pub empty: Emptiness,
+}
+
+impl Answered {
+    /// The report on a vocabulary.
+    pub fn report(&self, style: Style, input: &Input, wording: &Wording) -> Result<Report, Failure> {
+        let (status, [word, verdict]) = match self.answer.verdict {
+            Verdict::Equal => (Status::Holds, wording.holds),
+            Verdict::Different { .. } => (Status::DoesNotHold, wording.fails),
+        };
+        let mut text = format!("{}: {}; {}", input.name, style.paint(status, word), self.heading());
+        let mut json = vec![
+            ("file", Json::from(input.name.as_str())),
+            ("verdict", Json::from(verdict)),
+        ];
+        json.extend(self.heading_json());
+        json.extend(self.empty.json());
+        if let Some(explained) = self.explained() {
+            let in_a = explained.is_in_first(self.pair)?;
+            json.push(("element", explained.json(if in_a { "a" } else { "b" })));
+            text.push_str(&explained.text(if in_a { ["A", "B"] } else { ["B", "A"] }));
+        }
+        text.push_str(&self.empty.text(self.answer.verdict));
+        Ok(Report::new(status, text, json))
+    }
+
+    /// The element that tells the terms apart, where one does.
+    pub fn explained(&self) -> Option<Explained<'_>> {
+        match self.answer.verdict {
+            Verdict::Equal => None,
+            Verdict::Different { element } => Some(Explained::new(&self.written, element)),
+        }
+    }
+
+    /// The counts, and the terms.
+    fn heading(&self) -> String {
+        let survivors = counted(self.answer.survivors.into(), "survivor");
+        let rounds = counted(self.answer.rounds.into(), "round");
+        let [a, b] = self.pair.map(|number| self.written.term(number as u16));
+        format!("{survivors}, {rounds}\n  A: {a}\n  B: {b}\n")
+    }
+
+    /// The same for programs.
+    fn heading_json(&self) -> [(&'static str, Json); 4] {
+        let [a, b] = self.pair.map(|number| self.written.term_json(number as u16));
+        [
+            ("a", a),
+            ("b", b),
+            ("survivors", Json::from(self.answer.survivors)),
+            ("rounds", Json::from(self.answer.rounds)),
+        ]
+    }
+}
+
+/// Whether nothing can belong to the terms that were compared.
+#[derive(Clone, Copy)]
+pub struct Emptiness {
+    contradictory: bool,
+    /// Of A and of B; nothing where there was no room to ask.
+    terms: [Option<bool>; 2],
+}
+
+impl Emptiness {
+    /// Asks about the terms of a comparison.
+    pub fn ask(questions: &mut Questions, [a, b]: Pair, answer: Comparison) -> Result<Emptiness, Refusal> {
+        let contradictory = answer.survivors == 0;
+        let terms = if contradictory {
+            [Some(true); 2]
+        } else {
+            [questions.is_empty(a)?, questions.is_empty(b)?]
+        };
+        Ok(Emptiness { contradictory, terms })
+    }
+
+    /// A line that says what is empty; none where nothing is.
+    pub fn text(self, verdict: Verdict) -> String {
+        let words = match self.terms {
+            _ if self.contradictory => {
+                "the statements contradict each other: nothing satisfies them, so that all terms are equal"
+            }
+            [Some(true), Some(true)] => "nothing can belong to either term, whatever satisfies the statements",
+            [Some(true), _] => "nothing can belong to A, whatever satisfies the statements",
+            [_, Some(true)] => "nothing can belong to B, whatever satisfies the statements",
+            [None, _] if verdict == Verdict::Equal => {
+                "whether anything can belong to them was not asked: there is no room for a record of owl:Nothing"
+            }
+            _ => return String::new(),
+        };
+        format!("{words}\n")
+    }
+
+    /// What programs read.
+    pub fn json(self) -> [(&'static str, Json); 2] {
+        let [a, b] = self.terms.map(Json::from);
+        [
+            ("contradictory", Json::from(self.contradictory)),
+            ("empty", Json::object([("a", a), ("b", b)])),
+        ]
+    }
+}
