@@ -10,7 +10,7 @@ use std::path::PathBuf;
 use std::process::{Child, Command, Output, Stdio};
 use std::time::{Duration, Instant};
 
-/// Sample V of paper 01: term 4 lies within term 3.
+/// Sample V of docs/FORMATS.md, section 10: term 4 lies within term 3.
 const V: &str =
     "vocabulary roles 0\nc1\nc2\nc3\nObjectIntersectionOf(c1 c2)\nSubClassOf(ObjectIntersectionOf(c1 c2) c3)\n";
 /// Terms to which nothing can belong: 3 and 5.
