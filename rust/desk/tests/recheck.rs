@@ -2,6 +2,10 @@
 
 #![allow(clippy::unwrap_used, clippy::indexing_slicing, clippy::panic)]
 
+#[path = "support/signals.rs"]
+mod signals;
+
+use signals::heed_signals;
 use std::fs;
 use std::io::{BufRead, BufReader, Read, Write};
 use std::os::fd::OwnedFd;
@@ -45,6 +49,7 @@ impl Files {
     fn desk(&self, words: &[&str]) -> Command {
         let mut command = Command::new(env!("CARGO_BIN_EXE_desk"));
         command.args(words).current_dir(&self.0).stdin(Stdio::null());
+        heed_signals(&mut command);
         command
     }
 
@@ -53,6 +58,7 @@ impl Files {
         let mut command = Command::new("sh");
         let call = format!("ulimit -d 65536 && exec '{}' {words}", env!("CARGO_BIN_EXE_desk"));
         command.args(["-c", &call]).current_dir(&self.0).stdin(Stdio::null());
+        heed_signals(&mut command);
         command
     }
 
@@ -300,7 +306,7 @@ fn failing_lines_are_explained_with_words() {
     let named = V.replace("c1\nc2\nc3\n", "c1 -- sample\nc2 -- returned\nc3 -- free\n");
     files.write("named.text", named);
     let assembled = files
-        .desk(&["assemble", "v.text", "-o", "v.vocabulary"])
+        .desk(&["assemble", "-q", "v.text", "-o", "v.vocabulary"])
         .status()
         .unwrap();
     assert!(assembled.success());
@@ -542,7 +548,9 @@ fn an_interrupted_run_has_said_what_it_saw() {
     stdin.write_all(b"v.text 4 3 different\nv.text 4 3 equal\n").unwrap();
     assert_told(&mut said, 2);
     let sent = Instant::now();
-    let killed = Command::new("kill").args(["-INT", &child.id().to_string()]).status();
+    let killed = Command::new("kill")
+        .args([format!("-{}", signals::INTERRUPT), child.id().to_string()])
+        .status();
     assert!(killed.unwrap().success());
     let mut rest = String::new();
     said.read_to_string(&mut rest).unwrap();

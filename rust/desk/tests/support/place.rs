@@ -2,6 +2,11 @@
 
 #![allow(clippy::unwrap_used)]
 
+#[path = "signals.rs"]
+mod signals;
+
+pub use signals::{heed_signals, HANGUP, INTERRUPT, TERMINATE};
+
 use std::ffi::OsStr;
 use std::fs;
 use std::io::Write;
@@ -14,14 +19,8 @@ use std::time::{Duration, Instant};
 /// The longest that a run which should end at once is waited for.
 const PATIENCE: Duration = Duration::from_secs(10);
 
-/// SIGHUP.
-pub const HANGUP: i32 = 1;
-/// SIGINT.
-pub const INTERRUPT: i32 = 2;
 /// SIGKILL.
 pub const KILL: i32 = 9;
-/// SIGTERM.
-pub const TERMINATE: i32 = 15;
 
 /// The user and group who run `desk` where the tests are run by root: a faulty `desk` could replace the files of /dev, and
 /// permissions would not bind it.
@@ -199,22 +198,6 @@ impl From<Output> for Said {
             err: String::from_utf8(output.stderr).unwrap(),
         }
     }
-}
-
-/// Lets signals do what they do by default, since a test that runs in the background may have been told to ignore them.
-fn heed_signals(command: &mut Command) {
-    extern "C" {
-        fn signal(number: i32, action: usize) -> usize;
-    }
-    let heed = || {
-        for number in [HANGUP, INTERRUPT, TERMINATE] {
-            // SAFETY: 0 is SIG_DFL. `signal` may be called between fork and exec.
-            unsafe { signal(number, 0) };
-        }
-        Ok(())
-    };
-    // SAFETY: `heed` neither allocates nor takes locks.
-    unsafe { command.pre_exec(heed) };
 }
 
 /// Runs a command to its end, with nothing on standard input.
