@@ -278,3 +278,8 @@ pub fn page(name: &str) -> Option<Cow<'static, str>> {
     let found = PAGES.iter().find(|(page, _)| *page == name);
     found.map(|(_, page)| Cow::from(*page))
 }
+
+/// The names of the pages.
+pub fn names() -> impl Iterator<Item = &'static str> {
+    PAGES.iter().map(|(name, _)| *name).chain(["refusals"])
+}

@@ -25,7 +25,6 @@ mod why;
 
 use crate::commands::COMMON;
 use crate::console::{complain, Colour, Console};
-use crate::display::did_you_mean;
 use crate::report::Stop;
 use base::arguments::Arguments;
 use base::{Failure, Status};
@@ -51,7 +50,8 @@ fn call(mut words: Vec<OsString>) -> Status {
         return help_on(&mut console, words.first());
     }
     let (Some(page), Some(command)) = (page, commands::find(&name)) else {
-        return no_command(&name, has(&words, "--json"));
+        let names = commands::names().chain(["help"]);
+        return unknown(&name, "command", names, has(&words, "--json"));
     };
     if wants_help {
         return say(&mut console, &page);
@@ -94,11 +94,11 @@ fn without_command(words: Vec<OsString>) -> Status {
     Status::Usage
 }
 
-fn no_command(name: &str, as_json: bool) -> Status {
-    let names = commands::names().chain(["help"]);
-    let hint = did_you_mean(name, names);
-    let message = format!("there is no command '{name}'{hint}; 'desk --help' lists them");
-    let message = message.replace("?; 'desk", "? 'desk");
+/// Says that a word is no command, or what else is wanted there.
+fn unknown(word: &str, wanted: &str, words: impl Iterator<Item = &'static str>, as_json: bool) -> Status {
+    let meant = base::spelling::nearest(word, words);
+    let hint = meant.map_or_else(String::new, |meant| format!(" did you mean '{meant}'?"));
+    let message = format!("there is no {wanted} '{word}';{hint} 'desk --help' lists them");
     Console::new("desk", as_json, false, Colour::Never).fail(&Failure::usage(message), None)
 }
 
@@ -112,7 +112,7 @@ fn help_on(console: &mut Console, topic: Option<&OsString>) -> Status {
         None => say(console, &help::all()),
         Some(topic) => match help::page(topic) {
             Some(page) => say(console, &page),
-            None => no_command(topic, console.json),
+            None => unknown(topic, "command or topic", help::names(), console.json),
         },
     }
 }
