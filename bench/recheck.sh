@@ -32,7 +32,8 @@ run() {
     done
     lines=$(wc -l < "$table")
     memory=$(tail -1 figures | awk '{ printf "%.1f", $2 / 1024 }')
-    echo "| $table $* | $lines | $least | $(awk "BEGIN { printf \"%.0f\", $lines / $least / 1000 }") | $memory |"
+    name="$table${*:+ $*}"
+    echo "| $name | $lines | $least | $(awk "BEGIN { printf \"%.1f\", $lines / $least / 1000 }") | $memory |"
 }
 
 echo '| table | lines | s | thousand lines/s | MB |'
