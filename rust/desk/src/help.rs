@@ -58,7 +58,7 @@ usage: desk check VOCABULARY .. [--json]
 
 Whether each vocabulary is accepted (refusals 1 to 8), with the number of its records, names, restrictions, statements
 and roles, and whether it can be compared (at most 12 atoms). If it can, and nothing satisfies its statements, that is
-said: the statements then contradict each other, and every claim holds.
+said: the statements then contradict each other, and all terms are equal.
 
 exit status: 0 accepted, 2 refused; of several the greatest
 ";
