@@ -9,31 +9,64 @@ fn bytes(crate_name: &str) -> Vec<u8> {
     std::fs::read(format!("{root}/{crate_name}/stdin")).expect("the cases")
 }
 
+/// Takes the first bytes.
+fn take<'a>(rest: &mut &'a [u8], length: usize) -> &'a [u8] {
+    let (front, after) = rest.split_at(length);
+    *rest = after;
+    front
+}
+
+/// Takes a number of 16 bits.
+fn word(rest: &mut &[u8]) -> usize {
+    usize::from(u16::from_le_bytes(take(rest, 2).try_into().unwrap()))
+}
+
+/// Takes a number of 32 bits.
+fn long(rest: &mut &[u8]) -> u32 {
+    u32::from_le_bytes(take(rest, 4).try_into().unwrap())
+}
+
+/// The vocabulary of each case of crates/vectors/stdin, of whatever length.
+pub fn vectors() -> Vec<Vec<u8>> {
+    let bytes = bytes("vectors");
+    let (mut rest, mut cases) = (bytes.as_slice(), Vec::new());
+    while !rest.is_empty() {
+        let length = word(&mut rest);
+        take(&mut rest, 4);
+        cases.push(take(&mut rest, length).to_vec());
+    }
+    assert_eq!(cases.len(), 5376);
+    cases
+}
+
+/// The vocabulary, A and B of each case of crates/comparisons/stdin.
+pub fn comparisons() -> Vec<(Vec<u8>, u32, u32)> {
+    let bytes = bytes("comparisons");
+    let (mut rest, mut cases) = (bytes.as_slice(), Vec::new());
+    while !rest.is_empty() {
+        let (length, a, b) = (word(&mut rest), long(&mut rest), long(&mut rest));
+        take(&mut rest, 3);
+        cases.push((take(&mut rest, length).to_vec(), a, b));
+    }
+    assert_eq!(cases.len(), 4996);
+    cases
+}
+
 /// The vocabulary and the script of each case of crates/verdicts/stdin.
 pub fn scripts() -> Vec<(Vec<u8>, Vec<u8>)> {
     let bytes = bytes("verdicts");
     let (mut rest, mut cases) = (bytes.as_slice(), Vec::new());
-    while let [v0, v1, s0, s1, after @ ..] = rest {
-        let (vocabulary, after) = after.split_at(u16::from_le_bytes([*v0, *v1]).into());
-        let (script, after) = after.split_at(u16::from_le_bytes([*s0, *s1]).into());
-        cases.push((vocabulary.to_vec(), script.to_vec()));
-        rest = after;
+    while !rest.is_empty() {
+        let (vocabulary, script) = (word(&mut rest), word(&mut rest));
+        let vocabulary = take(&mut rest, vocabulary).to_vec();
+        cases.push((vocabulary, take(&mut rest, script).to_vec()));
     }
-    assert!(rest.is_empty());
     assert_eq!(cases.len(), 5205);
     cases
 }
 
-/// The vocabularies of both files of cases, each once.
+/// The vocabularies of vectors and scripts, each once.
 pub fn vocabularies() -> BTreeSet<Vec<u8>> {
-    let bytes = bytes("vectors");
-    let mut rest = bytes.as_slice();
-    let mut vocabularies: BTreeSet<Vec<u8>> = scripts().into_iter().map(|(vocabulary, _)| vocabulary).collect();
-    while let [v0, v1, _, _, _, _, after @ ..] = rest {
-        let (vocabulary, after) = after.split_at(u16::from_le_bytes([*v0, *v1]).into());
-        vocabularies.insert(vocabulary.to_vec());
-        rest = after;
-    }
-    assert!(rest.is_empty());
-    vocabularies
+    let of_scripts = scripts().into_iter().map(|(vocabulary, _)| vocabulary);
+    of_scripts.chain(vectors()).collect()
 }

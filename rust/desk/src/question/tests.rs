@@ -3,21 +3,9 @@
 #![allow(clippy::unwrap_used, clippy::indexing_slicing, clippy::panic)]
 
 use super::{Questions, Within};
+use crate::stored::comparisons;
 use base::vocabulary::{Saying, Vocabulary};
 use judge::Verdict;
-
-/// The vocabulary, A and B of each case of crates/comparisons.
-fn cases() -> Vec<(&'static [u8], u32, u32)> {
-    let mut rest: &[u8] = include_bytes!("../../../../crates/comparisons/stdin");
-    let mut cases = Vec::new();
-    while let [l0, l1, a0, a1, a2, a3, b0, b1, b2, b3, _, _, _, after @ ..] = rest {
-        let (vocabulary, after) = after.split_at(u16::from_le_bytes([*l0, *l1]).into());
-        let a = u32::from_le_bytes([*a0, *a1, *a2, *a3]);
-        cases.push((vocabulary, a, u32::from_le_bytes([*b0, *b1, *b2, *b3])));
-        rest = after;
-    }
-    cases
-}
 
 /// The survivors of a vocabulary, with the truth of each record at them.
 fn survivors(vocabulary: &[u8], term: u32) -> Vec<(u16, Vec<bool>)> {
@@ -34,7 +22,8 @@ fn survivors(vocabulary: &[u8], term: u32) -> Vec<(u16, Vec<bool>)> {
 #[test]
 fn within_empty_and_contradictory_are_what_the_survivors_say() {
     let (mut within, mut outside, mut empty, mut contradictory) = (0, 0, 0, 0);
-    for (vocabulary, a, b) in cases() {
+    for (vocabulary, a, b) in comparisons() {
+        let vocabulary = vocabulary.as_slice();
         let mut questions = Questions::new(vocabulary);
         let answer = judge::compare(vocabulary, a, b, &mut [0; judge::SURVIVOR_BYTES]);
         let Ok(answer) = answer else {

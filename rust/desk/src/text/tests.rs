@@ -6,50 +6,12 @@ mod faults;
 
 use super::{cursor::Fault, script, vocabulary, Kind};
 use crate::script::read as read_script;
+use crate::stored::{scripts, vectors};
 use base::vocabulary::Vocabulary;
 
 /// The bytes of a text, and whether they are a script's.
 fn assemble(text: &str) -> Result<(Vec<u8>, bool), Vec<Fault>> {
     super::assemble(text).map(|assembled| (assembled.bytes, assembled.kind == Kind::Script))
-}
-
-/// A file of stored cases that is read from its front.
-struct Cases<'a>(&'a [u8]);
-
-impl<'a> Cases<'a> {
-    fn take(&mut self, length: usize) -> &'a [u8] {
-        let (front, rest) = self.0.split_at(length);
-        self.0 = rest;
-        front
-    }
-
-    fn word(&mut self) -> usize {
-        let word = self.take(2);
-        usize::from(u16::from_le_bytes([word[0], word[1]]))
-    }
-}
-
-/// The vocabularies of crates/vectors, of whatever length.
-fn vocabularies() -> Vec<&'static [u8]> {
-    let mut cases = Cases(include_bytes!("../../../../crates/vectors/stdin"));
-    let mut all = Vec::new();
-    while !cases.0.is_empty() {
-        let length = cases.word();
-        cases.take(4);
-        all.push(cases.take(length));
-    }
-    all
-}
-
-/// The vocabularies and scripts of crates/verdicts, of whatever length.
-fn verdicts() -> Vec<(&'static [u8], &'static [u8])> {
-    let mut cases = Cases(include_bytes!("../../../../crates/verdicts/stdin"));
-    let mut all = Vec::new();
-    while !cases.0.is_empty() {
-        let (vocabulary, script) = (cases.word(), cases.word());
-        all.push((cases.take(vocabulary), cases.take(script)));
-    }
-    all
 }
 
 fn is_whole_vocabulary(bytes: &[u8]) -> bool {
@@ -81,10 +43,10 @@ fn round_trip(bytes: &[u8], is_script: bool) -> String {
 #[test]
 fn stored_vocabularies_come_back_from_their_texts() {
     let (mut whole, mut accepted) = (0, 0);
-    for bytes in vocabularies().into_iter().filter(|bytes| is_whole_vocabulary(bytes)) {
-        let text = round_trip(bytes, false);
+    for bytes in vectors().into_iter().filter(|bytes| is_whole_vocabulary(bytes)) {
+        let text = round_trip(&bytes, false);
         whole += 1;
-        if judge::check_vocabulary(bytes).is_ok() {
+        if judge::check_vocabulary(&bytes).is_ok() {
             accepted += 1;
             assert!(!text.contains("raw"), "{text}");
         }
@@ -95,15 +57,15 @@ fn stored_vocabularies_come_back_from_their_texts() {
 #[test]
 fn stored_scripts_come_back_from_their_texts() {
     let (mut whole, mut accepted) = (0, 0);
-    for (vocabulary, bytes) in verdicts().into_iter().filter(|(_, bytes)| is_whole_script(bytes)) {
-        let text = round_trip(bytes, true);
+    for (vocabulary, bytes) in scripts().into_iter().filter(|(_, bytes)| is_whole_script(bytes)) {
+        let text = round_trip(&bytes, true);
         whole += 1;
-        if judge::check_script(vocabulary, bytes).is_ok() {
+        if judge::check_script(&vocabulary, &bytes).is_ok() {
             accepted += 1;
             assert!(!text.contains("raw"), "{text}");
         }
-        if is_whole_vocabulary(vocabulary) {
-            round_trip(vocabulary, false);
+        if is_whole_vocabulary(&vocabulary) {
+            round_trip(&vocabulary, false);
         }
     }
     assert!(whole > 4_000 && accepted > 400, "{whole} whole, {accepted} accepted");
@@ -236,13 +198,13 @@ fn mutated(random: &mut Random, text: &str, other: &str) -> String {
 
 /// The texts of the stored cases that are not long.
 fn short_texts() -> Vec<String> {
-    let short = |bytes: &&[u8]| bytes.len() <= 400;
-    let vocabularies = vocabularies().into_iter().filter(|bytes| is_whole_vocabulary(bytes));
-    let scripts = verdicts().into_iter().map(|(_, bytes)| bytes);
+    let short = |bytes: &Vec<u8>| bytes.len() <= 400;
+    let vocabularies = vectors().into_iter().filter(|bytes| is_whole_vocabulary(bytes));
+    let scripts = scripts().into_iter().map(|(_, bytes)| bytes);
     let scripts = scripts.filter(|bytes| is_whole_script(bytes));
-    let vocabularies = vocabularies.filter(short).map(|bytes| show(bytes, false));
+    let vocabularies = vocabularies.filter(short).map(|bytes| show(&bytes, false));
     vocabularies
-        .chain(scripts.filter(short).map(|bytes| show(bytes, true)))
+        .chain(scripts.filter(short).map(|bytes| show(&bytes, true)))
         .collect()
 }
 
