@@ -107,7 +107,7 @@ statements. No script is needed. If it does not, an element of A outside B is na
 
 It is decided by the proved comparison: A lies within B exactly if \"A and B\" is equal to A. A copy of the vocabulary with
 the record \"A and B\" at its end is compared, or a record that says it already (or \"A or B\", compared with B). A vocabulary
-of 512 records has no room for another: if none says it, that is the answer, with status 2.
+of 512 records has no room for another: if none says it, and A and B are not equal, that is the answer, with status 2.
 
   --words TEXT   the text of the vocabulary, whose comments say what each record is called
 
