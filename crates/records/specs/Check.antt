@@ -1,5 +1,6 @@
 -- Rows 1 to 8 of the table of refusals, and the vocabulary check.
 use Prim.Native.Nat.{ℕ, zero, suc, _-_, _%_}
+use mathlib.Core.Path.{_≡_}
 use mathlib.Core.Bool.{Bool, false, not, _&&_, _||_}
 use mathlib.Core.List.{List}
 use lib.ListN.{length}
@@ -110,3 +111,7 @@ vocabularyCheck v =
     then inTurn (recordCheck v) 1 (count v - 1)
     then linksCheck v
     then accepted (count v)
+
+-- "A vocabulary is accepted when no refusal of the vocabulary check applies to it".
+abbrev pub IsAccepted : List ℕ → Type 0
+IsAccepted v = vocabularyCheck v ≡ accepted (count v)
