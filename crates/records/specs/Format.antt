@@ -4,6 +4,10 @@ use mathlib.Core.List.{List}
 use lib.ListN.{length, getD, take, drop}
 use Rattle.records.specs.declared.fields.Record.{Record}
 
+-- "At most 512 records, header included."
+abbrev pub recordLimit : ℕ
+recordLimit = 512
+
 -- "Numbers in files are 16-bit, low byte first."
 abbrev pub wordAt : List ℕ → ℕ → ℕ
 wordAt s i = getD s i 0 + 256 * getD s (i + 1) 0

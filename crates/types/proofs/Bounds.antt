@@ -26,11 +26,13 @@ use Rattle.types.proofs.Truths.{rank-bound}
 use Rattle.types.proofs.Largest.{stage-length, survivors-serving}
 use Rattle.types.proofs.Verdicts.{answered}
 use Rattle.types.proofs.Comparison.{counts, different-first}
+use Rattle.records.specs.Format.{recordLimit}
+use Rattle.types.specs.Compare.{typeLimit}
 
 -- An answer whose numbers are at most 2^12, or a refusal that is near.
 abbrev pub SmallVerdict : ℕ → Outcome Verdict → Type 0
-SmallVerdict m (accepted (equal s n)) = (s ≤ 4096) × (n ≤ 4096)
-SmallVerdict m (accepted (different t s n)) = (t < 4096) × (s ≤ 4096) × (n ≤ 4096)
+SmallVerdict m (accepted (equal s n)) = (s ≤ typeLimit) × (n ≤ typeLimit)
+SmallVerdict m (accepted (different t s n)) = (t < typeLimit) × (s ≤ typeLimit) × (n ≤ typeLimit)
 SmallVerdict m (refused n p) = Near m n p
 
 members-types : (v : List ℕ) → members (survivors v) ≤ types v
@@ -39,7 +41,7 @@ members-types v = omega (arith, members-bound (survivors v), stage-length v (rou
 
 module _ (v : List ℕ) (a b lent : ℕ) where
   abbrev pub most : ℕ
-  most = max 512 (max a b)
+  most = max recordLimit (max a b)
 
   answer-small : (x : Verdict) → comparison v a b lent ≡ accepted x → SmallVerdict most (accepted x)
   answer-small (equal s n) e =
@@ -55,7 +57,7 @@ module _ (v : List ℕ) (a b lent : ℕ) where
         omega (arith, c .2),
       )
 
-  query-near : atoms v ≤ 512 → Nearby most (queryCheck v a b lent)
+  query-near : atoms v ≤ recordLimit → Nearby most (queryCheck v a b lent)
   query-near few =
       then-near most (termCheck v a) _ (require-near most (ltb a (count v) && isTerm (recordAt v a .kind)) 10 a (omega arith))
       (then-near most (termCheck v b) _ (require-near most (ltb b (count v) && isTerm (recordAt v b .kind)) 10 b (omega arith))
@@ -63,7 +65,7 @@ module _ (v : List ℕ) (a b lent : ℕ) where
       (require-near most (leb formBytes lent) 12 0 (omega arith))))
 
   -- a refusal of the vocabulary, or of the query
-  refused-near : (o : Outcome ℕ) (q : Check) (x : Verdict) (n p : ℕ) → Small 512 o → ((m : ℕ) → o ≡ accepted m → Nearby most q)
+  refused-near : (o : Outcome ℕ) (q : Check) (x : Verdict) (n p : ℕ) → Small recordLimit o → ((m : ℕ) → o ≡ accepted m → Nearby most q)
       → (o then q then accepted x) ≡ refused n p → Near most n p
   refused-near (refused m l) q x n p s near e =
       let at : _≡_ {A = Outcome Verdict} (refused m l) (refused n p) = e in

@@ -27,6 +27,7 @@ use Rattle.types.proofs.Below.{least-is, least-end, least-cong, None, n
 use Rattle.types.proofs.Sets.{length-table, table-cong}
 use Rattle.types.proofs.Bits.{digit-small, number-cong}
 use Rattle.types.proofs.Largest.{stage-length}
+use Rattle.types.specs.Compare.{atomLimit, formBytes}
 
 module _ (test : ℕ → Bool) where
   pub count-start : 0 ≡ countBelow test 0
@@ -115,14 +116,14 @@ module _ (v : List ℕ) (alive : List Bool) (same : SameSet alive (survivors v))
       least-cong (types v) (λ t. has alive t && getD differs t false) (parted v a b)
       (λ t l. ap₂ (λ (x y : Bool). x && y) (same t) (d t l))
 
-  pub alive-form : table 512 (λ n. number 8 (λ j. has alive (8 * n + j))) ≡ form v
+  pub alive-form : table formBytes (λ n. number 8 (λ j. has alive (8 * n + j))) ≡ form v
   unfolding form
   alive-form =
-      table-cong 512 (byteOf alive) (byteOf (survivors v))
+      table-cong formBytes (byteOf alive) (byteOf (survivors v))
       (λ n l. number-cong 8 (λ j. has alive (8 * n + j)) (λ j. has (survivors v) (8 * n + j)) (λ j k. same (8 * n + j)))
 
 -- The number of types as the code makes it.
-pub size-word : (v : List ℕ) (k : ℕ) → atoms v ≤ 12 → k ≡ atoms v → (1 * 2 ^ k) % 18446744073709551616 ≡ types v
+pub size-word : (v : List ℕ) (k : ℕ) → atoms v ≤ atomLimit → k ≡ atoms v → (1 * 2 ^ k) % 18446744073709551616 ≡ types v
 size-word v k few e =
     shl-exact {a = 1} 1 k 64 (omega arith) (omega arith) ∙ omega (arith, ap (λ (n : ℕ). 2 ^ n) e)
 

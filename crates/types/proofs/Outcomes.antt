@@ -20,6 +20,7 @@ use Rattle.types.specs.Form.{form, written}
 use Rattle.types.specs.declared.answers.Compared.{Compared}
 use Rattle.types.specs.Answers.{compared}
 use Rattle.types.proofs.Verdicts.{Answered, answered}
+use Rattle.types.specs.Compare.{formBytes}
 
 module _ (v : List ℕ) (a b : ℕ) (lent : List ℕ) where
   abbrev outcome : Outcome Verdict
@@ -59,5 +60,5 @@ module _ (v : List ℕ) (a b : ℕ) (lent : List ℕ) where
       query-passed = answered v a b (length lent) (verdict v a b) answers
 
       pub decided-call : (answer : Compared) (after : List ℕ) → compared answer ≡ accepted (verdict v a b)
-          → after ≡ form v ++ drop 512 lent → Called answer after
+          → after ≡ form v ++ drop formBytes lent → Called answer after
       decided-call answer after h w = (h ∙ sym answers, w ∙ rw answers)

@@ -30,6 +30,7 @@ use Rattle.types.proofs.Listing.{ListedBelow}
 use Rattle.types.proofs.Truths.{some-earlier, all-earlier}
 use Rattle.types.proofs.Restrictions.{restricts, restriction-sound}
 use Rattle.types.proofs.Signed.{says-some, says-all}
+use Rattle.records.specs.Format.{recordLimit}
 
 module _ (v rules firsts seconds statements : List ℕ) (found : ℕ) (places fillers : List ℕ) (signs : List Bool)
     (p : Prepared v rules firsts seconds statements found places fillers signs) where
@@ -105,7 +106,7 @@ profile-same v a b t fit apart x y e f g h = rw (e, f, g, h)
 
 -- The statements, from the marks along the chain.
 pub stating : (v : List ℕ) → Accepted v → (marks : List Bool) → ((i : ℕ) → getD marks i false ≡ chained v i)
-    → (list : List ℕ) (found : ℕ) → ListedBelow 512 marks list found (count v) → Stating v list found
+    → (list : List ℕ) (found : ℕ) → ListedBelow recordLimit marks list found (count v) → Stating v list found
 stating v good marks marked list found l =
     record {
       few = l .few;

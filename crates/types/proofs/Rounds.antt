@@ -40,6 +40,7 @@ use Rattle.types.proofs.Turns.{Ends}
 use Rattle.types.proofs.Restrictions.{width-bound}
 use Rattle.types.proofs.Cover.{reached-small, offer-small}
 use Rattle.types.proofs.Served.{served-by-words, served-cong}
+use Rattle.types.specs.Compare.{atomLimit, typeLimit}
 
 -- whichever of two parts fails
 not-all : (a b : Bool) → not (a && b) ≡ true → (not a || (a && not b)) ≡ true
@@ -56,17 +57,17 @@ module _ (v : List ℕ) (S : List Bool) where
 
   -- What is left of S after the roles below r, and whether something was removed.
   pub record Swept (alive : List Bool) (removed : Bool) (r : ℕ) : Type 0 where
-    pub size : length alive ≡ 4096
+    pub size : length alive ≡ typeLimit
     pub kept : (t : ℕ) → has alive t ≡ (has S t && below r t)
-    pub gone : removed ≡ anyBelow (leaves r) 4096
+    pub gone : removed ≡ anyBelow (leaves r) typeLimit
 
-  pub swept-start : length S ≡ 4096 → Swept S false 0
+  pub swept-start : length S ≡ typeLimit → Swept S false 0
   unfolding allBelow
   swept-start e =
       record {
         size = e;
         kept = λ t. sym (and-true (has S t));
-        gone = sym (any-none (leaves 0) 4096 (λ t h. and-false (has S t)));
+        gone = sym (any-none (leaves 0) typeLimit (λ t h. and-false (has S t)));
       }
 
   pub swept-within : (alive : List Bool) (removed : Bool) (r : ℕ) → Swept alive removed r → (t : ℕ) → has alive t ≡ true
@@ -84,7 +85,7 @@ module _ (v : List ℕ) (S : List Bool) where
       record {
         size = w .size;
         kept = λ t. w .kept t ∙ ap (λ (x : Bool). has S t && x) (same t);
-        gone = w .gone ∙ any-cong (leaves r) (leaves (r + 1)) 4096 (λ t h. ap (λ (x : Bool). has S t && not x) (same t));
+        gone = w .gone ∙ any-cong (leaves r) (leaves (r + 1)) typeLimit (λ t h. ap (λ (x : Bool). has S t && not x) (same t));
       }
     where
       same : (t : ℕ) → below r t ≡ below (r + 1) t
@@ -93,9 +94,9 @@ module _ (v : List ℕ) (S : List Bool) where
   module _ (alive after : List Bool) (removed found : Bool) (r : ℕ) (met : ℕ → Bool)
       (w : Swept alive removed r)
       (agrees : (t : ℕ) → has S t ≡ true → met t ≡ roleServed v S t r)
-      (size : length after ≡ 4096)
+      (size : length after ≡ typeLimit)
       (swept : (t : ℕ) → has after t ≡ (has alive t && met t))
-      (told : found ≡ anyBelow (λ t. has alive t && not (met t)) 4096) where
+      (told : found ≡ anyBelow (λ t. has alive t && not (met t)) typeLimit) where
     inside : (t : ℕ) → (b : Bool) → has S t ≡ b → ((b && below r t) && met t) ≡ (b && below (r + 1) t)
     inside t true e = ap (λ (x : Bool). below r t && x) (agrees t e) ∙ sym (below-turn r t)
     inside t false e = refl
@@ -113,20 +114,20 @@ module _ (v : List ℕ) (S : List Bool) where
         let unmet = sym (agrees t member) ∙ not-true (met t) (both-right (has alive t) (not (met t)) e) in
         rw (member, below-turn r t, both-right (has S t) (below r t) still, unmet)
 
-    either : (t : ℕ) → t < 4096 → leaves (r + 1) t ≡ true
-        → (anyBelow (leaves r) 4096 || anyBelow (λ t. has alive t && not (met t)) 4096) ≡ true
+    either : (t : ℕ) → t < typeLimit → leaves (r + 1) t ≡ true
+        → (anyBelow (leaves r) typeLimit || anyBelow (λ t. has alive t && not (met t)) typeLimit) ≡ true
     either t h e = at (below r t) refl
       where
         member : has S t ≡ true
         member = both-left (has S t) (not (below (r + 1) t)) e
 
-        at : (b : Bool) → below r t ≡ b → (anyBelow (leaves r) 4096 || anyBelow (λ t. has alive t && not (met t)) 4096) ≡ true
-        at false q = rw (any-intro (leaves r) 4096 t h (rw (member, q)))
+        at : (b : Bool) → below r t ≡ b → (anyBelow (leaves r) typeLimit || anyBelow (λ t. has alive t && not (met t)) typeLimit) ≡ true
+        at false q = rw (any-intro (leaves r) typeLimit t h (rw (member, q)))
         at true q =
             let unmet : roleServed v S t r ≡ false = both-rest (below r t) (roleServed v S t r)
             (sym (below-turn r t) ∙ not-true (below (r + 1) t) (both-right (has S t) (not (below (r + 1) t)) e)) q in
-            rw (any-intro (λ t. has alive t && not (met t)) 4096 t h (rw (w .kept t, member, q, agrees t member, unmet)))
-            (or-true (anyBelow (leaves r) 4096))
+            rw (any-intro (λ t. has alive t && not (met t)) typeLimit t h (rw (w .kept t, member, q, agrees t member, unmet)))
+            (or-true (anyBelow (leaves r) typeLimit))
 
     pub swept-turn : Swept after (removed || found) (r + 1)
     swept-turn =
@@ -136,21 +137,21 @@ module _ (v : List ℕ) (S : List Bool) where
           gone = ap₂ (λ (x y : Bool). x || y) (w .gone) told ∙ same-truth _ _ onward back;
         }
       where
-        onward : (anyBelow (leaves r) 4096 || anyBelow (λ t. has alive t && not (met t)) 4096) ≡ true
-            → anyBelow (leaves (r + 1)) 4096 ≡ true
-        onward e = at (anyBelow (leaves r) 4096) refl e
+        onward : (anyBelow (leaves r) typeLimit || anyBelow (λ t. has alive t && not (met t)) typeLimit) ≡ true
+            → anyBelow (leaves (r + 1)) typeLimit ≡ true
+        onward e = at (anyBelow (leaves r) typeLimit) refl e
           where
-            at : (b : Bool) → anyBelow (leaves r) 4096 ≡ b → (b || anyBelow (λ t. has alive t && not (met t)) 4096) ≡ true
-                → anyBelow (leaves (r + 1)) 4096 ≡ true
-            at true q h = let f = any-elim (leaves r) 4096 q in any-intro (leaves (r + 1)) 4096 (f .0) (f .1)
+            at : (b : Bool) → anyBelow (leaves r) typeLimit ≡ b → (b || anyBelow (λ t. has alive t && not (met t)) typeLimit) ≡ true
+                → anyBelow (leaves (r + 1)) typeLimit ≡ true
+            at true q h = let f = any-elim (leaves r) typeLimit q in any-intro (leaves (r + 1)) typeLimit (f .0) (f .1)
                 (first (f .0) (f .2))
             at false q h =
-                let f = any-elim (λ t. has alive t && not (met t)) 4096 h in
-                any-intro (leaves (r + 1)) 4096 (f .0) (f .1) (second (f .0) (f .2))
+                let f = any-elim (λ t. has alive t && not (met t)) typeLimit h in
+                any-intro (leaves (r + 1)) typeLimit (f .0) (f .1) (second (f .0) (f .2))
 
-        back : anyBelow (leaves (r + 1)) 4096 ≡ true
-            → (anyBelow (leaves r) 4096 || anyBelow (λ t. has alive t && not (met t)) 4096) ≡ true
-        back e = let f = any-elim (leaves (r + 1)) 4096 e in either (f .0) (f .1) (f .2)
+        back : anyBelow (leaves (r + 1)) typeLimit ≡ true
+            → (anyBelow (leaves r) typeLimit || anyBelow (λ t. has alive t && not (met t)) typeLimit) ≡ true
+        back e = let f = any-elim (leaves (r + 1)) typeLimit e in either (f .0) (f .1) (f .2)
 
   module _ (good : Accepted v) (ends : Ends S (types v)) where
     pub member-below : (t : ℕ) → has S t ≡ true → t < types v
@@ -174,24 +175,24 @@ module _ (v : List ℕ) (S : List Bool) where
             w .kept t ∙ ap (λ (x : Bool). x && below (roleCount v) t) (ends t (omega arith))
             ∙ sym (table-past (types v) (λ t. has S t && served v S t) false t (omega arith))
 
-    pub swept-removes : (alive : List Bool) (removed : Bool) → types v ≤ 4096 → Swept alive removed (roleCount v)
+    pub swept-removes : (alive : List Bool) (removed : Bool) → types v ≤ typeLimit → Swept alive removed (roleCount v)
         → removed ≡ removes v S
     swept-removes alive removed few w = w .gone ∙ same-truth _ _ onward back
       where
         same : (t : ℕ) → leaves (roleCount v) t ≡ (has S t && not (served v S t))
         same t = ap (λ (x : Bool). has S t && not x) (sym (served-below t))
 
-        onward : anyBelow (leaves (roleCount v)) 4096 ≡ true → removes v S ≡ true
+        onward : anyBelow (leaves (roleCount v)) typeLimit ≡ true → removes v S ≡ true
         onward e =
-            let f = any-elim (leaves (roleCount v)) 4096 e in
+            let f = any-elim (leaves (roleCount v)) typeLimit e in
             any-intro (λ t. has S t && not (served v S t)) (types v) (f .0)
             (member-below (f .0) (both-left (has S (f .0)) (not (below (roleCount v) (f .0))) (f .2)))
             (sym (same (f .0)) ∙ f .2)
 
-        back : removes v S ≡ true → anyBelow (leaves (roleCount v)) 4096 ≡ true
+        back : removes v S ≡ true → anyBelow (leaves (roleCount v)) typeLimit ≡ true
         back e =
             let f = any-elim (λ t. has S t && not (served v S t)) (types v) e in
-            any-intro (leaves (roleCount v)) 4096 (f .0) (omega (arith, f .1)) (same (f .0) ∙ f .2)
+            any-intro (leaves (roleCount v)) typeLimit (f .0) (omega (arith, f .1)) (same (f .0) ∙ f .2)
 
 module _ (v : List ℕ) where
   pub others-done : (roles : List ℕ) (bits role : ℕ) → bits ≡ width v → Roles v roles
@@ -199,11 +200,11 @@ module _ (v : List ℕ) where
   unfolding others
   others-done roles bits role e r = rw e (number-cong (width v) _ _ (λ m h. ap (λ (x : ℕ). not (eqb x role)) (r m h)))
 
-  pub reached-bound : (t r : ℕ) → atoms v ≤ 12 → reached v t r < 4096
-  reached-bound t r h = omega (arith, reached-small v t r, pow-mono {i = width v} {j = 12} (omega (arith, width-bound v)))
+  pub reached-bound : (t r : ℕ) → atoms v ≤ atomLimit → reached v t r < typeLimit
+  reached-bound t r h = omega (arith, reached-small v t r, pow-mono {i = width v} {j = atomLimit} (omega (arith, width-bound v)))
 
-  pub reached-in : (demands : List ℕ) (t r x : ℕ) → atoms v ≤ 12 → t < types v → Demands v demands → x ≡ others v r
-      → bitOr (getD demands t 0) x < 4096
+  pub reached-in : (demands : List ℕ) (t r x : ℕ) → atoms v ≤ atomLimit → t < types v → Demands v demands → x ≡ others v r
+      → bitOr (getD demands t 0) x < typeLimit
   reached-in demands t r x few h d e = rw (e, d t h) (reached-bound t r few)
 
   pub met-role : (S : List Bool) (demands table : List ℕ) (t r x : ℕ) → t < types v → Demands v demands → Covers v S table
@@ -212,7 +213,7 @@ module _ (v : List ℕ) where
   met-role S demands table t r x h d c e = rw (e, d t h, c (reached v t r) (reached-small v t r))
 
 -- the word of all bits, as the code makes it
-pub full-word : (bits : ℕ) → bits ≤ 12 → (1 * 2 ^ bits) % 65536 ≡ 2 ^ bits
+pub full-word : (bits : ℕ) → bits ≤ atomLimit → (1 * 2 ^ bits) % 65536 ≡ 2 ^ bits
 full-word bits h = shl-exact {a = 1} 1 bits 16 (omega arith) (omega arith) ∙ omega arith
 
 pub covering-less : (live : List ℕ) (left : ℕ) (S R : List Bool) → ((t : ℕ) → has R t ≡ true → has S t ≡ true)
@@ -253,34 +254,34 @@ module _ (v : List ℕ) where
           stays false b q = refl
       at (no h) = table-past (types v) (λ t. has S t && served v S t) false t (omega arith) ∙ sym (ends t (omega arith))
 
-  pub offer-in : (offers : List ℕ) (t : ℕ) → atoms v ≤ 12 → t < types v → Offers v offers → getD offers t 0 < 4096
+  pub offer-in : (offers : List ℕ) (t : ℕ) → atoms v ≤ atomLimit → t < types v → Offers v offers → getD offers t 0 < typeLimit
   offer-in offers t few h o =
-      omega (arith, o t h, offer-small v t, pow-mono {i = width v} {j = 12} (omega (arith, width-bound v)))
+      omega (arith, o t h, offer-small v t, pow-mono {i = width v} {j = atomLimit} (omega (arith, width-bound v)))
 
-  module _ (S : List Bool) (offers : List ℕ) (good : Accepted v) (ends : Ends S (types v)) (few : types v ≤ 4096)
+  module _ (S : List Bool) (offers : List ℕ) (good : Accepted v) (ends : Ends S (types v)) (few : types v ≤ typeLimit)
       (o : Offers v offers) where
     -- the offers entered are those of the set
-    offered-in : (x : ℕ) → offeredIn offers S 4096 x ≡ offered v S x
+    offered-in : (x : ℕ) → offeredIn offers S typeLimit x ≡ offered v S x
     offered-in x = ap (λ (b : Bool). cond b x 0) (same-truth _ _ onward back)
       where
-        onward : anyBelow (λ s. has S s && eqb (getD offers s 0) x) 4096 ≡ true
+        onward : anyBelow (λ s. has S s && eqb (getD offers s 0) x) typeLimit ≡ true
             → anyBelow (λ s. has S s && eqb (offer v s) x) (types v) ≡ true
         onward e =
-            let f = any-elim (λ s. has S s && eqb (getD offers s 0) x) 4096 e in
+            let f = any-elim (λ s. has S s && eqb (getD offers s 0) x) typeLimit e in
             let member = both-left (has S (f .0)) (eqb (getD offers (f .0) 0) x) (f .2) in
             let h = member-below v S good ends (f .0) member in
             any-intro (λ s. has S s && eqb (offer v s) x) (types v) (f .0) h
             (ap (λ (y : ℕ). has S (f .0) && eqb y x) (sym (o (f .0) h)) ∙ f .2)
 
         back : anyBelow (λ s. has S s && eqb (offer v s) x) (types v) ≡ true
-            → anyBelow (λ s. has S s && eqb (getD offers s 0) x) 4096 ≡ true
+            → anyBelow (λ s. has S s && eqb (getD offers s 0) x) typeLimit ≡ true
         back e =
             let f = any-elim (λ s. has S s && eqb (offer v s) x) (types v) e in
-            any-intro (λ s. has S s && eqb (getD offers s 0) x) 4096 (f .0) (omega (arith, f .1))
+            any-intro (λ s. has S s && eqb (getD offers s 0) x) typeLimit (f .0) (omega (arith, f .1))
             (ap (λ (y : ℕ). has S (f .0) && eqb y x) (o (f .0) (f .1)) ∙ f .2)
 
     pub covers-done : (bits : ℕ) (first last : List ℕ) → bits ≡ width v
-        → ((x : ℕ) → getD first x 0 ≡ offeredIn offers S 4096 x)
+        → ((x : ℕ) → getD first x 0 ≡ offeredIn offers S typeLimit x)
         → ((x : ℕ) → x < 2 ^ bits → getD last x 0 ≡ spread (λ y. getD first y 0) bits x) → Covers v S last
     covers-done bits first last e entered spreads x h =
         spreads x (omega (arith, ap (λ (n : ℕ). 2 ^ n) e))
@@ -289,7 +290,7 @@ module _ (v : List ℕ) where
 
 -- What stands after some rounds that each removed something.
 pub record Eliminating (v live : List ℕ) (left : ℕ) (alive : List Bool) (done : ℕ) : Type 0 where
-  pub size : length alive ≡ 4096
+  pub size : length alive ≡ typeLimit
   pub same : SameSet alive (stage v done)
   pub before : Removing v done
   pub covering : Covering live left alive
@@ -319,7 +320,7 @@ module _ (v live : List ℕ) (left : ℕ) (alive : List Bool) (done : ℕ) (w : 
   pub rounds-left : removes v alive ≡ true → done + 1 ≤ types v
   rounds-left e = omega (arith, stage-falls v (done + 1) (removing-on e))
 
-  pub eliminating-on : (after : List Bool) → length after ≡ 4096 → SameSet after (round v alive) → removes v alive ≡ true
+  pub eliminating-on : (after : List Bool) → length after ≡ typeLimit → SameSet after (round v alive) → removes v alive ≡ true
       → Eliminating v live left after (done + 1)
   unfolding stage
   eliminating-on after size next e =

@@ -25,6 +25,7 @@ use lib.Seq.{getD-set-same, getD-set-other}
 use borrow.Author.Tests.{lt-ltb, le-ltb, le-leb, lt-leb}
 use Rattle.types.specs.Below.{bit}
 use Rattle.types.specs.Words.{spread}
+use Rattle.types.specs.Compare.{atomLimit, typeLimit}
 
 -- The entry at y, joined with the one `half` places before it where a test holds.
 abbrev pub joinedIf : Bool → List ℕ → ℕ → ℕ → ℕ
@@ -42,7 +43,7 @@ past a e y h = rw (le-ltb y e h) (and-false (leb a y))
 
 -- A table whose entries from `at + half` up to `x + half` are joined with those `half` places before them.
 pub record Joined (old : List ℕ) (at half : ℕ) (l : List ℕ) (x : ℕ) : Type 0 where
-  pub size : length l ≡ 4096
+  pub size : length l ≡ typeLimit
   pub from : at ≤ x
   pub to : x ≤ at + half
   pub right : (y : ℕ) → getD l y 0 ≡ joinedIf (leb (at + half) y && ltb y (x + half)) old half y
@@ -51,14 +52,14 @@ module _ (old : List ℕ) (at half : ℕ) where
   abbrev joins : ℕ → ℕ → Bool
   joins x y = leb (at + half) y && ltb y (x + half)
 
-  pub join-start : length old ≡ 4096 → Joined old at half old at
+  pub join-start : length old ≡ typeLimit → Joined old at half old at
   join-start e = record { size = e; from = omega arith; to = omega arith; right = λ y. none y (decLt y (at + half)) }
     where
       none : (y : ℕ) → Dec (y < at + half) → getD old y 0 ≡ joinedIf (joins at y) old half y
       none y (yes h) = rw (before (at + half) (at + half) y h)
       none y (no h) = rw (past (at + half) (at + half) y (omega arith))
 
-  module _ (l : List ℕ) (x : ℕ) (room : at + 2 * half ≤ 4096) (s : Joined old at half l x) where
+  module _ (l : List ℕ) (x : ℕ) (room : at + 2 * half ≤ typeLimit) (s : Joined old at half l x) where
     abbrev next : ℕ
     next = bitOr (getD l (x + half) 0) (getD l x 0)
 
@@ -113,7 +114,7 @@ power k h = omega (arith, shl-exact {a = 1} 1 k 64 (omega arith) (omega arith))
 pub record Paired (old : List ℕ) (n : ℕ) (l : List ℕ) (at : ℕ) : Type 0 where
   pub blocks : ℕ
   pub place : at ≡ 2 * blocks * 2 ^ n
-  pub size : length l ≡ 4096
+  pub size : length l ≡ typeLimit
   pub right : (y : ℕ) → getD l y 0 ≡ joinedIf (ltb y at && bit y n) old (2 ^ n) y
 
 -- bit n of a number in the first half of a block, and in the second
@@ -141,7 +142,7 @@ joined-end : (old l : List ℕ) (n words at : ℕ) → words ≤ at
 joined-end old l n words at h r x k = r x ∙ rw (lt-ltb x at (omega arith))
 
 module _ (old : List ℕ) (n : ℕ) where
-  pub pair-start : length old ≡ 4096 → Paired old n old 0
+  pub pair-start : length old ≡ typeLimit → Paired old n old 0
   pair-start e = record { blocks = 0; place = omega arith; size = e; right = λ y. rw (le-ltb y 0 (omega arith)) }
 
   module _ (l : List ℕ) (at : ℕ) (s : Paired old n l at) where
@@ -177,7 +178,7 @@ module _ (old : List ℕ) (n : ℕ) where
           j y ∙ rw (past (at + 2 ^ n) (at + 2 * 2 ^ n) y (omega arith), le-ltb y (at + 2 * 2 ^ n) (omega arith))
           (untouched y (omega arith))
 
-      paired : length m ≡ 4096 → Paired old n m (at + 2 * 2 ^ n)
+      paired : length m ≡ typeLimit → Paired old n m (at + 2 * 2 ^ n)
       paired e =
           let b : 2 * (s .blocks + 1) ≡ 2 * s .blocks + 2 = omega arith in
           record {
@@ -187,11 +188,11 @@ module _ (old : List ℕ) (n : ℕ) where
             right = λ y. turned y (decLt y at) (decLt y (at + 2 ^ n)) (decLt y (at + 2 * 2 ^ n));
           }
 
-    module _ (words : ℕ) (few : words ≤ 4096) (h : n < 12) where
-      pub pair-room : at < words → at + 2 * shifted n ≤ 4096
+    module _ (words : ℕ) (few : words ≤ typeLimit) (h : n < atomLimit) where
+      pub pair-room : at < words → at + 2 * shifted n ≤ typeLimit
       pair-room k =
-          let e : 12 ≡ suc (11 - n) + n = omega arith in
-          let p : 2 ^ 12 ≡ 2 ^ suc (11 - n) * 2 ^ n = ap (λ (z : ℕ). 2 ^ z) e ∙ pow-add 2 (suc (11 - n)) n in
+          let e : atomLimit ≡ suc (atomLimit - 1 - n) + n = omega arith in
+          let p : typeLimit ≡ 2 ^ suc (atomLimit - 1 - n) * 2 ^ n = ap (λ (z : ℕ). 2 ^ z) e ∙ pow-add 2 (suc (atomLimit - 1 - n)) n in
           let below : 2 * s .blocks < 2 ^ suc (11 - n) = lt-of-mul-lt-mul-right (2 ^ n) (omega (arith, s .place)) in
           let next : 2 * s .blocks + 2 ≤ 2 ^ suc (11 - n) = omega arith in
           let two = add-mul (2 * s .blocks) 2 (2 ^ n) in
@@ -200,7 +201,7 @@ module _ (old : List ℕ) (n : ℕ) where
       pub pair-less : at < words → words - (at + 2 * shifted n) < words - at
       pair-less k = omega (arith, power n (omega arith), pow-pos n)
 
-      pub pair-turn : (m : List ℕ) → length m ≡ 4096
+      pub pair-turn : (m : List ℕ) → length m ≡ typeLimit
           → ((y : ℕ) → getD m y 0 ≡ joinedIf (leb (at + shifted n) y && ltb y (at + 2 * shifted n)) l (shifted n) y)
           → Paired old n m (at + 2 * shifted n)
       pair-turn m e j = let w = power n (omega arith) in rw w (paired m (rw w at j) e)
@@ -266,11 +267,11 @@ module _ (n x : ℕ) (w : Word n x) where
 -- A table whose entries below x, a word that has bit n, are joined where they have it.
 pub record Stepped (old : List ℕ) (n : ℕ) (l : List ℕ) (x : ℕ) : Type 0 where
   word : Word n x
-  pub size : length l ≡ 4096
+  pub size : length l ≡ typeLimit
   pub right : (y : ℕ) → getD l y 0 ≡ joinedIf (ltb y x && bit y n) old (2 ^ n) y
 
 module _ (old : List ℕ) (n : ℕ) where
-  pub step-start : n < 64 → length old ≡ 4096 → Stepped old n old (shifted n)
+  pub step-start : n < 64 → length old ≡ typeLimit → Stepped old n old (shifted n)
   step-start h e =
       rw (power n h) (record {
         word = record { block = 0; rest = 0; place = omega arith; inside = pow-pos n };
@@ -282,7 +283,7 @@ module _ (old : List ℕ) (n : ℕ) where
       none y (yes k) = rw (first-half n 0 y (omega arith) (omega arith), and-false (ltb y (2 ^ n)))
       none y (no k) = rw (le-ltb y (2 ^ n) (omega arith))
 
-  module _ (l : List ℕ) (x : ℕ) (h : n < 12) (s : Stepped old n l x) where
+  module _ (l : List ℕ) (x : ℕ) (h : n < atomLimit) (s : Stepped old n l x) where
     pub step-end : (words : ℕ) → words ≤ x → (y : ℕ) → y < words → getD l y 0 ≡ joinedIf (bit y n) old (2 ^ n) y
     step-end words k = joined-end old l n words x k (s .right)
 
@@ -303,7 +304,7 @@ module _ (old : List ℕ) (n : ℕ) where
         s .right (x - 2 ^ n) ∙ rw (without-bit n x (s .word), and-false (ltb (x - 2 ^ n) x)) in
         rw (here, low)
 
-    stepped : x < 4096 → (z : ℕ) → Next n x (s .word) z → Stepped old n (set l x entry) z
+    stepped : x < typeLimit → (z : ℕ) → Next n x (s .word) z → Stepped old n (set l x entry) z
     stepped k z w =
         record {
           word = w .word;
@@ -324,25 +325,25 @@ module _ (old : List ℕ) (n : ℕ) where
         turned y (no p) (no q) (no r) =
             getD-set-other l x y entry 0 p ∙ s .right y ∙ rw (le-ltb y x (omega arith), le-ltb y z (omega arith))
 
-    pub step-turn : x < 4096
+    pub step-turn : x < typeLimit
         → Stepped old n (set l x (bitOr (getD l x 0) (getD l (x - shifted n) 0))) (bitOr (x + 1) (shifted n))
     step-turn k = rw (power n (omega arith)) (stepped k (bitOr (x + 1) (2 ^ n)) (next-word n x (s .word)))
 
 -- A table spread over the bits below n, in its first 2 ^ bits entries.
 pub record Spreading (old : List ℕ) (bits : ℕ) (l : List ℕ) (n : ℕ) : Type 0 where
   pub within : n ≤ bits
-  pub size : length l ≡ 4096
+  pub size : length l ≡ typeLimit
   pub right : (x : ℕ) → x < 2 ^ bits → getD l x 0 ≡ spread (λ y. getD old y 0) n x
 
-pub spread-room : (bits : ℕ) → bits ≤ 12 → shifted bits ≤ 4096
-spread-room bits few = omega (arith, power bits (omega arith), pow-mono {i = bits} {j = 12} few)
+pub spread-room : (bits : ℕ) → bits ≤ atomLimit → shifted bits ≤ typeLimit
+spread-room bits few = omega (arith, power bits (omega arith), pow-mono {i = bits} {j = atomLimit} few)
 
 module _ (old : List ℕ) (bits : ℕ) where
-  pub spread-start : length old ≡ 4096 → Spreading old bits old 0
+  pub spread-start : length old ≡ typeLimit → Spreading old bits old 0
   unfolding spread
   spread-start e = record { within = omega arith; size = e; right = λ x h. refl }
 
-  pub spread-turn : (l m : List ℕ) (n : ℕ) → bits ≤ 12 → n < bits → Spreading old bits l n → length m ≡ 4096
+  pub spread-turn : (l m : List ℕ) (n : ℕ) → bits ≤ atomLimit → n < bits → Spreading old bits l n → length m ≡ typeLimit
       → ((x : ℕ) → x < shifted bits → getD m x 0 ≡ joinedIf (bit x n) l (2 ^ n) x) → Spreading old bits m (n + 1)
   unfolding spread
   spread-turn l m n few h s e j =

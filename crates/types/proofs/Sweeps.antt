@@ -23,9 +23,10 @@ use Rattle.types.specs.Below.{has}
 use Rattle.types.specs.Words.{offeredIn, Covering}
 use Rattle.types.proofs.Listing.{ListedBelow}
 use Rattle.types.proofs.Tests.{both-true, unless-false, same-truth}
+use Rattle.types.specs.Compare.{typeLimit}
 
 -- The members of a set, listed, cover it.
-pub list-covering : (S : List Bool) (types : List ℕ) (left t : ℕ) → ListedBelow 4096 S types left t → t ≤ 4096
+pub list-covering : (S : List Bool) (types : List ℕ) (left t : ℕ) → ListedBelow typeLimit S types left t → t ≤ typeLimit
     → ((u : ℕ) → t ≤ u → has S u ≡ false) → Covering types left S
 list-covering S types left t l h ends =
     record {
@@ -40,7 +41,7 @@ list-covering S types left t l h ends =
 
 -- A list that has every member: a search over it for a member is one over all types.
 module _ (live : List ℕ) (left : ℕ) (S : List Bool) (c : Covering live left S) where
-  pub member-below : (t : ℕ) → has S t ≡ true → t < 4096
+  pub member-below : (t : ℕ) → has S t ≡ true → t < typeLimit
   member-below t m = let f = c .finds t m in omega (arith, f .2, c .inside (f .0) (f .1))
 
   module _ (p : ℕ → Bool) where
@@ -50,15 +51,15 @@ module _ (live : List ℕ) (left : ℕ) (S : List Bool) (c : Covering live left 
     abbrev all : ℕ → Bool
     all t = has S t && p t
 
-    pub search-list : anyBelow listed left ≡ anyBelow all 4096
+    pub search-list : anyBelow listed left ≡ anyBelow all typeLimit
     search-list = same-truth _ _ there back
       where
-        there : anyBelow listed left ≡ true → anyBelow all 4096 ≡ true
-        there e = let f = any-elim listed left e in any-intro all 4096 (getD live (f .0) 0) (c .inside (f .0) (f .1)) (f .2)
+        there : anyBelow listed left ≡ true → anyBelow all typeLimit ≡ true
+        there e = let f = any-elim listed left e in any-intro all typeLimit (getD live (f .0) 0) (c .inside (f .0) (f .1)) (f .2)
 
-        back : anyBelow all 4096 ≡ true → anyBelow listed left ≡ true
+        back : anyBelow all typeLimit ≡ true → anyBelow listed left ≡ true
         back e =
-            let f = any-elim all 4096 e in
+            let f = any-elim all typeLimit e in
             let g = c .finds (f .0) (both-left (has S (f .0)) (p (f .0)) (f .2)) in
             any-intro listed left (g .0) (g .1) (subst (λ (t : ℕ). all t ≡ true) (sym (g .2)) (f .2))
 
@@ -69,16 +70,16 @@ module _ (offers live : List ℕ) (S : List Bool) where
 
   -- The words that the first j listed types offer, each at its own place.
   pub record Entered (cover : List ℕ) (j : ℕ) : Type 0 where
-    pub size : length cover ≡ 4096
+    pub size : length cover ≡ typeLimit
     pub entered : (x : ℕ) → getD cover x 0 ≡ cond (anyBelow (offersAt x) j) x 0
 
   module _ (cover : List ℕ) where
-    pub enter-start : length cover ≡ 4096 → ((x : ℕ) → getD cover x 0 ≡ 0) → Entered cover 0
+    pub enter-start : length cover ≡ typeLimit → ((x : ℕ) → getD cover x 0 ≡ 0) → Entered cover 0
     unfolding anyBelow
     enter-start e zeros = record { size = e; entered = zeros }
 
     module _ (j : ℕ) (l : Entered cover j) where
-      pub enter-more : has S (getD live j 0) ≡ true → getD offers (getD live j 0) 0 < 4096
+      pub enter-more : has S (getD live j 0) ≡ true → getD offers (getD live j 0) 0 < typeLimit
           → Entered (set cover (getD offers (getD live j 0) 0) (getD offers (getD live j 0) 0)) (j + 1)
       enter-more m h =
           record { size = length-set cover o o ∙ l .size; entered = λ x. at x (ℕ-discrete x o) }
@@ -102,13 +103,13 @@ module _ (offers live : List ℕ) (S : List Bool) where
             entered = λ x. l .entered x ∙ ap (λ (b : Bool). cond b x 0) (any-miss (offersAt x) j _ refl (rw m));
           }
 
-    pub enter-end : (left : ℕ) → Covering live left S → Entered cover left → (x : ℕ) → getD cover x 0 ≡ offeredIn offers S 4096 x
+    pub enter-end : (left : ℕ) → Covering live left S → Entered cover left → (x : ℕ) → getD cover x 0 ≡ offeredIn offers S typeLimit x
     enter-end left c l x =
         l .entered x ∙ ap (λ (b : Bool). cond b x 0) (search-list live left S c (λ t. eqb (getD offers t 0) x))
 
 -- What is left of a set after the first j listed types were tested.
 pub record Swept (met : ℕ → Bool) (live : List ℕ) (S R : List Bool) (removed : Bool) (j : ℕ) : Type 0 where
-  pub size : length R ≡ 4096
+  pub size : length R ≡ typeLimit
   pub within : (t : ℕ) → has R t ≡ true → has S t ≡ true
   pub stays : (t : ℕ) → has S t ≡ true → met t ≡ true → has R t ≡ true
   pub tested : (i : ℕ) → i < j → has R (getD live i 0) ≡ true → met (getD live i 0) ≡ true
@@ -116,7 +117,7 @@ pub record Swept (met : ℕ → Bool) (live : List ℕ) (S R : List Bool) (remov
   pub untouched : removed ≡ false → (t : ℕ) → has S t ≡ true → has R t ≡ true
 
 module _ (met : ℕ → Bool) (live : List ℕ) (S : List Bool) where
-  pub sweep-start : length S ≡ 4096 → Swept met live S S false 0
+  pub sweep-start : length S ≡ typeLimit → Swept met live S S false 0
   sweep-start e =
       record {
         size = e;
@@ -128,7 +129,7 @@ module _ (met : ℕ → Bool) (live : List ℕ) (S : List Bool) where
       }
 
   module _ (R : List Bool) (removed : Bool) (j : ℕ) (l : Swept met live S R removed j) where
-    pub sweep-out : getD live j 0 < 4096 → has R (getD live j 0) ≡ true → met (getD live j 0) ≡ false
+    pub sweep-out : getD live j 0 < typeLimit → has R (getD live j 0) ≡ true → met (getD live j 0) ≡ false
         → Swept met live S (set R (getD live j 0) false) true (j + 1)
     sweep-out h m n =
         record {
@@ -189,18 +190,18 @@ module _ (met : ℕ → Bool) (live : List ℕ) (S : List Bool) where
           same-truth _ _ (λ m. both-true (has S t) (met t) (l .within t m) (all-met t m))
           (λ b. l .stays t (both-left (has S t) (met t) b) (both-right (has S t) (met t) b))
 
-      pub sweep-any : removed ≡ anyBelow (λ t. has S t && not (met t)) 4096
+      pub sweep-any : removed ≡ anyBelow (λ t. has S t && not (met t)) typeLimit
       sweep-any = same-truth _ _ there back
         where
-          there : removed ≡ true → anyBelow (λ t. has S t && not (met t)) 4096 ≡ true
+          there : removed ≡ true → anyBelow (λ t. has S t && not (met t)) typeLimit ≡ true
           there r =
               let f = l .found r in
-              any-intro (λ t. has S t && not (met t)) 4096 (f .0) (member-below live left S c (f .0) (f .1))
+              any-intro (λ t. has S t && not (met t)) typeLimit (f .0) (member-below live left S c (f .0) (f .1))
               (both-true (has S (f .0)) (not (met (f .0))) (f .1) (ap not (f .2)))
 
-          back : anyBelow (λ t. has S t && not (met t)) 4096 ≡ true → removed ≡ true
+          back : anyBelow (λ t. has S t && not (met t)) typeLimit ≡ true → removed ≡ true
           back a =
-              let f = any-elim (λ t. has S t && not (met t)) 4096 a in
+              let f = any-elim (λ t. has S t && not (met t)) typeLimit a in
               let m = both-left (has S (f .0)) (not (met (f .0))) (f .2) in
               let n = not-true (met (f .0)) (both-right (has S (f .0)) (not (met (f .0))) (f .2)) in
               unless-false removed (λ r. let k = all-met (f .0) (l .untouched r (f .0) m) in clash (cc))

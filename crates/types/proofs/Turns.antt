@@ -22,6 +22,7 @@ use Rattle.records.specs.Kinds.{isAtom}
 use Rattle.types.specs.Below.{allBelow, digit, number}
 use Rattle.types.specs.Types.{rank, atoms, types}
 use Rattle.types.proofs.Bits.{number-step, number-small, number-cong}
+use Rattle.types.specs.Compare.{atomLimit, typeLimit}
 
 -- The entries below i are right.
 abbrev pub Right : {A : Type 0} → A → List A → (ℕ → A) → ℕ → Type 0
@@ -47,8 +48,8 @@ module _ {A : Type 0} (d : A) (n : ℕ) (l : List A) (f : ℕ → A) where
   fill-same i r g e = record { size = r .size; right = λ j k. r .right j k ∙ e j k }
 
 -- Few atoms have few types.
-pub types-bound : (v : List ℕ) → atoms v ≤ 12 → types v ≤ 4096
-types-bound v h = pow-mono {j = 12} h
+pub types-bound : (v : List ℕ) → atoms v ≤ atomLimit → types v ≤ typeLimit
+types-bound v h = pow-mono {j = atomLimit} h
 
 -- A set that has nothing from i on.
 abbrev pub Ends : List Bool → ℕ → Type 0
@@ -81,9 +82,9 @@ module _ (bits : ℕ) (f : ℕ → Bool) where
   unfolding number
   word-start = let none : bits - bits ≡ 0 = omega arith in rw none
 
-  pub word-bound : (m w : ℕ) → bits ≤ 12 → w ≡ wordFrom m → w < 4096
+  pub word-bound : (m w : ℕ) → bits ≤ atomLimit → w ≡ wordFrom m → w < typeLimit
   word-bound m w h e =
-      omega (arith, number-small (bits - m) (λ i. f (m + i)), pow-mono {i = bits - m} {j = 12} (omega arith))
+      omega (arith, number-small (bits - m) (λ i. f (m + i)), pow-mono {i = bits - m} {j = atomLimit} (omega arith))
 
   pub word-turn : (m : ℕ) (w : ℕ) (x : Bool) → 0 < m → m ≤ bits → w ≡ wordFrom m → x ≡ f (m - 1)
       → digit x + 2 * w ≡ wordFrom (m - 1)

@@ -1,5 +1,5 @@
 -- The comparison: rows 10 to 12 and the answer.
-use Prim.Native.Nat.{ℕ}
+use Prim.Native.Nat.{ℕ, _^_}
 use mathlib.Core.Bool.{Bool, true, false, Bool·beq, not, _&&_}
 use mathlib.Core.List.{List}
 use lib.Dec.{ltb, leb}
@@ -32,9 +32,13 @@ verdictWith false element survivors rounds = equal survivors rounds
 unfoldable pub verdict : List ℕ → ℕ → ℕ → Verdict
 verdict v a b = verdictWith (ltb (firstParted v a b) (types v)) (firstParted v a b) (members (survivors v)) (rounds v)
 
--- The bounds of rows 11 and 12. The form has a bit for each type.
+-- The bounds of rows 11 and 12: the atoms of a vocabulary that is compared, so its types, and the bytes of the form, which
+-- has a bit for each type.
 abbrev pub atomLimit : ℕ
 atomLimit = 12
+
+abbrev pub typeLimit : ℕ
+typeLimit = 2 ^ atomLimit
 
 abbrev pub formBytes : ℕ
 formBytes = 512

@@ -17,6 +17,7 @@ use Rattle.types.specs.Types.{atoms, types, truth}
 use Rattle.types.specs.Survivors.{fits}
 use Rattle.types.specs.Compare.{atomLimit}
 use Rattle.types.specs.Rules.{Decoded}
+use Rattle.types.specs.Compare.{typeLimit}
 
 -- Kinds 7 and 8.
 abbrev pub isRestriction : ℕ → Bool
@@ -140,8 +141,8 @@ metBy cover others demand = eqb (bitOr (getD cover (bitOr demand others) 0) othe
 
 -- A list of types that has every member of a set.
 pub record Covering (live : List ℕ) (left : ℕ) (S : List Bool) : Type 0 where
-  pub few : left ≤ 4096
-  pub inside : (j : ℕ) → j < left → getD live j 0 < 4096
+  pub few : left ≤ typeLimit
+  pub inside : (j : ℕ) → j < left → getD live j 0 < typeLimit
   pub finds : (t : ℕ) → has S t ≡ true → (j : ℕ) × (j < left) × (getD live j 0 ≡ t)
 
 -- A table of the covers of all words.

@@ -40,6 +40,7 @@ ghost use Rattle.types.specs.Compare.{termCheck, queryCheck, verdict, co
 ghost use Rattle.types.specs.Form.{form, written};
 ghost use Rattle.types.specs.Answers.{compared};
 ghost use Rattle.types.specs.Words.{width, Listed, Fillers, Roles, Signs, Differs, Demands, Offers, SameSet};
+ghost use Rattle.types.specs.Compare.{atomLimit, typeLimit, formBytes};
 
 // Row 10: whether a number of the query names a term.
 fn names_term(v: &[u8], number: usize) -> bool
@@ -87,7 +88,7 @@ fn profile_all(
     size: usize,
 ) -> Profiles
     requires { ⌜ vocabularyCheck (now v) ≡ accepted (count (now v)) ⌝ }
-    requires { ⌜ atoms (now v) ≤ 12 ⌝ }
+    requires { ⌜ atoms (now v) ≤ atomLimit ⌝ }
     requires { ⌜ a < count (now v) ⌝ }
     requires { ⌜ b < count (now v) ⌝ }
     requires { ⌜ size ≡ types (now v) ⌝ }
@@ -99,7 +100,7 @@ fn profile_all(
     ensures { λ r. ⌜ Differs (now (v .entry)) a b (r .differs) ⌝ }
     ensures { λ r. ⌜ Demands (now (v .entry)) (r .demands) ⌝ }
     ensures { λ r. ⌜ Offers (now (v .entry)) (r .offers) ⌝ }
-    ensures { λ r. ⌜ length (r .alive) ≡ 4096 ⌝ }
+    ensures { λ r. ⌜ length (r .alive) ≡ typeLimit ⌝ }
 {
     let decoded = decode(v);
     let rules = decoded.rules;
@@ -130,13 +131,13 @@ fn profile_all(
 // The answer for two terms of an accepted vocabulary of few enough atoms; the survivors are written.
 fn decide(v: &[u8], a: usize, b: usize, k: usize, lent: &mut [u8]) -> Compared
     requires { ⌜ vocabularyCheck (now v) ≡ accepted (count (now v)) ⌝ }
-    requires { ⌜ atoms (now v) ≤ 12 ⌝ }
+    requires { ⌜ atoms (now v) ≤ atomLimit ⌝ }
     requires { ⌜ k ≡ atoms (now v) ⌝ }
     requires { ⌜ a < count (now v) ⌝ }
     requires { ⌜ b < count (now v) ⌝ }
-    requires { ⌜ 512 ≤ length (now lent) ⌝ }
+    requires { ⌜ formBytes ≤ length (now lent) ⌝ }
     ensures { λ r. ⌜ compared r ≡ accepted (verdict (now (v .entry)) a b) ⌝ }
-    ensures { λ _. ⌜ now (lent .exit) ≡ form (now (v .entry)) ++ drop 512 (now (lent .entry)) ⌝ }
+    ensures { λ _. ⌜ now (lent .exit) ≡ form (now (v .entry)) ++ drop formBytes (now (lent .entry)) ⌝ }
 {
     let size = 1 << k;
     let listing = list_restrictions(v);

@@ -15,6 +15,7 @@ ghost use Rattle.types.specs.Below.{has};
 ghost use Rattle.types.specs.Types.{atoms, types, served};
 ghost use Rattle.types.specs.Survivors.{round, removes, stage, rounds, survivors};
 ghost use Rattle.types.specs.Words.{width, Roles, Demands, Offers, SameSet, offeredIn, metBy, Covering, Covers};
+ghost use Rattle.types.specs.Compare.{atomLimit, typeLimit};
 
 // The types that fit, in rising order: no round looks at any other.
 pub struct Live {
@@ -23,7 +24,7 @@ pub struct Live {
 }
 
 fn list_live(alive: &[bool; Profile::TYPES], size: usize) -> Live
-    requires { ⌜ size ≤ 4096 ⌝ }
+    requires { ⌜ size ≤ typeLimit ⌝ }
     requires { ⌜ ((t : ℕ) → size ≤ t → has (now alive) t ≡ false) ⌝ }
     ensures { λ r. ⌜ Covering (r .types) (r .left) (now (alive .entry)) ⌝ }
 {
@@ -49,11 +50,11 @@ fn enter_offers(
     cover: &mut [u16; Profile::TYPES],
 )
     requires { ⌜ Covering (now live) left (now alive) ⌝ }
-    requires { ⌜ ((t : ℕ) → has (now alive) t ≡ true → getD (now offers) t 0 < 4096) ⌝ }
+    requires { ⌜ ((t : ℕ) → has (now alive) t ≡ true → getD (now offers) t 0 < typeLimit) ⌝ }
     requires { ⌜ ((x : ℕ) → getD (now cover) x 0 ≡ 0) ⌝ }
-    requires { ⌜ length (now cover) ≡ 4096 ⌝ }
-    ensures { λ _. ⌜ length (now (cover .exit)) ≡ 4096 ⌝ }
-    ensures { λ _. ⌜ ((x : ℕ) → getD (now (cover .exit)) x 0 ≡ offeredIn (now (offers .entry)) (now (alive .entry)) 4096 x) ⌝ }
+    requires { ⌜ length (now cover) ≡ typeLimit ⌝ }
+    ensures { λ _. ⌜ length (now (cover .exit)) ≡ typeLimit ⌝ }
+    ensures { λ _. ⌜ ((x : ℕ) → getD (now (cover .exit)) x 0 ≡ offeredIn (now (offers .entry)) (now (alive .entry)) typeLimit x) ⌝ }
 {
     let mut j = 0;
     while j < left {
@@ -68,7 +69,7 @@ fn enter_offers(
 
 // Whether a demand by restrictions of one role is met.
 fn is_met(cover: &[u16; Profile::TYPES], others: u16, demand: u16) -> bool
-    requires { ⌜ bitOr demand others < 4096 ⌝ }
+    requires { ⌜ bitOr demand others < typeLimit ⌝ }
     ensures { λ r. ⌜ r ≡ metBy (now (cover .entry)) others demand ⌝ }
 {
     let reached = demand | others;
@@ -85,11 +86,11 @@ fn sweep(
     alive: &mut [bool; Profile::TYPES],
 ) -> bool
     requires { ⌜ Covering (now live) left (now alive) ⌝ }
-    requires { ⌜ ((t : ℕ) → has (now alive) t ≡ true → bitOr (getD (now demands) t 0) others < 4096) ⌝ }
-    requires { ⌜ length (now alive) ≡ 4096 ⌝ }
-    ensures { λ _. ⌜ length (now (alive .exit)) ≡ 4096 ⌝ }
+    requires { ⌜ ((t : ℕ) → has (now alive) t ≡ true → bitOr (getD (now demands) t 0) others < typeLimit) ⌝ }
+    requires { ⌜ length (now alive) ≡ typeLimit ⌝ }
+    ensures { λ _. ⌜ length (now (alive .exit)) ≡ typeLimit ⌝ }
     ensures { λ _. ⌜ ((t : ℕ) → has (now (alive .exit)) t ≡ (has (now (alive .entry)) t && metBy (now (cover .entry)) others (getD (now (demands .entry)) t 0))) ⌝ }
-    ensures { λ r. ⌜ r ≡ anyBelow (λ t. has (now (alive .entry)) t && not (metBy (now (cover .entry)) others (getD (now (demands .entry)) t 0))) 4096 ⌝ }
+    ensures { λ r. ⌜ r ≡ anyBelow (λ t. has (now (alive .entry)) t && not (metBy (now (cover .entry)) others (getD (now (demands .entry)) t 0))) typeLimit ⌝ }
 {
     let mut removed = false;
     let mut j = 0;
@@ -124,15 +125,15 @@ fn sweep_roles(
     alive: &mut [bool; Profile::TYPES],
 ) -> bool
     requires { ⌜ vocabularyCheck (now v) ≡ accepted (count (now v)) ⌝ }
-    requires { ⌜ atoms (now v) ≤ 12 ⌝ }
+    requires { ⌜ atoms (now v) ≤ atomLimit ⌝ }
     requires { ⌜ bits ≡ width (now v) ⌝ }
     requires { ⌜ Roles (now v) (now roles) ⌝ }
     requires { ⌜ Demands (now v) (now demands) ⌝ }
     requires { ⌜ Covers (now v) (now alive) (now cover) ⌝ }
     requires { ⌜ Covering (now live) left (now alive) ⌝ }
     requires { ⌜ ((t : ℕ) → types (now v) ≤ t → has (now alive) t ≡ false) ⌝ }
-    requires { ⌜ length (now alive) ≡ 4096 ⌝ }
-    ensures { λ _. ⌜ length (now (alive .exit)) ≡ 4096 ⌝ }
+    requires { ⌜ length (now alive) ≡ typeLimit ⌝ }
+    ensures { λ _. ⌜ length (now (alive .exit)) ≡ typeLimit ⌝ }
     ensures { λ _. ⌜ SameSet (now (alive .exit)) (round (now (v .entry)) (now (alive .entry))) ⌝ }
     ensures { λ r. ⌜ r ≡ removes (now (v .entry)) (now (alive .entry)) ⌝ }
 {
@@ -163,15 +164,15 @@ fn remove_unserved(
     alive: &mut [bool; Profile::TYPES],
 ) -> bool
     requires { ⌜ vocabularyCheck (now v) ≡ accepted (count (now v)) ⌝ }
-    requires { ⌜ atoms (now v) ≤ 12 ⌝ }
+    requires { ⌜ atoms (now v) ≤ atomLimit ⌝ }
     requires { ⌜ bits ≡ width (now v) ⌝ }
     requires { ⌜ Roles (now v) (now roles) ⌝ }
     requires { ⌜ Demands (now v) (now demands) ⌝ }
     requires { ⌜ Offers (now v) (now offers) ⌝ }
     requires { ⌜ Covering (now live) left (now alive) ⌝ }
     requires { ⌜ ((t : ℕ) → types (now v) ≤ t → has (now alive) t ≡ false) ⌝ }
-    requires { ⌜ length (now alive) ≡ 4096 ⌝ }
-    ensures { λ _. ⌜ length (now (alive .exit)) ≡ 4096 ⌝ }
+    requires { ⌜ length (now alive) ≡ typeLimit ⌝ }
+    ensures { λ _. ⌜ length (now (alive .exit)) ≡ typeLimit ⌝ }
     ensures { λ _. ⌜ SameSet (now (alive .exit)) (round (now (v .entry)) (now (alive .entry))) ⌝ }
     ensures { λ r. ⌜ r ≡ removes (now (v .entry)) (now (alive .entry)) ⌝ }
 {
@@ -192,14 +193,14 @@ pub fn eliminate(
     alive: &mut [bool; Profile::TYPES],
 ) -> usize
     requires { ⌜ vocabularyCheck (now v) ≡ accepted (count (now v)) ⌝ }
-    requires { ⌜ atoms (now v) ≤ 12 ⌝ }
+    requires { ⌜ atoms (now v) ≤ atomLimit ⌝ }
     requires { ⌜ bits ≡ width (now v) ⌝ }
     requires { ⌜ Roles (now v) (now roles) ⌝ }
     requires { ⌜ Demands (now v) (now demands) ⌝ }
     requires { ⌜ Offers (now v) (now offers) ⌝ }
     requires { ⌜ size ≡ types (now v) ⌝ }
     requires { ⌜ SameSet (now alive) (stage (now v) 0) ⌝ }
-    requires { ⌜ length (now alive) ≡ 4096 ⌝ }
+    requires { ⌜ length (now alive) ≡ typeLimit ⌝ }
     ensures { λ _. ⌜ SameSet (now (alive .exit)) (survivors (now (v .entry))) ⌝ }
     ensures { λ r. ⌜ r ≡ rounds (now (v .entry)) ⌝ }
 {

@@ -7,10 +7,11 @@ ghost use mathlib.Core.List.{_++_};
 ghost use Prim.Native.Nat.{ℕ, _+_, _*_, _≤_, _<_};
 ghost use lib.ListN.{length, getD, drop};
 ghost use Rattle.types.specs.Below.{has, least, table, number, countBelow};
+ghost use Rattle.types.specs.Compare.{typeLimit, formBytes};
 
 // How many are below `size`.
 pub fn count_alive(alive: &[bool; Profile::TYPES], size: usize) -> usize
-    requires { ⌜ size ≤ 4096 ⌝ }
+    requires { ⌜ size ≤ typeLimit ⌝ }
     ensures { λ r. ⌜ r ≡ countBelow (has (now (alive .entry))) size ⌝ }
 {
     let mut found = 0;
@@ -30,7 +31,7 @@ pub fn find_first(
     differs: &[bool; Profile::TYPES],
     size: usize,
 ) -> usize
-    requires { ⌜ size ≤ 4096 ⌝ }
+    requires { ⌜ size ≤ typeLimit ⌝ }
     ensures { λ r. ⌜ r ≡ least (λ t. has (now (alive .entry)) t && getD (now (differs .entry)) t false) size ⌝ }
 {
     let mut t = 0;
@@ -47,7 +48,7 @@ pub fn find_first(
 
 // Byte n of the form, built from its top bit.
 fn byte_of(alive: &[bool; Profile::TYPES], n: usize) -> u8
-    requires { ⌜ n < 512 ⌝ }
+    requires { ⌜ n < formBytes ⌝ }
     ensures { λ r. ⌜ r ≡ number 8 (λ j. has (now (alive .entry)) (8 * n + j)) ⌝ }
 {
     let start = 8 * n;
@@ -62,7 +63,7 @@ fn byte_of(alive: &[bool; Profile::TYPES], n: usize) -> u8
 
 // The same; bytes past the types are 0.
 fn byte_below(alive: &[bool; Profile::TYPES], size: usize, n: usize) -> u8
-    requires { ⌜ n < 512 ⌝ }
+    requires { ⌜ n < formBytes ⌝ }
     requires { ⌜ ((t : ℕ) → size ≤ t → has (now alive) t ≡ false) ⌝ }
     ensures { λ r. ⌜ r ≡ number 8 (λ j. has (now (alive .entry)) (8 * n + j)) ⌝ }
 {
@@ -75,8 +76,8 @@ fn byte_below(alive: &[bool; Profile::TYPES], size: usize, n: usize) -> u8
 // Writes the form of the types below `size` into the first bytes of what is lent.
 pub fn write_form(alive: &[bool; Profile::TYPES], size: usize, lent: &mut [u8])
     requires { ⌜ ((t : ℕ) → size ≤ t → has (now alive) t ≡ false) ⌝ }
-    requires { ⌜ 512 ≤ length (now lent) ⌝ }
-    ensures { λ _. ⌜ now (lent .exit) ≡ table 512 (λ n. number 8 (λ j. has (now (alive .entry)) (8 * n + j))) ++ drop 512 (now (lent .entry)) ⌝ }
+    requires { ⌜ formBytes ≤ length (now lent) ⌝ }
+    ensures { λ _. ⌜ now (lent .exit) ≡ table formBytes (λ n. number 8 (λ j. has (now (alive .entry)) (8 * n + j))) ++ drop formBytes (now (lent .entry)) ⌝ }
 {
     let mut n = 0;
     while n < Profile::BYTES {

@@ -10,6 +10,7 @@ ghost use Rattle.records.specs.Format.{count};
 ghost use Rattle.types.specs.Types.{types};
 ghost use Rattle.types.specs.Survivors.{stage};
 ghost use Rattle.types.specs.Words.{width, Prepared, profileAt, Demands, Offers, Differs, SameSet};
+ghost use Rattle.types.specs.Compare.{typeLimit};
 
 // At one type: whether every chained statement holds, whether the two terms differ, and the words of what it demands and
 // offers.
@@ -92,7 +93,7 @@ pub fn profile_types(
     ensures { λ r. ⌜ Differs (now (v .entry)) a b (r .differs) ⌝ }
     ensures { λ r. ⌜ Demands (now (v .entry)) (r .demands) ⌝ }
     ensures { λ r. ⌜ Offers (now (v .entry)) (r .offers) ⌝ }
-    ensures { λ r. ⌜ length (r .alive) ≡ 4096 ⌝ }
+    ensures { λ r. ⌜ length (r .alive) ≡ typeLimit ⌝ }
 {
     let mut alive = [false; Profile::TYPES];
     let mut differs = [false; Profile::TYPES];

@@ -14,6 +14,8 @@ ghost use Rattle.records.specs.Check.{vocabularyCheck};
 ghost use Rattle.types.specs.Below.{number};
 ghost use Rattle.types.specs.Types.{atoms};
 ghost use Rattle.types.specs.Words.{isRestriction, width, signed, Listed, Fillers, Roles, Signs};
+ghost use Rattle.records.specs.Format.{recordLimit};
+ghost use Rattle.types.specs.Compare.{atomLimit};
 
 fn is_restriction(kind: u8) -> bool
     ensures { λ r. ⌜ r ≡ isRestriction kind ⌝ }
@@ -32,7 +34,7 @@ pub struct Listing {
 
 pub fn list_restrictions(v: &[u8]) -> Listing
     requires { ⌜ vocabularyCheck (now v) ≡ accepted (count (now v)) ⌝ }
-    requires { ⌜ atoms (now v) ≤ 12 ⌝ }
+    requires { ⌜ atoms (now v) ≤ atomLimit ⌝ }
     ensures { λ r. ⌜ r .found ≡ width (now (v .entry)) ⌝ }
     ensures { λ r. ⌜ Listed (now (v .entry)) (r .places) ⌝ }
 {
@@ -59,7 +61,7 @@ pub struct Details {
 
 pub fn describe_restrictions(v: &[u8], places: &[u16; Profile::ATOMS], bits: usize) -> Details
     requires { ⌜ vocabularyCheck (now v) ≡ accepted (count (now v)) ⌝ }
-    requires { ⌜ atoms (now v) ≤ 12 ⌝ }
+    requires { ⌜ atoms (now v) ≤ atomLimit ⌝ }
     requires { ⌜ bits ≡ width (now v) ⌝ }
     requires { ⌜ Listed (now v) (now places) ⌝ }
     ensures { λ r. ⌜ Fillers (now (v .entry)) (r .fillers) ⌝ }
@@ -98,8 +100,8 @@ pub fn word_of(
     signs: &[bool; Profile::ATOMS],
     bits: usize,
 ) -> u16
-    requires { ⌜ bits ≤ 12 ⌝ }
-    requires { ⌜ ((m : ℕ) → m < bits → getD (now places) m 0 < 512) ⌝ }
+    requires { ⌜ bits ≤ atomLimit ⌝ }
+    requires { ⌜ ((m : ℕ) → m < bits → getD (now places) m 0 < recordLimit) ⌝ }
     ensures { λ r. ⌜ r ≡ number bits (λ m. signed (getD (now (signs .entry)) m false) (getD (now (done .entry)) (getD (now (places .entry)) m 0) false)) ⌝ }
 {
     let mut word = 0;
@@ -114,7 +116,7 @@ pub fn word_of(
 
 // The word of the restrictions of other roles than this.
 pub fn others_of(roles: &[u16; Profile::ATOMS], bits: usize, role: u16) -> u16
-    requires { ⌜ bits ≤ 12 ⌝ }
+    requires { ⌜ bits ≤ atomLimit ⌝ }
     ensures { λ r. ⌜ r ≡ number bits (λ m. not (eqb (getD (now (roles .entry)) m 0) role)) ⌝ }
 {
     let mut word = 0;

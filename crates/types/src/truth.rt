@@ -14,6 +14,7 @@ ghost use Rattle.types.specs.Below.{digit};
 ghost use Rattle.types.specs.Types.{atoms, truth};
 ghost use Rattle.types.specs.Rules.{select, Decoded, holding};
 ghost use Rattle.types.specs.Words.{Stating};
+ghost use Rattle.records.specs.Format.{recordLimit};
 
 // "k is their count."
 pub fn count_atoms(v: &[u8]) -> usize
@@ -104,8 +105,8 @@ pub fn statements_hold(
     statements: &[u16; Record::LIMIT],
     found: usize,
 ) -> bool
-    requires { ⌜ found ≤ 512 ⌝ }
-    requires { ⌜ ((j : ℕ) → j < found → getD (now statements) j 0 < 512) ⌝ }
+    requires { ⌜ found ≤ recordLimit ⌝ }
+    requires { ⌜ ((j : ℕ) → j < found → getD (now statements) j 0 < recordLimit) ⌝ }
     ensures { λ r. ⌜ r ≡ holding (now (statements .entry)) (now (done .entry)) found ⌝ }
 {
     let mut j = 0;

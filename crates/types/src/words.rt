@@ -8,12 +8,13 @@ ghost use lib.Dec.{ltb, leb};
 ghost use lib.Bits.{bitOr};
 ghost use Rattle.types.specs.Below.{bit};
 ghost use Rattle.types.specs.Words.{spread};
+ghost use Rattle.types.specs.Compare.{atomLimit, typeLimit};
 
 // Adds to each of `half` entries from `at + half` on the entry `half` places before it.
 fn join_block(cover: &mut [u16; Profile::TYPES], at: usize, half: usize)
-    requires { ⌜ at + 2 * half ≤ 4096 ⌝ }
-    requires { ⌜ length (now cover) ≡ 4096 ⌝ }
-    ensures { λ _. ⌜ length (now (cover .exit)) ≡ 4096 ⌝ }
+    requires { ⌜ at + 2 * half ≤ typeLimit ⌝ }
+    requires { ⌜ length (now cover) ≡ typeLimit ⌝ }
+    ensures { λ _. ⌜ length (now (cover .exit)) ≡ typeLimit ⌝ }
     ensures { λ _. ⌜ ((y : ℕ) → getD (now (cover .exit)) y 0 ≡ cond (leb (at + half) y && ltb y (at + 2 * half)) (bitOr (getD (now (cover .entry)) y 0) (getD (now (cover .entry)) (y - half) 0)) (getD (now (cover .entry)) y 0)) ⌝ }
 {
     let end = at + half;
@@ -26,10 +27,10 @@ fn join_block(cover: &mut [u16; Profile::TYPES], at: usize, half: usize)
 
 // Adds to each word below `size` with bit n what stands at the word without it, block by block.
 fn spread_blocks(cover: &mut [u16; Profile::TYPES], size: usize, n: usize)
-    requires { ⌜ size ≤ 4096 ⌝ }
-    requires { ⌜ n < 12 ⌝ }
-    requires { ⌜ length (now cover) ≡ 4096 ⌝ }
-    ensures { λ _. ⌜ length (now (cover .exit)) ≡ 4096 ⌝ }
+    requires { ⌜ size ≤ typeLimit ⌝ }
+    requires { ⌜ n < atomLimit ⌝ }
+    requires { ⌜ length (now cover) ≡ typeLimit ⌝ }
+    ensures { λ _. ⌜ length (now (cover .exit)) ≡ typeLimit ⌝ }
     ensures { λ _. ⌜ ((x : ℕ) → x < size → getD (now (cover .exit)) x 0 ≡ cond (bit x n) (bitOr (getD (now (cover .entry)) x 0) (getD (now (cover .entry)) (x - 2 ^ n) 0)) (getD (now (cover .entry)) x 0)) ⌝ }
 {
     let half = 1 << n;
@@ -43,10 +44,10 @@ fn spread_blocks(cover: &mut [u16; Profile::TYPES], size: usize, n: usize)
 // Adds to each word below `size` with bit n what stands at the word without it, word by word: for small n, where blocks
 // are too short to pay.
 fn spread_near(cover: &mut [u16; Profile::TYPES], size: usize, n: usize)
-    requires { ⌜ size ≤ 4096 ⌝ }
-    requires { ⌜ n < 12 ⌝ }
-    requires { ⌜ length (now cover) ≡ 4096 ⌝ }
-    ensures { λ _. ⌜ length (now (cover .exit)) ≡ 4096 ⌝ }
+    requires { ⌜ size ≤ typeLimit ⌝ }
+    requires { ⌜ n < atomLimit ⌝ }
+    requires { ⌜ length (now cover) ≡ typeLimit ⌝ }
+    ensures { λ _. ⌜ length (now (cover .exit)) ≡ typeLimit ⌝ }
     ensures { λ _. ⌜ ((x : ℕ) → x < size → getD (now (cover .exit)) x 0 ≡ cond (bit x n) (bitOr (getD (now (cover .entry)) x 0) (getD (now (cover .entry)) (x - 2 ^ n) 0)) (getD (now (cover .entry)) x 0)) ⌝ }
 {
     let half = 1 << n;
@@ -59,10 +60,10 @@ fn spread_near(cover: &mut [u16; Profile::TYPES], size: usize, n: usize)
 
 // Adds to each word below `size` with bit n what stands at the word without it.
 fn spread_bit(cover: &mut [u16; Profile::TYPES], size: usize, n: usize)
-    requires { ⌜ size ≤ 4096 ⌝ }
-    requires { ⌜ n < 12 ⌝ }
-    requires { ⌜ length (now cover) ≡ 4096 ⌝ }
-    ensures { λ _. ⌜ length (now (cover .exit)) ≡ 4096 ⌝ }
+    requires { ⌜ size ≤ typeLimit ⌝ }
+    requires { ⌜ n < atomLimit ⌝ }
+    requires { ⌜ length (now cover) ≡ typeLimit ⌝ }
+    ensures { λ _. ⌜ length (now (cover .exit)) ≡ typeLimit ⌝ }
     ensures { λ _. ⌜ ((x : ℕ) → x < size → getD (now (cover .exit)) x 0 ≡ cond (bit x n) (bitOr (getD (now (cover .entry)) x 0) (getD (now (cover .entry)) (x - 2 ^ n) 0)) (getD (now (cover .entry)) x 0)) ⌝ }
 {
     if n < 4 {
@@ -74,9 +75,9 @@ fn spread_bit(cover: &mut [u16; Profile::TYPES], size: usize, n: usize)
 
 // Then each word below 2^bits holds the or of all entries within it.
 pub fn spread_words(cover: &mut [u16; Profile::TYPES], bits: usize)
-    requires { ⌜ bits ≤ 12 ⌝ }
-    requires { ⌜ length (now cover) ≡ 4096 ⌝ }
-    ensures { λ _. ⌜ length (now (cover .exit)) ≡ 4096 ⌝ }
+    requires { ⌜ bits ≤ atomLimit ⌝ }
+    requires { ⌜ length (now cover) ≡ typeLimit ⌝ }
+    ensures { λ _. ⌜ length (now (cover .exit)) ≡ typeLimit ⌝ }
     ensures { λ _. ⌜ ((x : ℕ) → x < 2 ^ bits → getD (now (cover .exit)) x 0 ≡ spread (λ y. getD (now (cover .entry)) y 0) bits x) ⌝ }
 {
     let size = 1 << bits;

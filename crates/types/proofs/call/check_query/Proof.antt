@@ -9,6 +9,7 @@ use Rattle.records.proofs.Order.{stops, goes}
 use Rattle.records.specs.Outcome.{require}
 use Rattle.types.proofs.call.check_query.Statement.{statement}
 use Rattle.types.proofs.call.check_query.Tie as tie
+use Rattle.types.specs.Compare.{atomLimit}
 
 check-term-requires : tie.Need-check-term-requires
 check-term-requires c κs = search needs
@@ -52,7 +53,7 @@ returns-3 c =
     (c .before .before .before .before .before .before .enum-told .given .1)
     (goes _ _ _ _ (c .before .before .before .before .before .check-term2 .ensures)
     (c .before .before .before .enum-told3 .given .1) (stops _ _ _ _ _
-    (c .before .before .pass-if .ensures ∙ ap (λ (n : ℕ). require (leb n 12) 11 n)
+    (c .before .before .pass-if .ensures ∙ ap (λ (n : ℕ). require (leb n atomLimit) 11 n)
     (c .before .before .before .before .before .before .before .before .before .before .pre)) (c .enum-told6 .given .1)))
 
 pass-if-requires-2 : tie.Need-pass-if-requires-2
@@ -64,7 +65,7 @@ returns-4 c =
     (c .before .before .before .before .before .before .before .enum-told .given .1)
     (goes _ _ _ _ (c .before .before .before .before .before .before .check-term2 .ensures)
     (c .before .before .before .before .enum-told3 .given .1)
-    (goes _ _ _ _ (c .before .before .before .pass-if .ensures ∙ ap (λ (n : ℕ). require (leb n 12) 11 n)
+    (goes _ _ _ _ (c .before .before .before .pass-if .ensures ∙ ap (λ (n : ℕ). require (leb n atomLimit) 11 n)
     (c .before .before .before .before .before .before .before .before .before .before .before .pre))
     (c .before .enum-told5 .given .1) (c .pass-if2 .ensures)))
 

@@ -14,6 +14,7 @@ use Rattle.types.proofs.Rounds.{survivors-end}
 use Rattle.types.proofs.Turns.{types-bound}
 use Rattle.types.proofs.call.decide.Statement.{statement}
 use Rattle.types.proofs.call.decide.Tie as tie
+use Rattle.types.specs.Compare.{formBytes}
 
 shl-size : tie.Need-shl-size
 shl-size c = let p = c .before .before .pre in omega (arith, (p .1 .0), (p .1 .1 .0))
@@ -117,7 +118,7 @@ returns c =
           (profiled .ensures .1 .0)) size
           (c .before .before .before .before .before .before .count-alive .ensures ∙ ap (countBelow (has alive)) size ∙
           alive-counted (now (a .v)) alive (left .ensures .0)) (left .ensures .1),
-      c .before .before .before .write-form .ensures ∙ ap (λ (l : List ℕ). l ++ drop 512 (now (a .lent)))
+      c .before .before .before .write-form .ensures ∙ ap (λ (l : List ℕ). l ++ drop formBytes (now (a .lent)))
           (alive-form (now (a .v)) alive (left .ensures .0)),
     )
 

@@ -17,13 +17,14 @@ use Rattle.types.proofs.Truths.{rank-bound}
 use Rattle.types.proofs.Turns.{Filled, fill-start, fill-turn, rank-turn}
 use Rattle.types.proofs.decode.decode.Statement.{statement}
 use Rattle.types.proofs.decode.decode.Tie as tie
+use Rattle.records.specs.Format.{recordLimit}
 
 record Decoding (v rules firsts seconds : List ℕ) (found i : ℕ) : Type 0 where
   within : i ≤ count v
   found-at : found ≡ rank v i
-  rules-filled : Filled 0 512 rules (λ j. ruleOf (recordAt v j .kind)) i
-  firsts-filled : Filled 0 512 firsts (λ j. firstOf (recordAt v j .kind) (recordAt v j .a) (rank v j)) i
-  seconds-filled : Filled 0 512 seconds (λ j. secondOf (recordAt v j .kind) (recordAt v j .b)) i
+  rules-filled : Filled 0 recordLimit rules (λ j. ruleOf (recordAt v j .kind)) i
+  firsts-filled : Filled 0 recordLimit firsts (λ j. firstOf (recordAt v j .kind) (recordAt v j .a) (rank v j)) i
+  seconds-filled : Filled 0 recordLimit seconds (λ j. secondOf (recordAt v j .kind) (recordAt v j .b)) i
 
 abbrev Inv-loop : tie.InvT-loop
 Inv-loop v records rules₀ firsts₀ seconds₀ found₀ i₀ rules firsts seconds found i = Decoding v rules firsts seconds found i
@@ -32,7 +33,7 @@ abbrev μ-loop : tie.MeasureT-loop
 μ-loop v records rules₀ firsts₀ seconds₀ found₀ i₀ rules firsts seconds found i = count v - i
 
 -- the record is in the tables
-inside : (c : tie.In-loop Inv-loop μ-loop) → c .before .loop .i < 512
+inside : (c : tie.In-loop Inv-loop μ-loop) → c .before .loop .i < recordLimit
 inside c =
     omega (
       arith,
@@ -104,7 +105,7 @@ loop-again c =
     let b = r .before .before .before .before in
     let v = now (b .args .v) in
     let w = l .inv in
-    let at : l .i < 512 = omega (arith, w .within, accepted-vocabulary v _ (b .pre) .sized .most) in
+    let at : l .i < recordLimit = omega (arith, w .within, accepted-vocabulary v _ (b .pre) .sized .most) in
     let read = r .read-at .ensures in record {
       within = omega arith;
       found-at = ap (λ (n : ℕ). l .found + n) (c .digit .ensures) ∙ rank-turn v (l .i) (l .found) _ (w .found-at)

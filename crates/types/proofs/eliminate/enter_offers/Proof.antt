@@ -10,6 +10,7 @@ use denote.Ref.{now}
 use Rattle.types.proofs.Sweeps.{Entered, enter-start, enter-more, enter-same, enter-end}
 use Rattle.types.proofs.eliminate.enter_offers.Statement.{statement}
 use Rattle.types.proofs.eliminate.enter_offers.Tie as tie
+use Rattle.types.specs.Compare.{typeLimit}
 
 abbrev Inv-loop : tie.InvT-loop
 Inv-loop offers alive live left cover₀ j₀ cover j = (j ≤ left) × Entered offers live alive cover j
@@ -18,7 +19,7 @@ abbrev μ-loop : tie.MeasureT-loop
 μ-loop offers alive live left cover₀ j₀ cover j = left - j
 
 -- the listed type is one of the tables' 4096
-inside : (c : tie.In-loop Inv-loop μ-loop) → getD (now (c .before .before .args .live)) (c .before .loop .j) 0 < 4096
+inside : (c : tie.In-loop Inv-loop μ-loop) → getD (now (c .before .before .args .live)) (c .before .loop .j) 0 < typeLimit
 inside c = c .before .before .pre .0 .inside (c .before .loop .j) (c .loop-test .taken)
 
 loop-holds : tie.Need-loop-holds Inv-loop μ-loop

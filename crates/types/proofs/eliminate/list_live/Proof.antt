@@ -9,9 +9,10 @@ use Rattle.types.proofs.Listing.{ListedBelow, list-start, list-more, li
 use Rattle.types.proofs.Sweeps.{list-covering}
 use Rattle.types.proofs.eliminate.list_live.Statement.{statement}
 use Rattle.types.proofs.eliminate.list_live.Tie as tie
+use Rattle.types.specs.Compare.{typeLimit}
 
 abbrev Inv-loop : tie.InvT-loop
-Inv-loop alive size types₀ left₀ t₀ types left t = (t ≤ size) × ListedBelow 4096 alive types left t
+Inv-loop alive size types₀ left₀ t₀ types left t = (t ≤ size) × ListedBelow typeLimit alive types left t
 
 abbrev μ-loop : tie.MeasureT-loop
 μ-loop alive size types₀ left₀ t₀ types left t = size - t

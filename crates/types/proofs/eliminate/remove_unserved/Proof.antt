@@ -11,6 +11,7 @@ use Rattle.types.proofs.Rounds.{member-below, offer-in, covers-done}
 use Rattle.types.proofs.Turns.{types-bound, zeros}
 use Rattle.types.proofs.eliminate.remove_unserved.Statement.{statement}
 use Rattle.types.proofs.eliminate.remove_unserved.Tie as tie
+use Rattle.types.specs.Compare.{typeLimit}
 
 enter-offers-requires : tie.Need-enter-offers-requires
 enter-offers-requires c κs =
@@ -21,7 +22,7 @@ enter-offers-requires c κs =
         λ t h. offer-in (now (a .v)) (now (a .offers)) t (p .1 .0)
             (member-below (now (a .v)) (now (a .alive)) (accepted-vocabulary (now (a .v)) _ (p .0)) (p .1 .1 .1 .1 .1 .1 .1 .0) t
             h) (p .1 .1 .1 .1 .1 .0),
-        (zeros 4096, refl),
+        (zeros typeLimit, refl),
       ),
     )
 

@@ -12,6 +12,7 @@ use Rattle.types.specs.Words.{metBy}
 use Rattle.types.proofs.Sweeps.{Swept, sweep-start, sweep-out, sweep-met, sweep-past, sweep-set, sweep-any}
 use Rattle.types.proofs.eliminate.sweep.Statement.{statement}
 use Rattle.types.proofs.eliminate.sweep.Tie as tie
+use Rattle.types.specs.Compare.{typeLimit}
 
 abbrev Inv-loop : tie.InvT-loop
 Inv-loop demands cover others live left alive₀ removed₀ j₀ alive removed j =
@@ -21,7 +22,7 @@ abbrev μ-loop : tie.MeasureT-loop
 μ-loop demands cover others live left alive₀ removed₀ j₀ alive removed j = left - j
 
 -- the listed type is one of the tables' 4096
-inside : (c : tie.In-loop Inv-loop μ-loop) → getD (now (c .before .before .args .live)) (c .before .loop .j) 0 < 4096
+inside : (c : tie.In-loop Inv-loop μ-loop) → getD (now (c .before .before .args .live)) (c .before .loop .j) 0 < typeLimit
 inside c = c .before .before .pre .0 .inside (c .before .loop .j) (c .loop-test .taken)
 
 loop-holds : tie.Need-loop-holds Inv-loop μ-loop

@@ -12,6 +12,7 @@ use Rattle.types.proofs.Bits.{digit-small, number-small}
 use Rattle.types.proofs.Turns.{wordFrom, word-start, word-turn, word-end, word-bound}
 use Rattle.types.proofs.form.byte_of.Statement.{statement}
 use Rattle.types.proofs.form.byte_of.Tie as tie
+use Rattle.types.specs.Compare.{typeLimit}
 
 -- bit j of byte n
 abbrev bits : List Bool → ℕ → ℕ → Bool
@@ -42,7 +43,7 @@ digit-requires : tie.Need-digit-requires Inv-loop μ-loop
 digit-requires c κs = search needs
 
 -- the byte stays small
-small : (c : tie.At-loop Inv-loop μ-loop) → c .loop .byte < 4096
+small : (c : tie.At-loop Inv-loop μ-loop) → c .loop .byte < typeLimit
 small c =
     let a = c .before .args in
     word-bound 8 (bits (now (a .alive)) (a .n)) (c .loop .j) (c .loop .byte) (omega arith) (c .loop .inv .1)

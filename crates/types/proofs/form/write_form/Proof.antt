@@ -9,12 +9,13 @@ use Rattle.types.specs.Form.{byteOf}
 use Rattle.types.proofs.Counted.{tableOver, over-start, over-turn, over-length}
 use Rattle.types.proofs.form.write_form.Statement.{statement}
 use Rattle.types.proofs.form.write_form.Tie as tie
+use Rattle.types.specs.Compare.{formBytes}
 
 abbrev Inv-loop : tie.InvT-loop
-Inv-loop alive size lent₀ n₀ lent n = (n ≤ 512) × (lent ≡ tableOver (byteOf alive) n lent₀)
+Inv-loop alive size lent₀ n₀ lent n = (n ≤ formBytes) × (lent ≡ tableOver (byteOf alive) n lent₀)
 
 abbrev μ-loop : tie.MeasureT-loop
-μ-loop alive size lent₀ n₀ lent n = 512 - n
+μ-loop alive size lent₀ n₀ lent n = formBytes - n
 
 loop-holds : tie.Need-loop-holds Inv-loop μ-loop
 loop-holds c = (omega arith, over-start (byteOf (now (c .before .args .alive))) (now (c .before .args .lent)))
@@ -52,7 +53,7 @@ same-length c = long (c .before)
 returns : tie.Need-returns Inv-loop μ-loop
 returns c =
     let a = c .before .before .before .args in
-    let e : c .before .loop .n ≡ 512 = omega arith in
+    let e : c .before .loop .n ≡ formBytes = omega arith in
     c .before .loop .inv .1 ∙ ap (λ (n : ℕ). tableOver (byteOf (now (a .alive))) n (now (a .lent))) e
 
 pub write-form-spec : {M : Type 1} → statement M

@@ -17,16 +17,17 @@ use Rattle.types.proofs.Sets.{table-at, table-past}
 use Rattle.types.proofs.Turns.{Filled, fill-start, fill-turn, Ends, ends-turn, ends-empty, types-bound}
 use Rattle.types.proofs.profile.profile_types.Statement.{statement}
 use Rattle.types.proofs.profile.profile_types.Tie as tie
+use Rattle.types.specs.Compare.{typeLimit}
 
 record Profiling (v : List ℕ) (a b : ℕ) (alive differs : List Bool) (demands offers : List ℕ) (t : ℕ) : Type 0 where
   within : t ≤ types v
-  alive-filled : Filled false 4096 alive (fits v) t
+  alive-filled : Filled false typeLimit alive (fits v) t
   ends : Ends alive t
-  differs-filled : Filled false 4096 differs (differ v a b) t
-  demands-filled : Filled 0 4096 demands (demand v) t
-  offers-filled : Filled 0 4096 offers (offer v) t
+  differs-filled : Filled false typeLimit differs (differ v a b) t
+  demands-filled : Filled 0 typeLimit demands (demand v) t
+  offers-filled : Filled 0 typeLimit offers (offer v) t
 
-alive-at : (v : List ℕ) (alive : List Bool) → Filled false 4096 alive (fits v) (types v) → Ends alive (types v) → (t : ℕ)
+alive-at : (v : List ℕ) (alive : List Bool) → Filled false typeLimit alive (fits v) (types v) → Ends alive (types v) → (t : ℕ)
     → has alive t ≡ has (stage v 0) t
 unfolding stage
 alive-at v alive f e t = at (decLt t (types v))
@@ -46,7 +47,7 @@ abbrev μ-loop : tie.MeasureT-loop
     size - t
 
 -- the type is in the tables
-inside : (c : tie.In-loop Inv-loop μ-loop) → c .before .loop .t < 4096
+inside : (c : tie.In-loop Inv-loop μ-loop) → c .before .loop .t < typeLimit
 inside c =
     let p = c .before .before .before .pre in
     omega (arith, c .before .loop .inv .within, p .1 .1 .1 .1, types-bound (now (c .before .before .before .args .v)) (p .0 .few))
@@ -56,7 +57,7 @@ loop-holds c =
     record {
       within = omega arith;
       alive-filled = fill-start _ _ _ _ refl;
-      ends = ends-empty 4096 0;
+      ends = ends-empty typeLimit 0;
       differs-filled =
           fill-start _ _ _ _ refl;
       demands-filled = fill-start _ _ _ _ refl;
@@ -95,7 +96,7 @@ loop-again c =
     let l = c .before .before .loop in
     let p = c .before .before .before .before .pre in
     let w = l .inv in
-    let at : l .t < 4096 = omega (
+    let at : l .t < typeLimit = omega (
       arith,
       l .inv .within,
       p .1 .1 .1 .1,
@@ -120,7 +121,7 @@ returns c =
     let w = c .before .loop .inv in
     let v = now (c .before .before .before .args .v) in
     let e : c .before .loop .t ≡ types v = omega (arith, w .within, c .before .before .before .pre .1 .1 .1 .1) in (
-      alive-at v (c .before .loop .alive) (subst (Filled false 4096 (c .before .loop .alive) (fits v)) e
+      alive-at v (c .before .loop .alive) (subst (Filled false typeLimit (c .before .loop .alive) (fits v)) e
           (w .alive-filled)) (subst (Ends (c .before .loop .alive)) e (w .ends)),
       (
         λ t h. w .differs-filled .right t (omega arith),

@@ -16,12 +16,13 @@ use Rattle.types.proofs.Restrictions.{restriction-sound, width-bound}
 use Rattle.types.proofs.Turns.{Filled, fill-start, fill-turn}
 use Rattle.types.proofs.restrict.describe_restrictions.Statement.{statement}
 use Rattle.types.proofs.restrict.describe_restrictions.Tie as tie
+use Rattle.types.specs.Compare.{atomLimit}
 
 record Describing (v fillers roles : List ℕ) (signs : List Bool) (m : ℕ) : Type 0 where
   within : m ≤ width v
-  fillers-filled : Filled 0 12 fillers (λ j. recordAt v (restriction v j) .b) m
-  roles-filled : Filled 0 12 roles (λ j. recordAt v (restriction v j) .a) m
-  signs-filled : Filled false 12 signs (λ j. negated v (restriction v j)) m
+  fillers-filled : Filled 0 atomLimit fillers (λ j. recordAt v (restriction v j) .b) m
+  roles-filled : Filled 0 atomLimit roles (λ j. recordAt v (restriction v j) .a) m
+  signs-filled : Filled false atomLimit signs (λ j. negated v (restriction v j)) m
 
 abbrev Inv-loop : tie.InvT-loop
 Inv-loop v places bits fillers₀ roles₀ signs₀ m₀ fillers roles signs m = Describing v fillers roles signs m
@@ -30,7 +31,7 @@ abbrev μ-loop : tie.MeasureT-loop
 μ-loop v places bits fillers₀ roles₀ signs₀ m₀ fillers roles signs m = width v - m
 
 -- the restriction is in the tables, and its record in the vocabulary
-inside : (c : tie.In-loop Inv-loop μ-loop) → c .before .loop .m < 12
+inside : (c : tie.In-loop Inv-loop μ-loop) → c .before .loop .m < atomLimit
 inside c =
     let p = c .before .before .before .pre in
     omega (arith, c .before .loop .inv .within, width-bound (now (c .before .before .before .args .v)), p .1 .0, p .1 .1 .0)
@@ -100,7 +101,7 @@ loop-again c =
     let p = c .before .before .before .before .before .before .pre in
     let a = c .before .before .before .before .before .before .args in
     let w = l .inv in
-    let at : l .m < 12 = omega (arith, l .inv .within, width-bound (now (a .v)), p .1 .0, p .1 .1 .0) in
+    let at : l .m < atomLimit = omega (arith, l .inv .within, width-bound (now (a .v)), p .1 .0, p .1 .1 .0) in
     let fields : c .before .read-at .result ≡ recordAt (now (a .v)) (restriction (now (a .v)) (l .m)) =
     c .before .read-at .ensures ∙ ap (recordAt (now (a .v))) (p .1 .1 .1 (l .m) (omega (arith, p .1 .1 .0))) in record {
       within = omega (arith, p .1 .1 .0);

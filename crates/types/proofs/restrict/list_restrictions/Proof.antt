@@ -23,15 +23,16 @@ use Rattle.types.proofs.Truths.{rank-mono}
 use Rattle.types.proofs.Turns.{Filled, fill-start, fill-turn, fill-same}
 use Rattle.types.proofs.restrict.list_restrictions.Statement.{statement}
 use Rattle.types.proofs.restrict.list_restrictions.Tie as tie
+use Rattle.types.specs.Compare.{atomLimit}
 
 record Listing (v places : List ℕ) (found i : ℕ) : Type 0 where
   within : i ≤ count v
   total : found ≡ entries v i
-  filled : Filled 0 12 places (entry v i) found
+  filled : Filled 0 atomLimit places (entry v i) found
 
-module _ (v places : List ℕ) (found i : ℕ) (few : atoms v ≤ 12) (l : Listing v places found i) (h : i < count v) where
+module _ (v places : List ℕ) (found i : ℕ) (few : atoms v ≤ atomLimit) (l : Listing v places found i) (h : i < count v) where
   -- there is room for one more
-  room : restricts v i ≡ true → found < 12
+  room : restricts v i ≡ true → found < atomLimit
   room e =
       omega (
         arith,
@@ -48,8 +49,8 @@ module _ (v places : List ℕ) (found i : ℕ) (few : atoms v ≤ 12) (l : Listi
       record {
         within = omega arith;
         total = rw (add-one i) (omega (arith, l .total, restrictions-length v i, ap digit e));
-        filled = rw (add-one i) (fill-turn 0 12 places (entry v (suc i)) found i (room e)
-            (fill-same 0 12 places (entry v i) found (l .filled) (entry v (suc i))
+        filled = rw (add-one i) (fill-turn 0 atomLimit places (entry v (suc i)) found i (room e)
+            (fill-same 0 atomLimit places (entry v i) found (l .filled) (entry v (suc i))
             (λ m k. sym (restrictions-kept v i m (omega (arith, l .total)))))
             (sym (restrictions-last v i e) ∙ ap (entry v (suc i)) (sym (l .total))));
       }
@@ -59,7 +60,7 @@ module _ (v places : List ℕ) (found i : ℕ) (few : atoms v ≤ 12) (l : Listi
       record {
         within = omega arith;
         total = rw (add-one i) (omega (arith, l .total, restrictions-length v i, ap digit e));
-        filled = rw (add-one i) (fill-same 0 12 places (entry v i) found (l .filled) (entry v (suc i))
+        filled = rw (add-one i) (fill-same 0 atomLimit places (entry v i) found (l .filled) (entry v (suc i))
             (λ m k. sym (restrictions-kept v i m (omega (arith, l .total)))));
       }
 

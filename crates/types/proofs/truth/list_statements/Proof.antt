@@ -11,9 +11,10 @@ use Rattle.types.proofs.Listing.{ListedBelow, list-start, list-more, li
 use Rattle.types.proofs.Profiles.{stating}
 use Rattle.types.proofs.truth.list_statements.Statement.{statement}
 use Rattle.types.proofs.truth.list_statements.Tie as tie
+use Rattle.records.specs.Format.{recordLimit}
 
 abbrev Inv-loop : tie.InvT-loop
-Inv-loop v records marks places₀ found₀ i₀ places found i = (i ≤ count v) × ListedBelow 512 marks places found i
+Inv-loop v records marks places₀ found₀ i₀ places found i = (i ≤ count v) × ListedBelow recordLimit marks places found i
 
 abbrev μ-loop : tie.MeasureT-loop
 μ-loop v records marks places₀ found₀ i₀ places found i = count v - i
@@ -22,7 +23,7 @@ mark-chain-requires : tie.Need-mark-chain-requires Inv-loop μ-loop
 mark-chain-requires c κs = c .before .pre
 
 -- the record is in the tables
-inside : (c : tie.In-loop Inv-loop μ-loop) → c .before .loop .i < 512
+inside : (c : tie.In-loop Inv-loop μ-loop) → c .before .loop .i < recordLimit
 inside c =
     omega (arith, accepted-vocabulary (now (c .before .before .before .before .args .v)) _ (c .before .before .before .before .pre) .sized .most)
 
@@ -69,7 +70,7 @@ returns c =
     let e : c .before .loop .i ≡ count (now (a .v)) = omega arith in stating (now (a .v))
     (accepted-vocabulary (now (a .v)) _ (c .before .before .before .before .pre)) _
     (c .before .before .mark-chain .ensures) _ _ (subst
-    (ListedBelow 512 _ (c .before .loop .places) (c .before .loop .found)) e (c .before .loop .inv .1))
+    (ListedBelow recordLimit _ (c .before .loop .places) (c .before .loop .found)) e (c .before .loop .inv .1))
 
 pub list-statements-spec : {M : Type 1} → statement M
 list-statements-spec =

@@ -20,10 +20,11 @@ use Rattle.types.proofs.Truths.{truth-eq, connect-cong, rank-below, ran
 use Rattle.types.proofs.Turns.{Filled, fill-start, fill-turn}
 use Rattle.types.proofs.truth.truths.Statement.{statement}
 use Rattle.types.proofs.truth.truths.Tie as tie
+use Rattle.records.specs.Format.{recordLimit}
 
 record Filling (v : List ℕ) (t : ℕ) (done : List Bool) (i : ℕ) : Type 0 where
   within : i ≤ count v
-  filled : Filled false 512 done (truth v t) i
+  filled : Filled false recordLimit done (truth v t) i
 
 module _ (v rules firsts seconds : List ℕ) (good : Accepted v) (d : Decoded v rules firsts seconds) (few : atoms v ≤ 16)
     (t : ℕ) where
@@ -58,7 +59,7 @@ abbrev μ-loop : tie.MeasureT-loop
 μ-loop v rules firsts seconds t records done₀ i₀ done i = count v - i
 
 -- the record is in the tables, and its operands no later
-inside : (c : tie.In-loop Inv-loop μ-loop) → c .before .loop .i < 512
+inside : (c : tie.In-loop Inv-loop μ-loop) → c .before .loop .i < recordLimit
 inside c =
     omega (
       arith,
@@ -67,8 +68,8 @@ inside c =
     )
 
 operands : (c : tie.In-loop Inv-loop μ-loop)
-    → (getD (now (c .before .before .before .args .firsts)) (c .before .loop .i) 0 < 512)
-    × (getD (now (c .before .before .before .args .seconds)) (c .before .loop .i) 0 < 512)
+    → (getD (now (c .before .before .before .args .firsts)) (c .before .loop .i) 0 < recordLimit)
+    × (getD (now (c .before .before .before .args .seconds)) (c .before .loop .i) 0 < recordLimit)
 operands c =
     let p = c .before .before .before .pre in
     let v = now (c .before .before .before .args .v) in
