@@ -2,9 +2,9 @@
 use Prim.Native.Nat.{ℕ, zero, suc, _+_, _*_, _^_}
 use mathlib.Core.Bool.{Bool, true, false, not}
 use mathlib.Core.List.{List, [], _∷_, map}
-use Rattle.types.specs.Below.{digit}
 use Rattle.columns.specs.Literals.{Literal, concept, role, substitute}
 use Rattle.columns.specs.Columns.{Argument, x, y, fx, a, Column, arguments, joined, notJoined}
+use Rattle.records.specs.Atoms.{digit}
 
 -- Bit 0 the sign, then the predicate (odd for a term, even for a role), 20 bits for each argument; never 0.
 abbrev pub packed : Literal ℕ → ℕ

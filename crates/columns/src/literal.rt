@@ -2,9 +2,9 @@
 ghost use mathlib.Core.Path.{_≡_};
 ghost use mathlib.Core.Bool.{not};
 ghost use Prim.Native.Nat.{_<_, _^_};
-ghost use Rattle.types.specs.Below.{digit};
 ghost use Rattle.columns.specs.Literals.{concept, role};
 ghost use Rattle.columns.specs.Packed.{packed};
+ghost use Rattle.records.specs.Atoms.{digit};
 
 fn digit(b: bool) -> u64
     ensures { λ r. ⌜ r ≡ digit b ⌝ }

@@ -9,3 +9,4 @@ pub mod Accepted
 pub mod Constructs
 pub mod Following
 pub mod Chains
+pub mod Ranks

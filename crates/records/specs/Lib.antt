@@ -1,6 +1,6 @@
 -- Paper 01, "Vocabulary records" and rows 1 to 9 of "Refusals", in the paper's order:
 -- Outcome (what a call may answer), Format (bytes), Kinds (terms, statements, fields), Check (rows 1 to 8), Call (row 9),
--- Chain (the statements that state something).
+-- Chain (the statements that state something), Atoms (atoms and their count).
 -- Answers says which outcome each enum of the code stands for.
 pub mod Outcome
 pub mod Answers
@@ -9,3 +9,4 @@ pub mod Kinds
 pub mod Check
 pub mod Call
 pub mod Chain
+pub mod Atoms

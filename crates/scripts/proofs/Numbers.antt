@@ -28,7 +28,7 @@ use Rattle.records.specs.Kinds.{Construct, none, top, bottom, name, negation, c
 use Rattle.records.specs.Kinds.{universal, inclusion, constructOf}
 use Rattle.records.proofs.Accepted.{Accepted, All}
 use Rattle.records.proofs.Constructs.{Earlier, construct-earlier, RoleBelow, construct-role}
-use Rattle.types.specs.Below.{digit}
+use Rattle.records.specs.Atoms.{digit}
 use Rattle.columns.specs.Literals.{SkolemTerm, constant, apply, Literal, concept, role, substitute, complementary}
 use Rattle.columns.specs.Columns.{Argument, x, y, fx, a, Column, Query, columnsOf, states, columnsAt, columnAt, arguments}
 use Rattle.columns.specs.Columns.{instanceAt}

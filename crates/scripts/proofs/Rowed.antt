@@ -16,7 +16,7 @@ use Rattle.records.specs.Check.{recordCheck, linkFits, headCheck, nextFits, lin
 use Rattle.records.specs.Call.{recordCall}
 use Rattle.records.specs.Chain.{occurs}
 use Rattle.records.proofs.Passed.{clash}
-use Rattle.types.specs.Types.{atoms}
+use Rattle.records.specs.Atoms.{atoms}
 use Rattle.types.specs.Compare.{verdict, atomLimit, formBytes, termCheck, atomsCheck, lentCheck, queryCheck, comparison}
 use Rattle.columns.specs.Columns.{Query}
 use Rattle.scripts.specs.Format.{entryAt, entries, queryOf, firstStep, lineOf, chain}

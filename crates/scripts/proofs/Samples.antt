@@ -11,8 +11,9 @@ use Rattle.records.specs.Kinds.{kindOf}
 use Rattle.records.specs.Outcome.{inTurn}
 use Rattle.records.specs.Check.{anyBelow, recordCheck, linkCheck, vocabularyCheck}
 use Rattle.records.specs.Chain.{follow, occurs}
+use Rattle.records.specs.Atoms.{rank}
 use Rattle.types.specs.Below.{allBelow, least, table, members, bit, number, unrolled}
-use Rattle.types.specs.Types.{rank, truth, allowed, served}
+use Rattle.types.specs.Types.{truth, allowed, served}
 use Rattle.types.specs.Survivors.{fits, stage, rounds, survivors}
 use Rattle.types.specs.Compare.{Verdict, equal, different, verdict, comparison}
 use Rattle.types.specs.Form.{form}

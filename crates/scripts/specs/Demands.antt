@@ -12,8 +12,8 @@ use Rattle.records.specs.Outcome.{Outcome, accepted, refused, pass}
 use Rattle.records.specs.Check.{vocabularyCheck}
 use Rattle.records.specs.Call.{recordCall, recordPart}
 use Rattle.records.specs.Chain.{occurs}
+use Rattle.records.specs.Atoms.{atoms}
 use Rattle.types.specs.Meaning.{Interpretation, Element, belongs, Model, AlwaysEqual, AlwaysWithin}
-use Rattle.types.specs.Types.{atoms}
 use Rattle.types.specs.Compare.{Verdict, equal, different, termCheck, comparison}
 use Rattle.types.specs.Form.{written, readBack}
 use Rattle.scripts.specs.Format.{queryOf, chain}

@@ -15,11 +15,9 @@ use lib.Dec.{eqb, eqb·zero-suc, eqb·suc-zero, eqb·suc-suc}
 use lib.Bits.{bitOr, or-shr, or-mod}
 use lib.Pow.{shr-shr}
 use borrow.Author.Tests.{eq-eqb, ne-eqb}
-use Rattle.types.specs.Below.{digit, bit, number}
-
-pub digit-small : (b : Bool) → digit b < 2
-digit-small true = omega arith
-digit-small false = omega arith
+use Rattle.types.specs.Below.{bit, number}
+use Rattle.records.specs.Atoms.{digit}
+use Rattle.records.proofs.Ranks.{digit-small}
 
 digit-eqb : (b : Bool) → eqb (digit b) 1 ≡ b
 digit-eqb true = refl

@@ -15,18 +15,18 @@ use Rattle.records.proofs.Bounds.{Near, Nearby, Small, require-near, then-near,
 use Rattle.records.proofs.Passed.{clash}
 use Rattle.records.proofs.Accepted.{accepted-vocabulary}
 use Rattle.types.specs.Below.{members}
-use Rattle.types.specs.Types.{rank, atoms, types}
+use Rattle.types.specs.Types.{types}
 use Rattle.types.specs.Survivors.{survivors, rounds}
 use Rattle.types.specs.Compare.{Verdict, equal, different, verdict, atomLimit, formBytes, termCheck, atomsCheck}
 use Rattle.types.specs.Compare.{queryCheck, comparison}
 use Rattle.types.proofs.Sets.{members-bound}
-use Rattle.types.proofs.Bits.{digit-small}
 use Rattle.types.proofs.Turns.{types-bound}
-use Rattle.types.proofs.Truths.{rank-bound}
 use Rattle.types.proofs.Largest.{stage-length, survivors-serving}
 use Rattle.types.proofs.Verdicts.{answered}
 use Rattle.types.proofs.Comparison.{counts, different-first}
 use Rattle.records.specs.Format.{recordLimit}
+use Rattle.records.specs.Atoms.{atoms, rank}
+use Rattle.records.proofs.Ranks.{digit-small, rank-bound}
 use Rattle.types.specs.Compare.{typeLimit}
 
 -- An answer whose numbers are at most 2^12, or a refusal that is near.

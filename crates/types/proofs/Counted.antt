@@ -16,8 +16,10 @@ use lib.Dec.{ltb}
 use lib.Pow.{shl-exact}
 use lib.ListN.{length, getD, set, drop, length-append, length-drop}
 use Rattle.records.specs.Outcome.{Outcome, accepted}
-use Rattle.types.specs.Below.{least, table, has, digit, members, countBelow, number}
-use Rattle.types.specs.Types.{atoms, types}
+use Rattle.records.specs.Atoms.{atoms, digit}
+use Rattle.records.proofs.Ranks.{digit-small}
+use Rattle.types.specs.Below.{least, table, has, members, countBelow, number}
+use Rattle.types.specs.Types.{types}
 use Rattle.types.specs.Survivors.{survivors, rounds}
 use Rattle.types.specs.Compare.{Verdict, parted, firstParted, verdictWith, verdict}
 use Rattle.types.specs.Form.{byteOf, form}
@@ -25,7 +27,7 @@ use Rattle.types.specs.Words.{SameSet, Differs}
 use Rattle.types.proofs.Tests.{both-true}
 use Rattle.types.proofs.Below.{least-is, least-end, least-cong, None, none-turn}
 use Rattle.types.proofs.Sets.{length-table, table-cong}
-use Rattle.types.proofs.Bits.{digit-small, number-cong}
+use Rattle.types.proofs.Bits.{number-cong}
 use Rattle.types.proofs.Largest.{stage-length}
 use Rattle.types.specs.Compare.{atomLimit, formBytes}
 

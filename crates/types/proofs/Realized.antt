@@ -19,15 +19,17 @@ use Rattle.records.specs.Chain.{chained}
 use Rattle.records.proofs.Passed.{clash, both-left, both-right}
 use Rattle.records.proofs.Accepted.{Accepted}
 use Rattle.records.proofs.Constructs.{construct-earlier, construct-atom}
+use Rattle.records.specs.Atoms.{atoms, rank}
+use Rattle.records.proofs.Ranks.{rank-below, rank-same}
 use Rattle.types.specs.Below.{least, has, bit, number}
 use Rattle.types.specs.Meaning.{Interpretation, Element, Restriction, some, all, plain, restrictionAt, belongs, Model}
-use Rattle.types.specs.Types.{rank, atoms, types, truth, allows, allowed, witnessed, met, served}
+use Rattle.types.specs.Types.{types, truth, allows, allowed, witnessed, met, served}
 use Rattle.types.specs.Survivors.{fits, stage, rounds, survivors}
 use Rattle.types.proofs.Tests.{both-true, either-true, implies-true, unless-true}
 use Rattle.types.proofs.Below.{all-intro, least-is}
 use Rattle.types.proofs.Bits.{bit-number, number-small}
 use Rattle.types.proofs.Truths.{connect-cong, truth-eq, belongs-eq, belongs-atom, belongs-statement}
-use Rattle.types.proofs.Truths.{rank-same, rank-below, atom-within}
+use Rattle.types.proofs.Truths.{atom-within}
 use Rattle.types.proofs.Witnesses.{Pair, some-holds, some-gives, all-gives, all-misses, witness-holds}
 use Rattle.types.proofs.Largest.{table-has, stage-keeps}
 

@@ -18,8 +18,8 @@ use lib.Dec.{eqb}
 use Rattle.records.specs.Format.{recordAt, count}
 use Rattle.records.specs.Kinds.{isAtom}
 use Rattle.records.proofs.Passed.{clash}
-use Rattle.types.specs.Below.{digit, allBelow}
-use Rattle.types.specs.Types.{rank, atoms}
+use Rattle.records.specs.Atoms.{atoms, digit, rank}
+use Rattle.types.specs.Below.{allBelow}
 use Rattle.types.specs.Words.{isRestriction, appendIf, restrictionsBelow, width, restriction}
 use Rattle.types.proofs.Below.{all-intro, all-at}
 

@@ -26,8 +26,9 @@ use Rattle.records.specs.Check.{anyBelow}
 use Rattle.records.proofs.Passed.{clash, both-left, both-right, any-at}
 use Rattle.records.proofs.Search.{any-intro, any-elim, any-none, any-cong}
 use Rattle.records.proofs.Accepted.{Accepted}
+use Rattle.records.specs.Atoms.{atoms}
 use Rattle.types.specs.Below.{allBelow, table, has, number}
-use Rattle.types.specs.Types.{atoms, types, served}
+use Rattle.types.specs.Types.{types, served}
 use Rattle.types.specs.Survivors.{fits, round, removes, stage, rounds, survivors}
 use Rattle.types.specs.Words.{width, others, offer, reached, spread, offered, roleServed, Roles, Demands, Offers, Covers}
 use Rattle.types.specs.Words.{offeredIn, metBy, Covering, SameSet}

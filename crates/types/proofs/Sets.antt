@@ -12,7 +12,8 @@ use mathlib.Core.Bool.{Bool, true, false}
 use mathlib.Core.List.{List, [], _∷_}
 use lib.ListN.{length, getD}
 use Rattle.records.proofs.Passed.{clash}
-use Rattle.types.specs.Below.{table, has, digit, members}
+use Rattle.records.specs.Atoms.{digit}
+use Rattle.types.specs.Below.{table, has, members}
 
 module _ {A : Type 0} where
   pub length-table : (n : ℕ) (f : ℕ → A) → length (table n f) ≡ n

@@ -5,8 +5,7 @@
 --   truth-atom, belongs-atom                      at an atom
 --   truth-statement, belongs-statement            at a chained statement
 --   belongs-some, belongs-all                     at a restriction
---   rank-mono, rank-next, rank-same               atoms are numbered in record order
---   atom-within, rank-below, rank-bound           an atom's number is below their count, and no more than its record's
+--   atom-within                                   there is no atom past the end
 -- Assumes nothing.
 use Prim.Native.Nat.{ℕ, zero, suc, _+_, _≤_, _<_}
 use native.Mathlib.Omega.{arith}
@@ -23,12 +22,12 @@ use Rattle.records.proofs.Passed.{clash}
 use Rattle.records.proofs.Accepted.{Accepted}
 use Rattle.records.proofs.Constructs.{record-past, Earlier, construct-earlier, atomic, construct-atom, construct-inclusion}
 use Rattle.records.proofs.Chains.{chain-statement}
-use Rattle.types.specs.Below.{allBelow, digit, bit}
+use Rattle.records.specs.Atoms.{rank}
+use Rattle.types.specs.Below.{allBelow, bit}
 use Rattle.types.specs.Meaning.{Interpretation, Restriction, some, all, plain, restrictionOf, restrictionAt, connect}
 use Rattle.types.specs.Meaning.{atomAt, extensionRule, belongs}
-use Rattle.types.specs.Types.{rank, atoms, truthRule, truth}
+use Rattle.types.specs.Types.{truthRule, truth}
 use Rattle.types.proofs.InOrder.{Local, in-order}
-use Rattle.types.proofs.Bits.{digit-small}
 
 -- The atom's own truth matters to atoms only, and of the operands what they say.
 pub connect-cong : (i : ℕ) (c : Construct) (x y : Bool) (f g : ℕ → Bool) → (atomic c ≡ true → x ≡ y) → Earlier i c
@@ -174,42 +173,6 @@ module _ (v : List ℕ) (good : Accepted v) where
   pub belongs-all : (I : Interpretation) (i d r b : ℕ) → restrictionAt v i ≡ all r b
       → belongs I v i d ≡ allBelow (λ e. not (I .domain e && I .roles r d e) || belongs I v b e) (I .bound)
   belongs-all I i d r b q = belongs-restricted I i d (all r b) q refl
-
-module _ (v : List ℕ) where
-  pub rank-mono : (i j : ℕ) → i ≤ j → rank v i ≤ rank v j
-  unfolding rank
-  rank-mono i zero h = let e : i ≡ 0 = omega arith in rw e (omega arith)
-  rank-mono i (suc j) h = at (ℕ-discrete i (suc j)) (rank-mono i j)
-    where
-      at : Dec (i ≡ suc j) → (i ≤ j → rank v i ≤ rank v j) → rank v i ≤ rank v j + digit (isAtom (recordAt v j .kind))
-      at (yes e) r = rw e (omega arith)
-      at (no n) r = omega (arith, r (omega arith))
-
-  pub rank-next : (i : ℕ) → isAtom (recordAt v i .kind) ≡ true → rank v (suc i) ≡ suc (rank v i)
-  unfolding rank
-  rank-next i e = rw e (omega arith)
-
-  -- a later atom has a greater number
-  rank-less : (i j : ℕ) → i < j → isAtom (recordAt v i .kind) ≡ true → rank v i < rank v j
-  rank-less i j h e = omega (arith, rank-next i e, rank-mono (suc i) j h)
-
-  pub rank-same : (i j : ℕ) → isAtom (recordAt v i .kind) ≡ true → isAtom (recordAt v j .kind) ≡ true
-      → rank v i ≡ rank v j → i ≡ j
-  rank-same i j a b e = at (decLt i j) (decLt j i)
-    where
-      at : Dec (i < j) → Dec (j < i) → i ≡ j
-      at (yes h) d = absurd (omega (arith, rank-less i j h a))
-      at (no n) (yes h) = absurd (omega (arith, rank-less j i h b))
-      at (no n) (no m) = omega arith
-
-  pub rank-below : (i : ℕ) → i < count v → isAtom (recordAt v i .kind) ≡ true → rank v i < atoms v
-  rank-below i h e = rank-less i (count v) h e
-
--- No record counts as two atoms.
-pub rank-bound : (v : List ℕ) (i : ℕ) → rank v i ≤ i
-unfolding rank
-rank-bound v zero = omega arith
-rank-bound v (suc i) = omega (arith, rank-bound v i, digit-small (isAtom (recordAt v i .kind)))
 
 -- There is no atom past the end.
 pub atom-within : (v : List ℕ) → Accepted v → (i : ℕ) → isAtom (recordAt v i .kind) ≡ true → i < count v

@@ -3,7 +3,6 @@
 --   zeros                           a table of nothing but zeros
 --   types-bound                     few atoms have few types
 --   Ends, ends-turn, ends-empty     a set that has nothing from there on
---   rank-turn                       atoms counted
 --   all-holds-turn                  a test of all, one number further
 --   word-start, word-turn, word-end, word-bound   a word built from its top bit
 -- Assumes nothing.
@@ -19,8 +18,9 @@ use lib.Pow.{pow-mono}
 use lib.Seq.{getD-set-same, getD-set-other}
 use Rattle.records.specs.Format.{recordAt}
 use Rattle.records.specs.Kinds.{isAtom}
-use Rattle.types.specs.Below.{allBelow, digit, number}
-use Rattle.types.specs.Types.{rank, atoms, types}
+use Rattle.records.specs.Atoms.{atoms, digit, rank}
+use Rattle.types.specs.Below.{allBelow, number}
+use Rattle.types.specs.Types.{types}
 use Rattle.types.proofs.Bits.{number-step, number-small, number-cong}
 use Rattle.types.specs.Compare.{atomLimit, typeLimit}
 
@@ -62,11 +62,6 @@ pub ends-empty : (n i : ℕ) → Ends (replicate n false) i
 ends-empty zero i u h = refl
 ends-empty (suc n) i zero h = refl
 ends-empty (suc n) i (suc u) h = ends-empty n 0 u (omega arith)
-
-pub rank-turn : (v : List ℕ) (i found : ℕ) (b : Bool) → found ≡ rank v i → isAtom (recordAt v i .kind) ≡ b
-    → found + digit b ≡ rank v (i + 1)
-unfolding rank
-rank-turn v i found b e q = rw (add-one, e, q)
 
 module _ (test : ℕ → Bool) (i : ℕ) where
   pub all-holds-turn : (fit : Bool) → fit ≡ allBelow test i → test i ≡ true → fit ≡ allBelow test (i + 1)

@@ -20,9 +20,10 @@ use Rattle.records.specs.Kinds.{isTerm}
 use Rattle.records.specs.Check.{vocabularyCheck}
 use Rattle.records.proofs.Passed.{clash, both-left, both-right, require-passed, then-passed}
 use Rattle.records.proofs.Accepted.{Accepted, accepted-vocabulary}
+use Rattle.records.specs.Atoms.{atoms}
 use Rattle.types.specs.Below.{has, members}
 use Rattle.types.specs.Meaning.{Interpretation, Element, belongs, Model, AlwaysEqual}
-use Rattle.types.specs.Types.{atoms, types, truth}
+use Rattle.types.specs.Types.{types, truth}
 use Rattle.types.specs.Survivors.{rounds, survivors}
 use Rattle.types.specs.Compare.{Verdict, equal, different, parted}
 use Rattle.types.specs.Compare.{firstParted, verdictWith, verdict, atomLimit, formBytes}

@@ -9,8 +9,9 @@ use mathlib.Core.Path.{_≡_, ap, _∙_}
 use mathlib.Core.Bool.{true, false}
 use lib.Dec.{eqb}
 use lib.Pow.{pow-pos, pow-mono, shr-lt}
-use Rattle.types.specs.Below.{digit, bit}
+use Rattle.types.specs.Below.{bit}
 use Rattle.types.proofs.Bits.{bit-first, bit-rest, bits-same}
+use Rattle.records.specs.Atoms.{digit}
 
 pub bit-past : (n x j : ℕ) → x < 2 ^ n → n ≤ j → bit x j ≡ false
 unfolding bit

@@ -13,9 +13,10 @@ use mathlib.Core.List.{List, _++_}
 use lib.ListN.{getD, List·getD-append}
 use lib.Pow.{pow-mono}
 use Rattle.records.proofs.Accepted.{Accepted}
+use Rattle.records.specs.Atoms.{atoms}
 use Rattle.types.specs.Below.{table, has, bit}
 use Rattle.types.specs.Meaning.{belongs, Model}
-use Rattle.types.specs.Types.{atoms, truth}
+use Rattle.types.specs.Types.{truth}
 use Rattle.types.specs.Survivors.{survivors}
 use Rattle.types.specs.Compare.{atomLimit, formBytes}
 use Rattle.types.specs.Form.{byteOf, form, readBack}

@@ -4,6 +4,7 @@ use mathlib.Core.Bool.{Bool, true, false, cond, _&&_}
 use mathlib.Core.List.{List, [], _∷_}
 use lib.ListN.{getD}
 use lib.Dec.{eqb}
+use Rattle.records.specs.Atoms.{digit}
 
 -- Whether a test holds at every number below n. (`anyBelow` of `records`: at some number.)
 unfoldable pub allBelow : (ℕ → Bool) → ℕ → Bool
@@ -23,11 +24,6 @@ table (suc n) f = f 0 ∷ table n (λ i. f (suc i))
 -- A set of numbers, as a table of whether each is in it.
 abbrev pub has : List Bool → ℕ → Bool
 has S t = getD S t false
-
--- 1 for true, 0 for false.
-abbrev pub digit : Bool → ℕ
-digit true = 1
-digit false = 0
 
 -- How many are in it.
 unfoldable pub members : List Bool → ℕ

@@ -7,8 +7,9 @@ use Rattle.records.specs.Outcome.{Outcome, Check, accepted, _then_, require}
 use Rattle.records.specs.Format.{recordAt, count}
 use Rattle.records.specs.Kinds.{isTerm}
 use Rattle.records.specs.Check.{vocabularyCheck}
+use Rattle.records.specs.Atoms.{atoms}
 use Rattle.types.specs.Below.{least, has, members}
-use Rattle.types.specs.Types.{atoms, types, truth}
+use Rattle.types.specs.Types.{types, truth}
 use Rattle.types.specs.Survivors.{survivors, rounds}
 
 -- "Equal or Different with the smallest survivor at which the two terms differ; with either go the number of survivors and of

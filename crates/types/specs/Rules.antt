@@ -6,8 +6,8 @@ use mathlib.Core.Bool.{Bool, true, false, cond}
 use mathlib.Core.List.{List, [], _∷_}
 use lib.ListN.{getD}
 use Rattle.records.specs.Format.{recordAt, count}
-use Rattle.types.specs.Below.{allBelow, digit, bit}
-use Rattle.types.specs.Types.{rank}
+use Rattle.records.specs.Atoms.{digit, rank}
+use Rattle.types.specs.Below.{allBelow, bit}
 
 -- A kind's rule as a number of eight bits, and whether A and B are operands.
 pub record Shape : Type 0 where

@@ -1,22 +1,14 @@
 -- Types: truth at a type, the pairs allowed for a role, and which types a set serves.
-use Prim.Native.Nat.{ℕ, zero, suc, _+_, _^_}
+use Prim.Native.Nat.{ℕ, _^_}
 use mathlib.Core.Bool.{Bool, true, false, not, _&&_, _||_}
 use mathlib.Core.List.{List}
 use lib.Dec.{eqb}
 use Rattle.records.specs.Format.{recordAt, count}
-use Rattle.records.specs.Kinds.{constructOf, isAtom}
+use Rattle.records.specs.Kinds.{constructOf}
 use Rattle.records.specs.Check.{anyBelow}
-use Rattle.types.specs.Below.{allBelow, has, digit, bit, inRecordOrder}
+use Rattle.records.specs.Atoms.{rank, atoms}
+use Rattle.types.specs.Below.{allBelow, has, bit, inRecordOrder}
 use Rattle.types.specs.Meaning.{Restriction, some, all, plain, restrictionAt, connect}
-
--- "Atoms are the records of kinds 3, 7 and 8, numbered from 0 in record order": an atom's number, the atoms before record i.
-unfoldable pub rank : List ℕ → ℕ → ℕ
-rank v zero = 0
-rank v (suc i) = rank v i + digit (isAtom (recordAt v i .kind))
-
--- "k is their count."
-abbrev pub atoms : List ℕ → ℕ
-atoms v = rank v (count v)
 
 -- "A type is a number from 0 to 2^k − 1": how many there are.
 abbrev pub types : List ℕ → ℕ

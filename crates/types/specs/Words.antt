@@ -9,11 +9,12 @@ use lib.Dec.{eqb}
 use lib.Bits.{bitOr}
 use Rattle.records.specs.Outcome.{accepted}
 use Rattle.records.specs.Format.{recordAt, count}
-use Rattle.records.specs.Check.{anyBelow, vocabularyCheck}
+use Rattle.records.specs.Check.{anyBelow, IsAccepted}
 use Rattle.records.specs.Chain.{chained}
+use Rattle.records.specs.Atoms.{atoms}
 use Rattle.types.specs.declared.profile.Profile.{Profile}
 use Rattle.types.specs.Below.{has, bit, number}
-use Rattle.types.specs.Types.{atoms, types, truth}
+use Rattle.types.specs.Types.{types, truth}
 use Rattle.types.specs.Survivors.{fits}
 use Rattle.types.specs.Compare.{atomLimit}
 use Rattle.types.specs.Rules.{Decoded}
@@ -102,7 +103,7 @@ pub record Stating (v statements : List ℕ) (found : ℕ) : Type 0 where
 -- What the profile of a type is taken from: an accepted vocabulary of few enough atoms, decoded, its statements listed.
 pub record Prepared (v rules firsts seconds statements : List ℕ) (found : ℕ) (places fillers : List ℕ) (signs : List Bool)
     : Type 0 where
-  pub accepts : vocabularyCheck v ≡ accepted (count v)
+  pub accepts : IsAccepted v
   pub few : atoms v ≤ atomLimit
   pub decoded : Decoded v rules firsts seconds
   pub stated : Stating v statements found

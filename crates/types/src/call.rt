@@ -15,11 +15,11 @@ use crate::restrict::Details;
 use crate::restrict::Listing;
 use crate::restrict::describe_restrictions;
 use crate::restrict::list_restrictions;
-use crate::truth::count_atoms;
 use crate::truth::list_statements;
 use records::answers::Checked;
 use records::answers::Counted;
 use records::answers::pass_if;
+use records::atoms::count_atoms;
 use records::fields::Record;
 use records::fields::read_at;
 use records::kinds::is_term;
@@ -33,8 +33,9 @@ ghost use Rattle.records.specs.Outcome.{accepted};
 ghost use Rattle.records.specs.Answers.{checked};
 ghost use Rattle.records.specs.Format.{recordAt, count};
 ghost use Rattle.records.specs.Kinds.{isTerm};
-ghost use Rattle.records.specs.Check.{vocabularyCheck};
-ghost use Rattle.types.specs.Types.{atoms, types};
+ghost use Rattle.records.specs.Check.{IsAccepted};
+ghost use Rattle.records.specs.Atoms.{atoms};
+ghost use Rattle.types.specs.Types.{types};
 ghost use Rattle.types.specs.Survivors.{stage};
 ghost use Rattle.types.specs.Compare.{termCheck, queryCheck, verdict, comparison};
 ghost use Rattle.types.specs.Form.{form, written};
@@ -87,7 +88,7 @@ fn profile_all(
     b: usize,
     size: usize,
 ) -> Profiles
-    requires { ⌜ vocabularyCheck (now v) ≡ accepted (count (now v)) ⌝ }
+    requires { ⌜ IsAccepted (now v) ⌝ }
     requires { ⌜ atoms (now v) ≤ atomLimit ⌝ }
     requires { ⌜ a < count (now v) ⌝ }
     requires { ⌜ b < count (now v) ⌝ }
@@ -130,7 +131,7 @@ fn profile_all(
 
 // The answer for two terms of an accepted vocabulary of few enough atoms; the survivors are written.
 fn decide(v: &[u8], a: usize, b: usize, k: usize, lent: &mut [u8]) -> Compared
-    requires { ⌜ vocabularyCheck (now v) ≡ accepted (count (now v)) ⌝ }
+    requires { ⌜ IsAccepted (now v) ⌝ }
     requires { ⌜ atoms (now v) ≤ atomLimit ⌝ }
     requires { ⌜ k ≡ atoms (now v) ⌝ }
     requires { ⌜ a < count (now v) ⌝ }

@@ -4,9 +4,7 @@ use records::fields::Record;
 use records::fields::read_at;
 use records::kinds::is_atom;
 ghost use mathlib.Core.Path.{_≡_};
-ghost use Rattle.records.specs.Outcome.{accepted};
-ghost use Rattle.records.specs.Format.{count};
-ghost use Rattle.records.specs.Check.{vocabularyCheck};
+ghost use Rattle.records.specs.Check.{IsAccepted};
 ghost use Rattle.types.specs.Rules.{ruleOf, firstOf, secondOf, Decoded};
 
 // The truth rule of a kind, as a table of eight bits: bit x + 2 y + 4 z is the truth where A is x, B is y and the atom's
@@ -55,7 +53,7 @@ pub struct Rules {
 }
 
 pub fn decode(v: &[u8]) -> Rules
-    requires { ⌜ vocabularyCheck (now v) ≡ accepted (count (now v)) ⌝ }
+    requires { ⌜ IsAccepted (now v) ⌝ }
     ensures { λ r. ⌜ Decoded (now (v .entry)) (r .rules) (r .firsts) (r .seconds) ⌝ }
 {
     let records = v.len() / Record::SIZE;

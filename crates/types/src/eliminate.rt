@@ -8,11 +8,11 @@ ghost use mathlib.Core.Bool.{true, false, not, _&&_, _||_};
 ghost use Prim.Native.Nat.{ℕ, _≤_, _<_};
 ghost use lib.ListN.{length, getD};
 ghost use lib.Bits.{bitOr};
-ghost use Rattle.records.specs.Outcome.{accepted};
 ghost use Rattle.records.specs.Format.{count};
-ghost use Rattle.records.specs.Check.{anyBelow, vocabularyCheck};
+ghost use Rattle.records.specs.Check.{anyBelow, IsAccepted};
+ghost use Rattle.records.specs.Atoms.{atoms};
 ghost use Rattle.types.specs.Below.{has};
-ghost use Rattle.types.specs.Types.{atoms, types, served};
+ghost use Rattle.types.specs.Types.{types, served};
 ghost use Rattle.types.specs.Survivors.{round, removes, stage, rounds, survivors};
 ghost use Rattle.types.specs.Words.{width, Roles, Demands, Offers, SameSet, offeredIn, metBy, Covering, Covers};
 ghost use Rattle.types.specs.Compare.{atomLimit, typeLimit};
@@ -124,7 +124,7 @@ fn sweep_roles(
     left: usize,
     alive: &mut [bool; Profile::TYPES],
 ) -> bool
-    requires { ⌜ vocabularyCheck (now v) ≡ accepted (count (now v)) ⌝ }
+    requires { ⌜ IsAccepted (now v) ⌝ }
     requires { ⌜ atoms (now v) ≤ atomLimit ⌝ }
     requires { ⌜ bits ≡ width (now v) ⌝ }
     requires { ⌜ Roles (now v) (now roles) ⌝ }
@@ -163,7 +163,7 @@ fn remove_unserved(
     left: usize,
     alive: &mut [bool; Profile::TYPES],
 ) -> bool
-    requires { ⌜ vocabularyCheck (now v) ≡ accepted (count (now v)) ⌝ }
+    requires { ⌜ IsAccepted (now v) ⌝ }
     requires { ⌜ atoms (now v) ≤ atomLimit ⌝ }
     requires { ⌜ bits ≡ width (now v) ⌝ }
     requires { ⌜ Roles (now v) (now roles) ⌝ }
@@ -192,7 +192,7 @@ pub fn eliminate(
     size: usize,
     alive: &mut [bool; Profile::TYPES],
 ) -> usize
-    requires { ⌜ vocabularyCheck (now v) ≡ accepted (count (now v)) ⌝ }
+    requires { ⌜ IsAccepted (now v) ⌝ }
     requires { ⌜ atoms (now v) ≤ atomLimit ⌝ }
     requires { ⌜ bits ≡ width (now v) ⌝ }
     requires { ⌜ Roles (now v) (now roles) ⌝ }

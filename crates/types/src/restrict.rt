@@ -8,13 +8,11 @@ ghost use Prim.Native.Nat.{ℕ, _<_, _≤_};
 ghost use mathlib.Core.Bool.{false, not};
 ghost use lib.ListN.{getD};
 ghost use lib.Dec.{eqb};
-ghost use Rattle.records.specs.Outcome.{accepted};
-ghost use Rattle.records.specs.Format.{count};
-ghost use Rattle.records.specs.Check.{vocabularyCheck};
+ghost use Rattle.records.specs.Check.{IsAccepted};
 ghost use Rattle.types.specs.Below.{number};
-ghost use Rattle.types.specs.Types.{atoms};
 ghost use Rattle.types.specs.Words.{isRestriction, width, signed, Listed, Fillers, Roles, Signs};
 ghost use Rattle.records.specs.Format.{recordLimit};
+ghost use Rattle.records.specs.Atoms.{atoms};
 ghost use Rattle.types.specs.Compare.{atomLimit};
 
 fn is_restriction(kind: u8) -> bool
@@ -33,7 +31,7 @@ pub struct Listing {
 }
 
 pub fn list_restrictions(v: &[u8]) -> Listing
-    requires { ⌜ vocabularyCheck (now v) ≡ accepted (count (now v)) ⌝ }
+    requires { ⌜ IsAccepted (now v) ⌝ }
     requires { ⌜ atoms (now v) ≤ atomLimit ⌝ }
     ensures { λ r. ⌜ r .found ≡ width (now (v .entry)) ⌝ }
     ensures { λ r. ⌜ Listed (now (v .entry)) (r .places) ⌝ }
@@ -60,7 +58,7 @@ pub struct Details {
 }
 
 pub fn describe_restrictions(v: &[u8], places: &[u16; Profile::ATOMS], bits: usize) -> Details
-    requires { ⌜ vocabularyCheck (now v) ≡ accepted (count (now v)) ⌝ }
+    requires { ⌜ IsAccepted (now v) ⌝ }
     requires { ⌜ atoms (now v) ≤ atomLimit ⌝ }
     requires { ⌜ bits ≡ width (now v) ⌝ }
     requires { ⌜ Listed (now v) (now places) ⌝ }

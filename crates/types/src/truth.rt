@@ -7,30 +7,13 @@ ghost use mathlib.Core.Path.{_≡_};
 ghost use Prim.Native.Nat.{ℕ, _≤_, _<_};
 ghost use mathlib.Core.Bool.{false};
 ghost use lib.ListN.{getD};
-ghost use Rattle.records.specs.Outcome.{accepted};
 ghost use Rattle.records.specs.Format.{count};
-ghost use Rattle.records.specs.Check.{vocabularyCheck};
-ghost use Rattle.types.specs.Below.{digit};
-ghost use Rattle.types.specs.Types.{atoms, truth};
+ghost use Rattle.records.specs.Check.{IsAccepted};
+ghost use Rattle.types.specs.Types.{truth};
 ghost use Rattle.types.specs.Rules.{select, Decoded, holding};
 ghost use Rattle.types.specs.Words.{Stating};
 ghost use Rattle.records.specs.Format.{recordLimit};
-
-// "k is their count."
-pub fn count_atoms(v: &[u8]) -> usize
-    ensures { λ r. ⌜ r ≡ atoms (now (v .entry)) ⌝ }
-{
-    let records = v.len() / Record::SIZE;
-    let mut found = 0;
-    let mut i = 0;
-    while i < records {
-        if is_atom(read_at(v, i).kind) {
-            found += 1;
-        }
-        i += 1;
-    }
-    found
-}
+ghost use Rattle.records.specs.Atoms.{atoms, digit};
 
 // 1 for true, 0 for false.
 pub fn digit(b: bool) -> u16
@@ -56,7 +39,7 @@ pub fn truths(
     seconds: &[u16; Record::LIMIT],
     t: usize,
 ) -> [bool; Record::LIMIT]
-    requires { ⌜ vocabularyCheck (now v) ≡ accepted (count (now v)) ⌝ }
+    requires { ⌜ IsAccepted (now v) ⌝ }
     requires { ⌜ Decoded (now v) (now rules) (now firsts) (now seconds) ⌝ }
     requires { ⌜ atoms (now v) ≤ 16 ⌝ }
     ensures { λ r. ⌜ ((i : ℕ) → i < count (now (v .entry)) → getD r i false ≡ truth (now (v .entry)) t i) ⌝ }
@@ -81,7 +64,7 @@ pub struct Statements {
 }
 
 pub fn list_statements(v: &[u8]) -> Statements
-    requires { ⌜ vocabularyCheck (now v) ≡ accepted (count (now v)) ⌝ }
+    requires { ⌜ IsAccepted (now v) ⌝ }
     ensures { λ r. ⌜ Stating (now (v .entry)) (r .places) (r .found) ⌝ }
 {
     let records = v.len() / Record::SIZE;

@@ -2,9 +2,9 @@
 -- Assumes nothing.
 use native.Mathlib.Omega.{arith}
 use borrow.Author.Needs.{needs}
-use Rattle.types.proofs.Bits.{digit-small}
 use Rattle.columns.proofs.literal.pack_role.Statement.{statement}
 use Rattle.columns.proofs.literal.pack_role.Tie as tie
+use Rattle.records.proofs.Ranks.{digit-small}
 
 digit-requires : tie.Need-digit-requires
 digit-requires c κs = search needs

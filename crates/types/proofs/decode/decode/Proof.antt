@@ -11,13 +11,12 @@ use Rattle.records.specs.Format.{count, recordAt}
 use Rattle.records.specs.declared.fields.Record.{Record}
 use Rattle.records.specs.Kinds.{isAtom}
 use Rattle.types.specs.Rules.{ruleOf, firstOf, secondOf}
-use Rattle.types.specs.Types.{rank}
-use Rattle.types.proofs.Bits.{digit-small}
-use Rattle.types.proofs.Truths.{rank-bound}
-use Rattle.types.proofs.Turns.{Filled, fill-start, fill-turn, rank-turn}
+use Rattle.types.proofs.Turns.{Filled, fill-start, fill-turn}
 use Rattle.types.proofs.decode.decode.Statement.{statement}
 use Rattle.types.proofs.decode.decode.Tie as tie
 use Rattle.records.specs.Format.{recordLimit}
+use Rattle.records.specs.Atoms.{rank}
+use Rattle.records.proofs.Ranks.{digit-small, rank-bound, rank-turn}
 
 record Decoding (v rules firsts seconds : List ℕ) (found i : ℕ) : Type 0 where
   within : i ≤ count v

@@ -8,11 +8,12 @@ use mathlib.Core.Path.{_≡_, refl, _∙_, ap}
 use denote.Ref.{now}
 use borrow.Author.Needs.{needs}
 use Rattle.types.specs.Below.{has, number}
-use Rattle.types.proofs.Bits.{digit-small, number-small}
+use Rattle.types.proofs.Bits.{number-small}
 use Rattle.types.proofs.Turns.{wordFrom, word-start, word-turn, word-end, word-bound}
 use Rattle.types.proofs.form.byte_of.Statement.{statement}
 use Rattle.types.proofs.form.byte_of.Tie as tie
 use Rattle.types.specs.Compare.{typeLimit}
+use Rattle.records.proofs.Ranks.{digit-small}
 
 -- bit j of byte n
 abbrev bits : List Bool → ℕ → ℕ → Bool

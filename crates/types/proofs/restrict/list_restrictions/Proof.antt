@@ -14,12 +14,11 @@ use denote.Ref.{now}
 use Rattle.records.proofs.Accepted.{accepted-vocabulary}
 use Rattle.records.specs.Format.{count}
 use Rattle.records.specs.declared.fields.Record.{Record}
-use Rattle.types.specs.Below.{digit}
-use Rattle.types.specs.Types.{atoms}
+use Rattle.records.specs.Atoms.{atoms, digit}
+use Rattle.records.proofs.Ranks.{rank-mono}
 use Rattle.types.specs.Words.{isRestriction, width}
 use Rattle.types.proofs.Restrictions.{entries, entry, restricts, restrictions-none}
 use Rattle.types.proofs.Restrictions.{restrictions-length, restrictions-kept, restrictions-last, restrictions-few}
-use Rattle.types.proofs.Truths.{rank-mono}
 use Rattle.types.proofs.Turns.{Filled, fill-start, fill-turn, fill-same}
 use Rattle.types.proofs.restrict.list_restrictions.Statement.{statement}
 use Rattle.types.proofs.restrict.list_restrictions.Tie as tie

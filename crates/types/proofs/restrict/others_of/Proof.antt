@@ -8,10 +8,10 @@ use lib.Dec.{eqb}
 use lib.ListN.{getD}
 use borrow.Author.Needs.{needs}
 use denote.Ref.{now}
-use Rattle.types.proofs.Bits.{digit-small}
 use Rattle.types.proofs.Turns.{wordFrom, word-start, word-turn, word-end, word-bound}
 use Rattle.types.proofs.restrict.others_of.Statement.{statement}
 use Rattle.types.proofs.restrict.others_of.Tie as tie
+use Rattle.records.proofs.Ranks.{digit-small}
 
 abbrev Inv-loop : tie.InvT-loop
 Inv-loop roles bits role word₀ m₀ word m = (m ≤ bits) × (word ≡ wordFrom bits (λ m. not (eqb (getD roles m 0) role)) m)

@@ -8,10 +8,10 @@ use lib.ListN.{getD}
 use borrow.Author.Needs.{needs}
 use denote.Ref.{now}
 use Rattle.types.specs.Words.{signed}
-use Rattle.types.proofs.Bits.{digit-small}
 use Rattle.types.proofs.Turns.{wordFrom, word-start, word-turn, word-end, word-bound}
 use Rattle.types.proofs.restrict.word_of.Statement.{statement}
 use Rattle.types.proofs.restrict.word_of.Tie as tie
+use Rattle.records.proofs.Ranks.{digit-small}
 
 abbrev Inv-loop : tie.InvT-loop
 Inv-loop done places signs bits word₀ m₀ word m =

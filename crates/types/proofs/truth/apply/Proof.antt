@@ -4,9 +4,9 @@ use native.Mathlib.Omega.{arith}
 use borrow.Author.Needs.{needs}
 use Rattle.types.specs.Below.{bit}
 use Rattle.types.specs.Rules.{select}
-use Rattle.types.proofs.Bits.{digit-small}
 use Rattle.types.proofs.truth.apply.Statement.{statement}
 use Rattle.types.proofs.truth.apply.Tie as tie
+use Rattle.records.proofs.Ranks.{digit-small}
 
 digit-requires : tie.Need-digit-requires
 digit-requires c κs = search needs

@@ -14,13 +14,15 @@ use Rattle.records.specs.Format.{count, recordAt}
 use Rattle.records.specs.Kinds.{constructOf, isAtom}
 use Rattle.types.specs.Below.{bit}
 use Rattle.types.specs.Rules.{Decoded, select, ruleOf, secondOf}
-use Rattle.types.specs.Types.{rank, atoms, truth}
+use Rattle.types.specs.Types.{truth}
 use Rattle.types.proofs.Connects.{rule-connects, operands-earlier, first-atom}
-use Rattle.types.proofs.Truths.{truth-eq, connect-cong, rank-below, rank-bound}
+use Rattle.types.proofs.Truths.{truth-eq, connect-cong}
 use Rattle.types.proofs.Turns.{Filled, fill-start, fill-turn}
 use Rattle.types.proofs.truth.truths.Statement.{statement}
 use Rattle.types.proofs.truth.truths.Tie as tie
 use Rattle.records.specs.Format.{recordLimit}
+use Rattle.records.specs.Atoms.{atoms, rank}
+use Rattle.records.proofs.Ranks.{rank-below, rank-bound}
 
 record Filling (v : List ℕ) (t : ℕ) (done : List Bool) (i : ℕ) : Type 0 where
   within : i ≤ count v

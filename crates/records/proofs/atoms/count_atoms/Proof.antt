@@ -1,4 +1,4 @@
--- `types::truth::count_atoms` meets its contract. The loop's invariant: `found` atoms are before record `i`.
+-- `records::atoms::count_atoms` meets its contract. The loop's invariant: `found` atoms are before record `i`.
 -- Assumes nothing.
 use Prim.Native.Nat.{_-_, _≤_}
 use native.Mathlib.Omega.{arith}
@@ -7,13 +7,13 @@ use mathlib.Core.Logic.{⊎-elim}
 use mathlib.Core.Path.{_≡_, refl, sym, ap, _∙_}
 use borrow.Author.Needs.{needs}
 use denote.Ref.{now}
 use Rattle.records.specs.Format.{count}
 use Rattle.records.specs.Kinds.{isAtom}
 use Rattle.records.specs.declared.fields.Record.{Record}
-use Rattle.types.specs.Types.{rank}
-use Rattle.types.proofs.Turns.{rank-turn}
-use Rattle.types.proofs.truth.count_atoms.Statement.{statement}
-use Rattle.types.proofs.truth.count_atoms.Tie as tie
+use Rattle.records.specs.Atoms.{rank}
+use Rattle.records.proofs.Ranks.{rank-turn}
+use Rattle.records.proofs.atoms.count_atoms.Statement.{statement}
+use Rattle.records.proofs.atoms.count_atoms.Tie as tie
 
 abbrev Inv-loop : tie.InvT-loop
 Inv-loop v records found₀ i₀ found i = (i ≤ count v) × (found ≡ rank v i) × (found ≤ i)
