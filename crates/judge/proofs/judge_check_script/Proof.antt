@@ -1,12 +1,15 @@
 -- `judge::judge_check_script` meets its contract. The answer is at most 2,048, or a number of the query, which has
 -- 16 bits, so that it fits its bits.
 -- Assumes nothing.
+use Prim.Native.Nat.{_<_, _^_}
 use native.Mathlib.Omega.{arith}
-use mathlib.Core.Path.{_∙_, ap, sym, subst}
+use mathlib.Core.Path.{_≡_, _∙_, ap, sym, subst}
 use denote.Ref.{now}
 use borrow.Author.Needs.{needs}
 use Rattle.records.proofs.Bounds.{Small}
+use Rattle.scripts.specs.Format.{queryOf}
 use Rattle.scripts.specs.Answers.{judged}
+use Rattle.scripts.specs.declared.answers.Judged.{Judged}
 use Rattle.scripts.proofs.Bounds.{mostPlace, script-small, query-below}
 use Rattle.judge.proofs.judge_check_script.Statement.{statement}
 use Rattle.judge.proofs.judge_check_script.Tie as tie
@@ -17,36 +20,30 @@ check-script-requires c κs = search needs
 enum-known-answer : tie.Need-enum-known-answer
 enum-known-answer c = search needs
 
+-- the answer fits its bits
+small : (c : tie.After-check-script) (o : Judged) → c .check-script .result ≡ o
+    → Small (mostPlace (now (c .before .before .before .args .script))) (judged o)
+small c o e =
+    let a = c .before .before .before .args in
+    subst (Small _) (sym (c .check-script .ensures) ∙ ap judged e) (script-small (now (a .vocabulary)) (now (a .script)))
+
+-- a place is at most a number of the query, and that has 16 bits
+query : (c : tie.After-check-script) → let s = now (c .before .before .before .args .script) in
+    (queryOf s .a < 2 ^ 16) × (queryOf s .b < 2 ^ 16)
+query c = query-below (now (c .before .before .before .args .script)) (λ i. omega (arith, c .before .shared-slice-known2 .given i))
+
 pack-requires : tie.Need-pack-requires
 pack-requires c κs =
-    let a = c .before .before .before .before .before .before .args in
-    let bytes = c .before .before .before .before .shared-slice-known2 .given in
-    let query = query-below (now (a .script)) (λ i. omega (arith, bytes i)) in
-    omega (
-      arith,
-      query .0,
-      query .1,
-      subst (Small (mostPlace (now (a .script))))
-          (sym (c .before .before .before .check-script .ensures) ∙ ap judged (c .before .answer .given .1))
-          (script-small (now (a .vocabulary)) (now (a .script))),
-    )
+    let k = c .before .before .before in
+    omega (arith, query k .0, query k .1, small k _ (c .before .answer .given .1))
 
 enum-known-answer-2 : tie.Need-enum-known-answer-2
 enum-known-answer-2 c = search needs
 
 pack-requires-2 : tie.Need-pack-requires-2
 pack-requires-2 c κs =
-    let a = c .before .before .before .before .before .before .args in
-    let bytes = c .before .before .before .before .shared-slice-known2 .given in
-    let query = query-below (now (a .script)) (λ i. omega (arith, bytes i)) in
-    omega (
-      arith,
-      query .0,
-      query .1,
-      subst (Small (mostPlace (now (a .script))))
-          (sym (c .before .before .before .check-script .ensures) ∙ ap judged (c .before .answer2 .given .1))
-          (script-small (now (a .vocabulary)) (now (a .script))),
-    )
+    let k = c .before .before .before in
+    omega (arith, query k .0, query k .1, small k _ (c .before .answer2 .given .1))
 
 returns : tie.Need-returns
 returns c = rw (← c .before .before .before .before .check-script .ensures, c .before .before .answer .given .1) (omega arith)

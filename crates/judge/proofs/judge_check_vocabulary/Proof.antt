@@ -1,10 +1,12 @@
 -- `judge::judge_check_vocabulary` meets its contract. The answer's count or place is at most 512, so that it fits its bits.
 -- Assumes nothing.
 use native.Mathlib.Omega.{arith}
-use mathlib.Core.Path.{_∙_, ap, sym, subst}
+use mathlib.Core.Path.{_≡_, _∙_, ap, sym, subst}
 use denote.Ref.{now}
 use borrow.Author.Needs.{needs}
+use Rattle.records.specs.Format.{recordLimit}
 use Rattle.records.specs.Answers.{counted}
+use Rattle.records.specs.declared.answers.Counted.{Counted}
 use Rattle.records.proofs.Bounds.{Small, vocabulary-small}
 use Rattle.judge.proofs.judge_check_vocabulary.Statement.{statement}
 use Rattle.judge.proofs.judge_check_vocabulary.Tie as tie
@@ -15,25 +17,20 @@ check-vocabulary-requires c κs = search needs
 enum-known-answer : tie.Need-enum-known-answer
 enum-known-answer c = search needs
 
+-- the answer fits its bits
+small : (c : tie.After-check-vocabulary) (o : Counted) → c .check-vocabulary .result ≡ o → Small recordLimit (counted o)
+small c o e =
+    subst (Small _) (sym (c .check-vocabulary .ensures) ∙ ap counted e)
+    (vocabulary-small (now (c .before .before .args .vocabulary)))
+
 pack-requires : tie.Need-pack-requires
-pack-requires c κs =
-    omega (
-      arith,
-      subst (Small 512) (sym (c .before .before .before .check-vocabulary .ensures) ∙ ap counted
-          (c .before .answer .given .1)) (vocabulary-small (now (c .before .before .before .before .before .args .vocabulary))),
-    )
+pack-requires c κs = omega (arith, small (c .before .before .before) _ (c .before .answer .given .1))
 
 enum-known-answer-2 : tie.Need-enum-known-answer-2
 enum-known-answer-2 c = search needs
 
 pack-requires-2 : tie.Need-pack-requires-2
-pack-requires-2 c κs =
-    omega (
-      arith,
-      subst (Small 512) (sym (c .before .before .before .check-vocabulary .ensures) ∙ ap counted
-          (c .before .answer2 .given .1))
-          (vocabulary-small (now (c .before .before .before .before .before .args .vocabulary))),
-    )
+pack-requires-2 c κs = omega (arith, small (c .before .before .before) _ (c .before .answer2 .given .1))
 
 returns : tie.Need-returns
 returns c = rw (← c .before .before .before .before .check-vocabulary .ensures, c .before .before .answer .given .1) (omega arith)

@@ -1,13 +1,16 @@
 -- `judge::judge_compare` meets its contract. The answer is small enough for its bits (`comparison-small`).
 -- Assumes nothing.
-use Prim.Native.Nat.{_-_}
+use Prim.Native.Nat.{ℕ, _-_}
 use native.Mathlib.Omega.{arith}
-use mathlib.Core.Path.{sym, ap, _∙_, subst}
+use mathlib.Core.Path.{_≡_, sym, ap, _∙_, subst}
 use lib.ListN.{length}
 use borrow.Author.Needs.{needs}
 use denote.Ref.{now}
-use Rattle.types.proofs.Bounds.{SmallVerdict, comparison-small}
+use Rattle.types.proofs.Bounds.{SmallVerdict, most, comparison-small}
 use Rattle.types.specs.Answers.{compared}
+use Rattle.types.specs.Compare.{comparison}
+use Rattle.types.specs.declared.answers.Compared.{Compared}
+use Rattle.judge.specs.Packed.{packedVerdict}
 use Rattle.judge.proofs.judge_compare.Statement.{statement}
 use Rattle.judge.proofs.judge_compare.Tie as tie
 
@@ -17,11 +20,18 @@ compare-requires c κs = search needs
 enum-known-answer : tie.Need-enum-known-answer
 enum-known-answer c = search needs
 
+-- the answer fits its bits
+small : (c : tie.After-compare) (o : Compared) → c .compare .result ≡ o
+    → let a = c .before .before .before .before .args in
+    SmallVerdict (most (now (a .vocabulary)) (a .a) (a .b) (length (now (a .buffer)))) (compared o)
+small c o e =
+    let a = c .before .before .before .before .args in
+    subst (SmallVerdict _) (sym (c .compare .ensures .0) ∙ ap compared e)
+    (comparison-small (now (a .vocabulary)) (a .a) (a .b) (length (now (a .buffer))))
+
 pack-verdict-requires : tie.Need-pack-verdict-requires
 pack-verdict-requires c κs =
-    let a = c .before .before .before .before .before .before .before .before .before .args in
-    let s = subst (SmallVerdict _) (sym (c .before .before .before .before .before .compare .ensures .0) ∙ ap compared
-    (c .before .answer .given .1)) (comparison-small (now (a .vocabulary)) (a .a) (a .b) (length (now (a .buffer)))) in
+    let s = small (c .before .before .before .before .before) _ (c .before .answer .given .1) in
     (omega arith, (omega (arith, s .0), omega (arith, s .1)))
 
 enum-known-answer-2 : tie.Need-enum-known-answer-2
@@ -29,9 +39,7 @@ enum-known-answer-2 c = search needs
 
 pack-verdict-requires-2 : tie.Need-pack-verdict-requires-2
 pack-verdict-requires-2 c κs =
-    let a = c .before .before .before .before .before .before .before .before .before .args in
-    let s = subst (SmallVerdict _) (sym (c .before .before .before .before .before .compare .ensures .0) ∙ ap compared
-    (c .before .answer2 .given .1)) (comparison-small (now (a .vocabulary)) (a .a) (a .b) (length (now (a .buffer)))) in
+    let s = small (c .before .before .before .before .before) _ (c .before .answer2 .given .1) in
     (omega (arith, s .0), (omega (arith, s .1), omega (arith, s .2)))
 
 enum-known-answer-3 : tie.Need-enum-known-answer-3
@@ -39,41 +47,38 @@ enum-known-answer-3 c = search needs
 
 pack-requires : tie.Need-pack-requires
 pack-requires c κs =
-    let a = c .before .before .before .before .before .before .before .before .before .args in omega (
-      arith,
-      subst (SmallVerdict _) (sym (c .before .before .before .before .before .compare .ensures .0) ∙ ap compared
-          (c .before .answer3 .given .1)) (comparison-small (now (a .vocabulary)) (a .a) (a .b) (length (now (a .buffer)))),
-    )
+    let a = c .before .before .before .before .before .before .before .before .before .args in
+    omega (arith, small (c .before .before .before .before .before) _ (c .before .answer3 .given .1))
 
 same-length : tie.Need-same-length
 same-length c = search needs
 
+-- the answer's number is the definition's, and the bytes are those that the comparison left
+packed-answer : (c : tie.After-compare) (o : Compared) (n : ℕ) → c .compare .result ≡ o → n ≡ packedVerdict (compared o)
+    → let a = c .before .before .before .before .args in
+    n ≡ packedVerdict (comparison (now (a .vocabulary)) (a .a) (a .b) (length (now (a .buffer))))
+packed-answer c o n e p = p ∙ ap packedVerdict (sym (ap compared e) ∙ c .compare .ensures .0)
+
 returns : tie.Need-returns
-returns c = (
-  rw (← c .before .before .before .before .before .before .compare .ensures .0, c .before .before .answer .given .1)
-      (c .pack-verdict .ensures),
-  c .before .before .before .before .before .before .compare .ensures .1,
-)
+returns c =
+    let k = c .before .before .before .before .before .before in
+    (packed-answer k _ _ (c .before .before .answer .given .1) (c .pack-verdict .ensures), k .compare .ensures .1)
 
 same-length-2 : tie.Need-same-length-2
 same-length-2 c = search needs
 
 returns-2 : tie.Need-returns-2
-returns-2 c = (
-  rw (← c .before .before .before .before .before .before .compare .ensures .0, c .before .before .answer2 .given .1)
-      (c .pack-verdict2 .ensures),
-  c .before .before .before .before .before .before .compare .ensures .1,
-)
+returns-2 c =
+    let k = c .before .before .before .before .before .before in
+    (packed-answer k _ _ (c .before .before .answer2 .given .1) (c .pack-verdict2 .ensures), k .compare .ensures .1)
 
 same-length-3 : tie.Need-same-length-3
 same-length-3 c = search needs
 
 returns-3 : tie.Need-returns-3
-returns-3 c = (
-  rw (← c .before .before .before .before .before .before .compare .ensures .0, c .before .before .answer3 .given .1)
-      (c .pack .ensures),
-  c .before .before .before .before .before .before .compare .ensures .1,
-)
+returns-3 c =
+    let k = c .before .before .before .before .before .before in
+    (packed-answer k _ _ (c .before .before .answer3 .given .1) (c .pack .ensures), k .compare .ensures .1)
 
 pub judge-compare-spec : {M : Type 1} → statement M
 judge-compare-spec =

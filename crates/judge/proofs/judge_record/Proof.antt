@@ -1,11 +1,13 @@
 -- `judge::judge_record` meets its contract. The answer's offset is below 4,096 and its place a 32-bit number, so that it fits its bits.
 -- Assumes nothing.
-use Prim.Native.Nat.{max}
+use Prim.Native.Nat.{_*_, max}
 use native.Mathlib.Omega.{arith}
-use mathlib.Core.Path.{_∙_, ap, sym, subst}
+use mathlib.Core.Path.{_≡_, _∙_, ap, sym, subst}
 use denote.Ref.{now}
 use borrow.Author.Needs.{needs}
+use Rattle.records.specs.Format.{recordLimit}
 use Rattle.records.specs.Answers.{located}
+use Rattle.records.specs.declared.answers.Located.{Located}
 use Rattle.records.proofs.Bounds.{Small, record-small}
 use Rattle.judge.proofs.judge_record.Statement.{statement}
 use Rattle.judge.proofs.judge_record.Tie as tie
@@ -16,28 +18,21 @@ find-record-requires c κs = search needs
 enum-known-answer : tie.Need-enum-known-answer
 enum-known-answer c = search needs
 
+-- the answer fits its bits
+small : (c : tie.After-find-record) (o : Located) → c .find-record .result ≡ o
+    → Small (max (8 * recordLimit) (c .before .before .args .number)) (located o)
+small c o e =
+    let a = c .before .before .args in
+    subst (Small _) (sym (c .find-record .ensures) ∙ ap located e) (record-small (now (a .vocabulary)) (a .number))
+
 pack-requires : tie.Need-pack-requires
-pack-requires c κs =
-    let a = c .before .before .before .before .before .args in
-    omega (
-      arith,
-      subst (Small (max 4096 (a .number)))
-          (sym (c .before .before .before .find-record .ensures) ∙ ap located (c .before .answer .given .1))
-          (record-small (now (a .vocabulary)) (a .number)),
-    )
+pack-requires c κs = omega (arith, small (c .before .before .before) _ (c .before .answer .given .1))
 
 enum-known-answer-2 : tie.Need-enum-known-answer-2
 enum-known-answer-2 c = search needs
 
 pack-requires-2 : tie.Need-pack-requires-2
-pack-requires-2 c κs =
-    let a = c .before .before .before .before .before .args in
-    omega (
-      arith,
-      subst (Small (max 4096 (a .number)))
-          (sym (c .before .before .before .find-record .ensures) ∙ ap located (c .before .answer2 .given .1))
-          (record-small (now (a .vocabulary)) (a .number)),
-    )
+pack-requires-2 c κs = omega (arith, small (c .before .before .before) _ (c .before .answer2 .given .1))
 
 returns : tie.Need-returns
 returns c = rw (← c .before .before .before .before .find-record .ensures, c .before .before .answer .given .1) (omega arith)
