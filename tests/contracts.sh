@@ -1,0 +1,47 @@
+#!/bin/sh
+# Holds the code of the crates to what docs/ARCHITECTURE.md says of it, so that contracts stay readable: a line has at most
+# 130 characters, a contract names its limits, a function has at most 9 parameters and a body of at most 40 lines.
+#
+# usage: contracts.sh [FILE..]        (no FILE: every file of crates/*/src)
+# Exit status: 0 all is so; 1 some line is not, and each is told.
+set -eu
+cd "$(dirname "$0")/.."
+[ $# -gt 0 ] || set -- crates/*/src/*.rt
+told=$(mktemp)
+trap 'rm -f -- "$told"' EXIT
+
+# UTF-8, so that characters and not bytes are counted.
+LC_ALL=C.UTF-8 grep -HnE '^.{131,}' "$@" | sed 's/:\([0-9]*\):.*/:\1: over 130 characters/' >> "$told" || :
+
+# The limits of docs/FORMATS.md. An exponent is no limit: 2 ^ 64 is a width.
+grep -HnE '^ *(requires|ensures) ' "$@" | sed 's/\^ [0-9]*//g' |
+    sed -nE 's/^([^:]*:[0-9]*):.*[^0-9](12|64|512|2048|4096|32768)[^0-9].*/\1: the number \2 in a contract, where a name says it/p' \
+    >> "$told"
+
+awk '
+function tell(what) { printf "%s:%d: %s: %s\n", FILENAME, at, name, what }
+/^ *(pub )?(extern "C" )?fn / {
+    at = FNR; name = $0
+    sub(/.*fn /, "", name); sub(/\(.*/, "", name)
+    parameters = 0; head = 1; body = 0
+}
+head {
+    line = $0
+    sub(/ -> .*/, "", line)
+    if (line ~ /\(self|\(mut self/) parameters++
+    parameters += gsub(/: /, "", line)
+    if ($0 ~ /\)/) {
+        head = 0
+        if (parameters > 9) tell(parameters " parameters")
+    }
+}
+/^ *\{$/ { body = FNR; match($0, /^ */); indent = RLENGTH }
+body && /^ *\}$/ {
+    match($0, /^ */)
+    if (RLENGTH == indent) {
+        if (FNR - body > 41) tell(FNR - body - 1 " lines")
+        body = 0
+    }
+}' "$@" >> "$told"
+
+[ ! -s "$told" ] || { sort -t: -k1,1 -k2,2n "$told"; exit 1; }
