@@ -2,7 +2,9 @@
 -- links lead to later statements.
 --   Operand, Linked, Formed, Accepted   what is told of a field, of a record, of a vocabulary
 --   All, all-at                         what holds of every entry of a table holds of the entry at an index
---   accepted-vocabulary                 a vocabulary that the check accepts is Accepted
+--   well-formed-vocabulary              a vocabulary that passed rows 1 to 8 is Accepted
+--   accepted-well-formed                one that the vocabulary check accepts passed them
+--   accepted-vocabulary                 and so is Accepted
 -- Assumes nothing.
 use Prim.Native.Nat.{ℕ, zero, suc, _-_, _≤_, _<_}
 use native.Mathlib.Omega.{arith}
@@ -22,7 +24,7 @@ use Rattle.records.specs.Kinds.{sortsOf, isTerm, isStatement}
 use Rattle.records.specs.Check.{headCheck, lengthCheck, headerFits, headerCheck, kindFits, kindCheck, named, labelled}
 use Rattle.records.specs.Check.{termFits}
 use Rattle.records.specs.Check.{linkFits, rowsCheck, recordCheck, nextFits, linkCheck, linksCheck}
-use Rattle.records.specs.Check.{vocabularyCheck}
+use Rattle.records.specs.Check.{IsWellFormed, recordsCheck, vocabularyCheck}
 use Rattle.records.specs.declared.fields.Record.{Record}
 use Rattle.records.proofs.Passed.{clash, Sized, length-passed, both-left, both-right, require-passed, then-passed}
 use Rattle.records.proofs.Passed.{turn-at}
@@ -201,17 +203,16 @@ module _ (v : List ℕ) (i : ℕ) where
       let is : isStatement (recordAt v i .kind) ≡ true = eq-eqb _ 9 q in
       linked (recordAt v i .next) (rw is at fit)
 
--- The theorem: a vocabulary that the check accepts.
-pub accepted-vocabulary : (v : List ℕ) (n : ℕ) → vocabularyCheck v ≡ accepted n → Accepted v
-unfolding vocabularyCheck
-accepted-vocabulary v n e =
+-- The theorem: a vocabulary that passed rows 1 to 8.
+pub well-formed-vocabulary : (v : List ℕ) → IsWellFormed v → Accepted v
+unfolding recordsCheck
+well-formed-vocabulary v e =
     let records = inTurn (recordCheck v) 1 (count v - 1) in
     let links = inTurn (linkCheck v) 1 (count v - 1) in
-    let a = then-passed (lengthCheck v) (headerCheck v then records then linksCheck v then accepted (count v)) n e in
-    let b = then-passed (headerCheck v) (records then linksCheck v then accepted (count v)) n (a .1) in
-    let c = then-passed records (linksCheck v then accepted (count v)) n (b .1) in
-    let d = then-passed (linksCheck v) (accepted (count v)) n (c .1) .0 in
-    let l = then-passed (headCheck v) links tt d in
+    let a = then-passed (lengthCheck v) (headerCheck v then records then linksCheck v) tt e in
+    let b = then-passed (headerCheck v) (records then linksCheck v) tt (a .1) in
+    let c = then-passed records (linksCheck v) tt (b .1) in
+    let l = then-passed (headCheck v) links tt (c .1) in
     let r = recordAt v 0 in
     let fit : headerFits r ≡ true = require-passed (headerFits r) 2 0 (b .0) in
     let after = both-right (eqb (r .kind) 16) (eqb (r .second) 1 && (leb (r .b) 64 && eqb (r .next) 0)) fit in
@@ -232,3 +233,11 @@ accepted-vocabulary v n e =
       first = linked v 0 (firstStatement v) (require-passed (linkFits v 0 (firstStatement v)) 8 0 (l .0));
       rises = λ i p h q. record-linked v i (turn-at (linkCheck v) (count v - 1) 1 (l .1) i p (omega arith)) q;
     }
+
+-- What the vocabulary check accepts passed rows 1 to 8.
+pub accepted-well-formed : (v : List ℕ) (n : ℕ) → vocabularyCheck v ≡ accepted n → IsWellFormed v
+unfolding vocabularyCheck
+accepted-well-formed v n e = then-passed (recordsCheck v) (accepted (count v)) n e .0
+
+pub accepted-vocabulary : (v : List ℕ) (n : ℕ) → vocabularyCheck v ≡ accepted n → Accepted v
+accepted-vocabulary v n e = well-formed-vocabulary v (accepted-well-formed v n e)

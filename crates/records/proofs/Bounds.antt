@@ -1,6 +1,7 @@
 -- Bounds on what the calls answer: what a caller needs to index a vocabulary, or to pack an answer into a word.
 --   vocabulary-count   the vocabulary check's count
---   vocabulary-small   its count or place is at most 512, its number not 0
+--   records-near       rows 1 to 8 refuse with a place of at most 512
+--   vocabulary-small   the count or place is at most 512, the number not 0
 --   record-within      the record call's offset leaves room for a record
 --   Nearby, require-near, then-near   a check whose refusal is near
 --   then-small, turns-near   what comes after such a check; such checks in turn
@@ -19,7 +20,7 @@ use Rattle.records.specs.Format.{count, recordAt, firstStatement}
 use Rattle.records.specs.Kinds.{sortsOf}
 use Rattle.records.specs.Check.{lengthFits, lengthCheck, headerFits, headerCheck, kindFits, kindCheck, rowCheck}
 use Rattle.records.specs.Check.{rowFits, recordCheck, linkFits, headCheck, nextFits, linkCheck, linksCheck}
-use Rattle.records.specs.Check.{vocabularyCheck}
+use Rattle.records.specs.Check.{recordsCheck, vocabularyCheck}
 use Rattle.records.specs.Call.{recordCall}
 use Rattle.records.proofs.Passed.{Sized, require-passed, then-passed, length-passed}
 
@@ -45,6 +46,11 @@ module _ (m : ℕ) where
   pub then-near : (a b : Check) → Nearby m a → Nearby m b → Nearby m (a then b)
   then-near (accepted u) b x y = y
   then-near (refused n p) b x y = x
+
+  -- the second where the first passed
+  after-near : (a b : Check) → Nearby m a → (a ≡ pass → Nearby m b) → Nearby m (a then b)
+  after-near (accepted u) b x y = y refl
+  after-near (refused n p) b x y = x
 
   pub then-small : (a : Check) (b : Outcome ℕ) → Nearby m a → (a ≡ pass → Small m b) → Small m (a then b)
   then-small (accepted u) b x y = y refl
@@ -76,25 +82,26 @@ module _ (m : ℕ) (v : List ℕ) where
 pub vocabulary-count : (v : List ℕ) (n : ℕ) → vocabularyCheck v ≡ accepted n → n ≡ count v
 unfolding vocabularyCheck
 vocabulary-count v n e =
-    let records = inTurn (recordCheck v) 1 (count v - 1) in
-    let a = then-passed (lengthCheck v) _ n e .1 in
-    let b = then-passed (headerCheck v) _ n a .1 in
-    let c = then-passed records _ n b .1 in
-    let d : accepted (count v) ≡ accepted n = then-passed (linksCheck v) _ n c .1 in
+    let d : accepted (count v) ≡ accepted n = then-passed (recordsCheck v) _ n e .1 in
     cc
 
-pub vocabulary-small : (v : List ℕ) → Small 512 (vocabularyCheck v)
-unfolding vocabularyCheck
-vocabulary-small v =
+pub records-near : (v : List ℕ) → Nearby 512 (recordsCheck v)
+unfolding recordsCheck
+records-near v =
     let run : (check : ℕ → Check) → Sized v → ((k : ℕ) → k ≤ 512 → Nearby 512 (check k)) → Nearby 512 (inTurn check 1 (count v - 1))
     = λ check sized near. turns-near 512 check (count v - 1) 1 (omega arith) near in
     let head : Nearby 512 (headCheck v) = require-near 512 (linkFits v 0 (firstStatement v)) 8 0 (omega arith) in
-    then-small 512 (lengthCheck v) _ (require-near 512 (lengthFits v) 1 0 (omega arith))
+    after-near 512 (lengthCheck v) _ (require-near 512 (lengthFits v) 1 0 (omega arith))
     (λ e. let sized = length-passed v e in
-    then-small 512 (headerCheck v) _ (require-near 512 (headerFits (recordAt v 0)) 2 0 (omega arith))
-    (λ _. then-small 512 (inTurn (recordCheck v) 1 (count v - 1)) _ (run (recordCheck v) sized (record-near 512 v))
-    (λ _. then-small 512 (linksCheck v) _ (then-near 512 (headCheck v) _ head (run (linkCheck v) sized (link-near 512 v)))
-    (λ _. omega arith))))
+    then-near 512 (headerCheck v) _ (require-near 512 (headerFits (recordAt v 0)) 2 0 (omega arith))
+    (then-near 512 (inTurn (recordCheck v) 1 (count v - 1)) _ (run (recordCheck v) sized (record-near 512 v))
+    (then-near 512 (headCheck v) _ head (run (linkCheck v) sized (link-near 512 v)))))
+
+pub vocabulary-small : (v : List ℕ) → Small 512 (vocabularyCheck v)
+unfolding vocabularyCheck recordsCheck
+vocabulary-small v =
+    then-small 512 (recordsCheck v) _ (records-near v)
+    (λ e. let sized = length-passed v (then-passed (lengthCheck v) _ tt e .0) in omega arith)
 
 pub record-within : (v : List ℕ) (n at : ℕ) → recordCall v n ≡ accepted at → at + 8 ≤ length v
 unfolding recordCall

@@ -5,7 +5,7 @@ use mathlib.Core.Bool.{Bool, false, not, _&&_, _||_}
 use mathlib.Core.List.{List}
 use lib.ListN.{length}
 use lib.Dec.{ltb, leb, eqb}
-use Rattle.records.specs.Outcome.{Outcome, Check, accepted, _then_, require, inTurn}
+use Rattle.records.specs.Outcome.{Outcome, Check, accepted, pass, _then_, require, inTurn}
 use Rattle.records.specs.Format.{recordAt, count, firstStatement, roleCount}
 use Rattle.records.specs.Kinds.{Sort, Spare, Term, Role, Label, Link, Sorts, isTerm, isStatement, sortsOf}
 use Rattle.records.specs.declared.fields.Record.{Record}
@@ -103,14 +103,21 @@ linkCheck v i = require (nextFits v i) 8 i
 abbrev pub linksCheck : List ℕ → Check
 linksCheck v = headCheck v then inTurn (linkCheck v) 1 (count v - 1)
 
--- The vocabulary check "answers the number of records, header included": row 1, row 2, rows 3 to 7 at "each record in turn", row 8.
-unfoldable pub vocabularyCheck : List ℕ → Outcome ℕ
-vocabularyCheck v =
+-- Rows 1 to 8: row 1, row 2, rows 3 to 7 at "each record in turn", row 8.
+unfoldable pub recordsCheck : List ℕ → Check
+recordsCheck v =
     lengthCheck v
     then headerCheck v
     then inTurn (recordCheck v) 1 (count v - 1)
     then linksCheck v
-    then accepted (count v)
+
+-- What later rows may ask of a vocabulary: rows 1 to 8 have nothing against it.
+abbrev pub IsWellFormed : List ℕ → Type 0
+IsWellFormed v = recordsCheck v ≡ pass
+
+-- The vocabulary check "answers the number of records, header included".
+unfoldable pub vocabularyCheck : List ℕ → Outcome ℕ
+vocabularyCheck v = recordsCheck v then accepted (count v)
 
 -- "A vocabulary is accepted when no refusal of the vocabulary check applies to it".
 abbrev pub IsAccepted : List ℕ → Type 0

@@ -20,7 +20,7 @@ ghost use Rattle.records.specs.Kinds.{sortsOf, constantFields, nameField
 ghost use Rattle.records.specs.Kinds.{restrictionFields, inclusionFields};
 ghost use Rattle.records.specs.Check.{lengthFits, lengthCheck, headerFits, headerCheck, kindFits, kindCheck, named};
 ghost use Rattle.records.specs.Check.{labelled, termFits, linkFits, rowsCheck, fieldsCheck, recordCheck, linkCheck};
-ghost use Rattle.records.specs.Check.{linksCheck, vocabularyCheck};
+ghost use Rattle.records.specs.Check.{linksCheck, recordsCheck, vocabularyCheck};
 
 // Row 1: the length.
 fn length_fits(v: &[u8]) -> bool
@@ -276,8 +276,8 @@ fn check_record(v: &[u8], i: usize, roles: u16) -> Checked
     check_fields(v, &v[at..end], i, roles)
 }
 
-// Each record in turn.
-fn check_records(v: &[u8]) -> Checked
+// Rows 3 to 7 at each record in turn.
+fn check_each(v: &[u8]) -> Checked
     requires { ⌜ 8 ≤ length (now v) ⌝ }
     ensures { λ r. ⌜ checked r ≡ inTurn (recordCheck (now (v .entry))) 1 (count (now (v .entry)) - 1) ⌝ }
 {
@@ -328,22 +328,29 @@ fn check_links(v: &[u8]) -> Checked
     Checked::Fine
 }
 
+// Rows 1 to 8: what later rows may ask of a vocabulary.
+fn check_records(v: &[u8]) -> Checked
+    ensures { λ r. ⌜ checked r ≡ recordsCheck (now (v .entry)) ⌝ }
+{
+    let length = check_length(v);
+    let Checked::Fine = length else {
+        return length;
+    };
+    let header = check_header(v);
+    let Checked::Fine = header else {
+        return header;
+    };
+    let records = check_each(v);
+    let Checked::Fine = records else {
+        return records;
+    };
+    check_links(v)
+}
+
 // The vocabulary check: the number of records, or the first refusal in table order.
 pub fn check_vocabulary(v: &[u8]) -> Counted
     ensures { λ r. ⌜ counted r ≡ vocabularyCheck (now (v .entry)) ⌝ }
 {
-    let length = check_length(v);
-    let Checked::Fine = length else {
-        return count_after(length, 0);
-    };
-    let header = check_header(v);
-    let Checked::Fine = header else {
-        return count_after(header, 0);
-    };
     let records = check_records(v);
-    let Checked::Fine = records else {
-        return count_after(records, 0);
-    };
-    let links = check_links(v);
-    count_after(links, v.len() / Record::SIZE)
+    count_after(records, v.len() / Record::SIZE)
 }

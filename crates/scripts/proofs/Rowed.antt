@@ -12,7 +12,7 @@ use Rattle.records.specs.Outcome.{Outcome, Check, accepted, refused, _then_, re
 use Rattle.records.specs.Format.{count, recordAt, firstStatement}
 use Rattle.records.specs.Kinds.{sortsOf, isTerm}
 use Rattle.records.specs.Check.{lengthFits, lengthCheck, headerFits, headerCheck, kindFits, kindCheck, rowFits, rowCheck}
-use Rattle.records.specs.Check.{recordCheck, linkFits, headCheck, nextFits, linkCheck, linksCheck, vocabularyCheck}
+use Rattle.records.specs.Check.{recordCheck, linkFits, headCheck, nextFits, linkCheck, linksCheck, recordsCheck, vocabularyCheck}
 use Rattle.records.specs.Call.{recordCall}
 use Rattle.records.specs.Chain.{occurs}
 use Rattle.records.proofs.Passed.{clash}
@@ -76,15 +76,16 @@ module _ (more : List ℕ) where
   link-in-rows v i = row (nextFits v i) 8 i refl
 
   pub vocabulary-rows : (v : List ℕ) → OfRows rows (vocabularyCheck v)
-  unfolding vocabularyCheck occurs
+  unfolding vocabularyCheck recordsCheck occurs
   vocabulary-rows v =
       let turns = turns-rows rows (recordCheck v) (count v - 1) 1 (record-in-rows v) in
       let links = turns-rows rows (linkCheck v) (count v - 1) 1 (link-in-rows v) in
-      then-rows rows (lengthCheck v) _ (row (lengthFits v) 1 0 refl)
+      then-rows rows (recordsCheck v) (accepted (count v))
+      (then-rows rows (lengthCheck v) _ (row (lengthFits v) 1 0 refl)
       (then-rows rows (headerCheck v) _ (row (headerFits (recordAt v 0)) 2 0 refl)
       (then-rows rows (inTurn (recordCheck v) 1 (count v - 1)) _ turns
-      (then-rows rows (linksCheck v) (accepted (count v))
-      (then-rows rows (headCheck v) _ (row (linkFits v 0 (firstStatement v)) 8 0 refl) links) tt)))
+      (then-rows rows (headCheck v) _ (row (linkFits v 0 (firstStatement v)) 8 0 refl) links))))
+      tt
 
 pub record-rows : (v : List ℕ) (number : ℕ) → OfRows (1 ∷ 9 ∷ []) (recordCall v number)
 unfolding recordCall occurs

@@ -9,7 +9,7 @@ use Rattle.records.specs.Outcome.{Outcome, accepted, refused}
 use Rattle.records.specs.Format.{recordAt}
 use Rattle.records.specs.Kinds.{kindOf}
 use Rattle.records.specs.Outcome.{inTurn}
-use Rattle.records.specs.Check.{anyBelow, recordCheck, linkCheck, vocabularyCheck}
+use Rattle.records.specs.Check.{anyBelow, recordCheck, linkCheck, recordsCheck, vocabularyCheck}
 use Rattle.records.specs.Chain.{follow, occurs}
 use Rattle.records.specs.Atoms.{rank}
 use Rattle.types.specs.Below.{allBelow, least, table, members, bit, number, unrolled}
@@ -103,5 +103,5 @@ answered =
     ∷ []
 
 pub samples : map answer asked ≡ answered
-unfolding recordAt kindOf inTurn anyBelow recordCheck linkCheck vocabularyCheck follow occurs allBelow least table members bit number unrolled rank truth allowed served fits stage rounds survivors verdict comparison form sameTerm complementary columnsAt takesY script.entryAt script.kindOf script.termAt form'.allZero form'.entryCheck form'.linkCheck form'.formCheck without close extendBy stepCheck stepped run chainCheck scriptCheck
+unfolding recordAt kindOf inTurn anyBelow recordCheck linkCheck recordsCheck vocabularyCheck follow occurs allBelow least table members bit number unrolled rank truth allowed served fits stage rounds survivors verdict comparison form sameTerm complementary columnsAt takesY script.entryAt script.kindOf script.termAt form'.allZero form'.entryCheck form'.linkCheck form'.formCheck without close extendBy stepCheck stepped run chainCheck scriptCheck
 samples = refl

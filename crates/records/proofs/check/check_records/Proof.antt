@@ -1,70 +1,96 @@
--- `records::check::check_records` meets its contract. The loop's invariant: the records from `i` on decide, and `roles` is the header's count.
+-- `records::check::check_records` meets its contract. A refusal stands; otherwise the next check decides. A length that passed has a header.
 -- Assumes nothing.
-use Prim.Native.Nat.{_-_}
-use native.Mathlib.Omega.{arith}
-use mathlib.Core.Path.{_≡_, _∙_, refl, sym, ap}
+use mathlib.Core.Path.{_≡_}
+use denote.Ref.{now}
 use borrow.Author.Needs.{needs}
-use Rattle.records.specs.Check.{recordCheck}
-use Rattle.records.specs.Format.{roleCount}
-use Rattle.records.specs.Outcome.{inTurn}
-use Rattle.records.specs.declared.fields.Record.{Record}
-use Rattle.records.proofs.Order.{turn-refused, turn-passed, turns-end}
+use Rattle.records.specs.Outcome.{pass}
+use Rattle.records.specs.Check.{lengthCheck, recordsCheck}
+use Rattle.records.proofs.Order.{stops, goes, passed}
+use Rattle.records.proofs.Passed.{Sized, length-passed}
 use Rattle.records.proofs.check.check_records.Statement.{statement}
 use Rattle.records.proofs.check.check_records.Tie as tie
 
-abbrev Inv-loop : tie.InvT-loop
-Inv-loop v records roles i₀ i =
-    (inTurn (recordCheck v) 1 (records - 1) ≡ inTurn (recordCheck v) i (records - i)) × (roles ≡ roleCount v)
+check-length-requires : tie.Need-check-length-requires
+check-length-requires c κs = search needs
 
-abbrev μ-loop : tie.MeasureT-loop
-μ-loop v records roles i₀ i = records - i
-
-read-at-requires : tie.Need-read-at-requires Inv-loop μ-loop
-read-at-requires c κs = omega arith
-
-loop-holds : tie.Need-loop-holds Inv-loop μ-loop
-loop-holds c = (refl, ap (λ (r : Record). r .b) (c .read-at .ensures))
-
-check-record-requires : tie.Need-check-record-requires Inv-loop μ-loop
-check-record-requires c κs = (omega arith, c .before .loop .inv .1)
-
-enum-told : tie.Need-enum-told Inv-loop μ-loop
+enum-told : tie.Need-enum-told
 enum-told c = search needs
 
-enum-told-2 : tie.Need-enum-told-2 Inv-loop μ-loop
+enum-told-2 : tie.Need-enum-told-2
 enum-told-2 c = search needs
 
-returns : tie.Need-returns Inv-loop μ-loop
-returns c =
-    turn-refused _ _ _ _ _ _ (c .before .before .before .loop-test .taken) (c .before .before .check-record .ensures)
-    (c .enum-told2 .given .1) ∙ sym (c .before .before .before .before .loop .inv .0)
+-- the length has passed
+sized : (c : tie.After-enum-told) → Sized (now (c .before .before .before .before .args .v))
+sized c = length-passed _ (passed _ _ (c .before .before .check-length .ensures) (c .enum-told .given .1))
 
-add-i : tie.Need-add-i Inv-loop μ-loop
-add-i c = omega arith
+returns : tie.Need-returns
+unfolding recordsCheck
+returns c = stops _ _ _ _ _ (c .before .before .check-length .ensures) (c .enum-told2 .given .1)
 
-loop-less : tie.Need-loop-less Inv-loop μ-loop
-loop-less c = omega arith
+check-header-requires : tie.Need-check-header-requires
+check-header-requires c κs = sized c .least
 
-loop-again : tie.Need-loop-again Inv-loop μ-loop
-loop-again c =
-    (c .before .before .before .before .loop .inv .0 ∙ turn-passed _ _ _ _ (c .before .before .before .loop-test .taken) (c .before .before .check-record .ensures) (c .enum-told .given .1), c .before .before .before .before .loop .inv .1)
+enum-told-3 : tie.Need-enum-told-3
+enum-told-3 c = search needs
 
-returns-2 : tie.Need-returns-2 Inv-loop μ-loop
-returns-2 c = sym (c .before .loop .inv .0 ∙ turns-end _ _ _ (c .loop-test .left))
+enum-told-4 : tie.Need-enum-told-4
+enum-told-4 c = search needs
+
+returns-2 : tie.Need-returns-2
+unfolding recordsCheck
+returns-2 c =
+    let header = c .before .before in
+    let length = header .before in
+    goes _ _ _ _ (length .before .before .check-length .ensures) (length .enum-told .given .1)
+    (stops _ _ _ _ _ (header .check-header .ensures) (c .enum-told4 .given .1))
+
+check-each-requires : tie.Need-check-each-requires
+check-each-requires c κs = sized (c .before .before .before) .least
+
+enum-told-5 : tie.Need-enum-told-5
+enum-told-5 c = search needs
+
+enum-told-6 : tie.Need-enum-told-6
+enum-told-6 c = search needs
+
+returns-3 : tie.Need-returns-3
+unfolding recordsCheck
+returns-3 c =
+    let each = c .before .before in
+    let header = each .before in
+    let length = header .before .before .before in
+    goes _ _ _ _ (length .before .before .check-length .ensures) (length .enum-told .given .1)
+    (goes _ _ _ _ (header .before .before .check-header .ensures) (header .enum-told3 .given .1)
+    (stops _ _ _ _ _ (each .check-each .ensures) (c .enum-told6 .given .1)))
+
+check-links-requires : tie.Need-check-links-requires
+check-links-requires c κs = sized (c .before .before .before .before .before .before) .least
+
+returns-4 : tie.Need-returns-4
+unfolding recordsCheck
+returns-4 c =
+    let each = c .before in
+    let header = each .before .before .before in
+    let length = header .before .before .before in
+    goes _ _ _ _ (length .before .before .check-length .ensures) (length .enum-told .given .1)
+    (goes _ _ _ _ (header .before .before .check-header .ensures) (header .enum-told3 .given .1)
+    (goes _ _ _ _ (each .before .before .check-each .ensures) (each .enum-told5 .given .1) (c .check-links .ensures)))
 
 pub check-records-spec : {M : Type 1} → statement M
 check-records-spec =
     tie.close
     (tie.spec
-    Inv-loop
-    μ-loop
-    read-at-requires
-    loop-holds
-    check-record-requires
+    check-length-requires
     enum-told
     enum-told-2
     returns
-    add-i
-    loop-less
-    loop-again
-    returns-2)
+    check-header-requires
+    enum-told-3
+    enum-told-4
+    returns-2
+    check-each-requires
+    enum-told-5
+    enum-told-6
+    returns-3
+    check-links-requires
+    returns-4)

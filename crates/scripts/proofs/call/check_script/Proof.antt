@@ -6,6 +6,7 @@ use borrow.Author.Needs.{needs}
 use Rattle.records.specs.Outcome.{accepted, pass}
 use Rattle.records.specs.Format.{count}
 use Rattle.records.specs.Check.{vocabularyCheck}
+use Rattle.records.proofs.Accepted.{accepted-well-formed}
 use Rattle.scripts.specs.Form.{formCheck}
 use Rattle.scripts.proofs.Outcomes.{vocabulary-at, form-at, refused-vocabulary, refused-form, decided}
 use Rattle.scripts.proofs.call.check_script.Statement.{statement}
@@ -38,7 +39,7 @@ taken c =
     vocabulary-at (now (k .before .before .before .args .v)) _ _ (k .check-vocabulary .ensures) (c .enum-told .given .1)
 
 mark-chain-requires : tie.Need-mark-chain-requires
-mark-chain-requires c κs = taken c
+mark-chain-requires c κs = accepted-well-formed _ _ (taken c)
 
 check-form-requires : tie.Need-check-form-requires
 check-form-requires c κs = (taken (c .before .before), c .before .mark-chain .ensures)

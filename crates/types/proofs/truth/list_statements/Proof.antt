@@ -5,7 +5,7 @@ use native.Mathlib.Omega.{arith}
 use mathlib.Core.Logic.{⊎-elim}
 use mathlib.Core.Path.{_≡_, refl, subst}
 use denote.Ref.{now}
-use Rattle.records.proofs.Accepted.{accepted-vocabulary}
+use Rattle.records.proofs.Accepted.{accepted-well-formed, accepted-vocabulary}
 use Rattle.records.specs.Format.{count}
 use Rattle.types.proofs.Listing.{ListedBelow, list-start, list-more, list-same}
 use Rattle.types.proofs.Profiles.{stating}
@@ -20,7 +20,7 @@ abbrev μ-loop : tie.MeasureT-loop
 μ-loop v records marks places₀ found₀ i₀ places found i = count v - i
 
 mark-chain-requires : tie.Need-mark-chain-requires Inv-loop μ-loop
-mark-chain-requires c κs = c .before .pre
+mark-chain-requires c κs = accepted-well-formed (now (c .before .args .v)) _ (c .before .pre)
 
 -- the record is in the tables
 inside : (c : tie.In-loop Inv-loop μ-loop) → c .before .loop .i < recordLimit

@@ -1,0 +1,70 @@
+-- `records::check::check_each` meets its contract. The loop's invariant: the records from `i` on decide, and `roles` is the header's count.
+-- Assumes nothing.
+use Prim.Native.Nat.{_-_}
+use native.Mathlib.Omega.{arith}
+use mathlib.Core.Path.{_≡_, _∙_, refl, sym, ap}
+use borrow.Author.Needs.{needs}
+use Rattle.records.specs.Check.{recordCheck}
+use Rattle.records.specs.Format.{roleCount}
+use Rattle.records.specs.Outcome.{inTurn}
+use Rattle.records.specs.declared.fields.Record.{Record}
+use Rattle.records.proofs.Order.{turn-refused, turn-passed, turns-end}
+use Rattle.records.proofs.check.check_each.Statement.{statement}
+use Rattle.records.proofs.check.check_each.Tie as tie
+
+abbrev Inv-loop : tie.InvT-loop
+Inv-loop v records roles i₀ i =
+    (inTurn (recordCheck v) 1 (records - 1) ≡ inTurn (recordCheck v) i (records - i)) × (roles ≡ roleCount v)
+
+abbrev μ-loop : tie.MeasureT-loop
+μ-loop v records roles i₀ i = records - i
+
+read-at-requires : tie.Need-read-at-requires Inv-loop μ-loop
+read-at-requires c κs = omega arith
+
+loop-holds : tie.Need-loop-holds Inv-loop μ-loop
+loop-holds c = (refl, ap (λ (r : Record). r .b) (c .read-at .ensures))
+
+check-record-requires : tie.Need-check-record-requires Inv-loop μ-loop
+check-record-requires c κs = (omega arith, c .before .loop .inv .1)
+
+enum-told : tie.Need-enum-told Inv-loop μ-loop
+enum-told c = search needs
+
+enum-told-2 : tie.Need-enum-told-2 Inv-loop μ-loop
+enum-told-2 c = search needs
+
+returns : tie.Need-returns Inv-loop μ-loop
+returns c =
+    turn-refused _ _ _ _ _ _ (c .before .before .before .loop-test .taken) (c .before .before .check-record .ensures)
+    (c .enum-told2 .given .1) ∙ sym (c .before .before .before .before .loop .inv .0)
+
+add-i : tie.Need-add-i Inv-loop μ-loop
+add-i c = omega arith
+
+loop-less : tie.Need-loop-less Inv-loop μ-loop
+loop-less c = omega arith
+
+loop-again : tie.Need-loop-again Inv-loop μ-loop
+loop-again c =
+    (c .before .before .before .before .loop .inv .0 ∙ turn-passed _ _ _ _ (c .before .before .before .loop-test .taken) (c .before .before .check-record .ensures) (c .enum-told .given .1), c .before .before .before .before .loop .inv .1)
+
+returns-2 : tie.Need-returns-2 Inv-loop μ-loop
+returns-2 c = sym (c .before .loop .inv .0 ∙ turns-end _ _ _ (c .loop-test .left))
+
+pub check-each-spec : {M : Type 1} → statement M
+check-each-spec =
+    tie.close
+    (tie.spec
+    Inv-loop
+    μ-loop
+    read-at-requires
+    loop-holds
+    check-record-requires
+    enum-told
+    enum-told-2
+    returns
+    add-i
+    loop-less
+    loop-again
+    returns-2)
