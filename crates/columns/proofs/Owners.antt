@@ -9,13 +9,14 @@ use mathlib.Core.Path.{_≡_, refl, sym, ap, _∙_}
 use mathlib.Core.Bool.{Bool, true, false}
 use mathlib.Core.List.{List, []}
 use lib.ListN.{getD}
-use borrow.Author.Tests.{eqb-true, not-false}
+use borrow.Author.Tests.{not-false}
 use Rattle.records.specs.Format.{recordAt, count}
 use Rattle.records.specs.Kinds.{none, Kind, kindOf, constructOf, isStatement}
 use Rattle.records.specs.Chain.{chained}
 use Rattle.records.specs.declared.fields.Record.{Record}
 use Rattle.records.proofs.Passed.{either-left}
 use Rattle.records.proofs.Accepted.{Accepted}
+use Rattle.records.proofs.Ranges.{statement-kind}
 use Rattle.records.proofs.Constructs.{record-past, kind-past}
 use Rattle.columns.specs.Columns.{Query, queryColumns, columnsOf, states, columnsAt, columnAt, takesY}
 use Rattle.columns.proofs.Groups.{no-y, plain-takes-none}
@@ -61,7 +62,7 @@ module _ (v : List ℕ) (good : Accepted v) (q : Query) (n : ℕ) where
       at true e = rw (columns-record v q (suc i) (λ z. absurd (omega arith)) e)
       at false e =
           let statement = not-false (isStatement (recordAt v (suc i) .kind)) (either-left _ (chained v (suc i)) e) in
-          let kind : recordAt v (suc i) .kind ≡ 9 = eqb-true _ 9 statement in
+          let kind : recordAt v (suc i) .kind ≡ 9 = statement-kind (recordAt v (suc i) .kind) statement in
           sym (plain-takes-none (recordAt v (suc i)) (suc i) n (recordAt v (suc i) .kind) (λ l h. absurd (omega arith)))
           ∙ rw (columns-silent v q (suc i) (λ z. absurd (omega arith)) e)
 

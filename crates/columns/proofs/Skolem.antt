@@ -16,7 +16,7 @@ use native.Mathlib.Decide.{decLt}
 use mathlib.Core.Path.{_≡_, refl, sym, ap, subst, _∙_}
 use mathlib.Core.Bool.{Bool, true, false, Bool·beq, cond, _&&_}
 use mathlib.Core.List.{List, []}
-use borrow.Author.Tests.{eqb-true, not-true, not-false}
+use borrow.Author.Tests.{not-true, not-false}
 use Rattle.records.specs.Format.{recordAt}
 use Rattle.records.specs.Kinds.{Construct, none, top, bottom, name, negation, conjunction, disjunction, existential}
 use Rattle.records.specs.Kinds.{universal, inclusion, constructOf, isStatement}
@@ -25,6 +25,7 @@ use Rattle.records.specs.Chain.{chained}
 use Rattle.records.proofs.Passed.{clash, both-left, both-right, either-left, either-right}
 use Rattle.records.proofs.Search.{any-intro, any-elim}
 use Rattle.records.proofs.Accepted.{Accepted, All, all-at}
+use Rattle.records.proofs.Ranges.{statement-kind}
 use Rattle.records.proofs.Constructs.{stating, construct-statement, construct-inclusion}
 use Rattle.types.specs.Below.{least}
 use Rattle.types.specs.Meaning.{Interpretation, Element, Restriction, some, all, plain, restrictionOf, restrictionAt, connect}
@@ -195,7 +196,7 @@ module _ (v : List ℕ) (good : Accepted v) (q : Query) (I : Interpretation) (mo
         → belongs I v j d ≡ true → belongs I v k d ≡ true
     inclusion-within j k m stated h =
         let statement = construct-statement (recordAt v i) ∙ ap stating m in
-        let says = sym (construct-inclusion (recordAt v i) (eqb-true _ 9 statement)) ∙ m in
+        let says = sym (construct-inclusion (recordAt v i) (statement-kind (recordAt v i .kind) statement)) ∙ m in
         let first : recordAt v i .a ≡ j = cc in
         let second : recordAt v i .b ≡ k = cc in
         let within = model .satisfied i (implies-rest (isStatement (recordAt v i .kind)) (chained v i) stated statement) d at in

@@ -1,36 +1,91 @@
--- What acceptance gives the crates above: operands are earlier terms, roles are below the count, labels differ, and
--- links lead to later statements.
---   Operand, Linked, Formed, Accepted   what is told of a field, of a record, of a vocabulary
---   All, all-at                         what holds of every entry of a table holds of the entry at an index
+-- What acceptance gives the crates above: fields hold what their sorts say, so that operands are earlier terms and roles are
+-- below the count; labels differ, and links lead to later statements.
+--   All, all-at, all-map                what holds of every entry of a list
+--   Parts, partsOf, Over, over-map                a construct's class, its roles and its operands; what holds of each operand
+--   Operand, Linked, Held, Formed, Accepted   what is told of a field, of a record, of a vocabulary
 --   well-formed-vocabulary              a vocabulary that passed rows 1 to 8 is Accepted
 --   accepted-well-formed                one that the vocabulary check accepts passed them
 --   accepted-vocabulary                 and so is Accepted
 -- Assumes nothing.
 use Prim.Native.Nat.{ℕ, zero, suc, _-_, _≤_, _<_}
 use native.Mathlib.Omega.{arith}
-use mathlib.Core.Path.{_≡_, refl, sym, _∙_}
-use mathlib.Core.Bool.{Bool, true, false, not, _&&_, _||_}
+use mathlib.Core.Path.{_≡_, refl, sym, subst, _∙_}
+use mathlib.Core.Bool.{Bool, true, false, cond, not, _&&_, _||_}
 use mathlib.Core.List.{List, [], _∷_}
-use lib.ListN.{length, getD, drop}
+use lib.ListN.{length, getD}
 use mathlib.Core.Logic.{inl, inr}
 use lib.Dec.{ltb, leb, eqb}
 use borrow.Author.Tests.{ltb-true, leb-true, eqb-true, eq-eqb, not-true}
-use Rattle.records.specs.Outcome.{accepted, pass, _then_, require, inTurn}
+use Rattle.records.specs.Outcome.{accepted, pass, _then_, inTurn}
 use Rattle.records.specs.Format.{recordAt, count, firstStatement, roleCount}
 use Rattle.records.specs.Kinds.{Construct, none, top, bottom, name, negation, conjunction, disjunction, existential}
-use Rattle.records.specs.Kinds.{universal, inclusion, constructOf, nameFields, negationFields}
-use Rattle.records.specs.Kinds.{junctionFields, restrictionFields, inclusionFields, Kind, noKind, kinds, kindOf}
+use Rattle.records.specs.Kinds.{universal, inclusion, constructOf, holds, negationFields, restrictionFields}
+use Rattle.records.specs.Kinds.{Class, Silent, Connective, Name, Restriction, Statement, Kind, noKind, kinds, kindOf}
 use Rattle.records.specs.Kinds.{sortsOf, isTerm, isStatement}
-use Rattle.records.specs.Check.{headCheck, lengthCheck, headerFits, headerCheck, kindFits, kindCheck, named, labelled}
-use Rattle.records.specs.Check.{termFits}
-use Rattle.records.specs.Check.{linkFits, rowsCheck, recordCheck, nextFits, linkCheck, linksCheck}
-use Rattle.records.specs.Check.{IsWellFormed, recordsCheck, vocabularyCheck}
+use Rattle.records.specs.Check.{headCheck, lengthCheck, headerFits, headerCheck, kindCheck, named, labelled, termFits}
+use Rattle.records.specs.Check.{linkFits, fits, noFault, fault, firstFault, rowsCheck, recordCheck, nextFits, linkCheck}
+use Rattle.records.specs.Check.{linksCheck, IsWellFormed, recordsCheck, vocabularyCheck}
 use Rattle.records.specs.declared.fields.Record.{Record}
+use Rattle.records.specs.declared.kinds.Sort.{Sort}
+use Rattle.records.specs.declared.kinds.Sort.the-variants.{Spare, Term, Role, Label, Link}
+use Rattle.records.specs.declared.kinds.Sorts.{Sorts}
 use Rattle.records.proofs.Passed.{clash, Sized, length-passed, both-left, both-right, require-passed, then-passed}
-use Rattle.records.proofs.Passed.{turn-at}
-use Rattle.records.proofs.Passed.{any-at}
+use Rattle.records.proofs.Passed.{turn-at, any-at}
 use Rattle.records.proofs.Following.{Ahead, Onward}
-use Rattle.records.proofs.Rows.{name-rows, negation-rows, junction-rows, restriction-rows, inclusion-rows}
+use Rattle.records.proofs.Ranges.{statement-range, statement-kind}
+use Rattle.records.proofs.Rows.{fault-known, rows-first}
+
+-- What holds of every entry of a list holds of the entry at an index, and so does what follows from it.
+abbrev pub All : {A : Type 0} → (A → Type 0) → List A → Type 0
+All P [] = Unit {0}
+All P (x ∷ xs) = P x × All P xs
+
+pub all-at : {A : Type 0} (P : A → Type 0) (l : List A) (d : A) → All P l → (k : ℕ) → k < length l → P (getD l k d)
+all-at P [] d t k h = absurd (omega arith)
+all-at P (x ∷ xs) d t zero h = t .0
+all-at P (x ∷ xs) d t (suc k) h = all-at P xs d (t .1) k (omega arith)
+
+pub all-map : {A : Type 0} (P Q : A → Type 0) → ((x : A) → P x → Q x) → (l : List A) → All P l → All Q l
+all-map P Q f [] t = tt
+all-map P Q f (x ∷ xs) t = (f x (t .0), all-map P Q f xs (t .1))
+
+-- the same where the entry past the end is known
+all-default : {A : Type 0} (P : A → Type 0) (l : List A) (d : A) → P d → All P l → (k : ℕ) → P (getD l k d)
+all-default P [] d p t k = p
+all-default P (x ∷ xs) d p t zero = t .0
+all-default P (x ∷ xs) d p t (suc k) = all-default P xs d p (t .1) k
+
+-- A construct taken apart: what it is, the roles and the records that it speaks of.
+pub record Parts : Type 0 where
+  pub class : Class
+  pub roles : List ℕ
+  pub operands : List ℕ
+
+abbrev parts : Class → List ℕ → List ℕ → Parts
+parts class roles operands = record { class = class; roles = roles; operands = operands }
+
+abbrev pub partsOf : Construct → Parts
+partsOf none = parts Silent [] []
+partsOf top = parts Connective [] []
+partsOf bottom = parts Connective [] []
+partsOf name = parts Name [] []
+partsOf (negation a) = parts Connective [] (a ∷ [])
+partsOf (conjunction a b) = parts Connective [] (a ∷ b ∷ [])
+partsOf (disjunction a b) = parts Connective [] (a ∷ b ∷ [])
+partsOf (existential r b) = parts Restriction (r ∷ []) (b ∷ [])
+partsOf (universal r b) = parts Restriction (r ∷ []) (b ∷ [])
+partsOf (inclusion a b) = parts Statement [] (a ∷ b ∷ [])
+
+-- P of each operand of what a record says.
+abbrev pub Over : (ℕ → Type 0) → Construct → Type 0
+Over P c = All P (partsOf c .operands)
+
+pub over-map : (P Q : ℕ → Type 0) → ((j : ℕ) → P j → Q j) → (c : Construct) → Over P c → Over Q c
+over-map P Q f c t = all-map P Q f (partsOf c .operands) t
+
+-- The role of a restriction is below n.
+abbrev pub RoleBelow : ℕ → Construct → Type 0
+RoleBelow n c = All (λ r. r < n) (partsOf c .roles)
 
 -- x is the number of a term before record i.
 pub record Operand (v : List ℕ) (i x : ℕ) : Type 0 where
@@ -49,38 +104,37 @@ Later v i x = Ahead (IsStatement v) (count v) i x
 abbrev pub Linked : List ℕ → ℕ → ℕ → Type 0
 Linked v i x = Onward (IsStatement v) (count v) i x
 
+-- x fits a field of record i that holds this sort. (A link is looked at after all records.)
+abbrev pub Held : List ℕ → ℕ → Sort → ℕ → Type 0
+Held v i Spare x = x ≡ 0
+Held v i Term x = Operand v i x
+Held v i Role x = x < roleCount v
+Held v i Label x = labelled v i x ≡ false
+Held v i Link x = Unit {0}
+
+pub record Fields (v : List ℕ) (i : ℕ) (s : Sorts) (r : Record) : Type 0 where
+  pub a : Held v i (s .a) (r .a)
+  pub b : Held v i (s .b) (r .b)
+  pub next : Held v i (s .next) (r .next)
+
 -- What record i says is about earlier terms and roles below the count.
 abbrev pub Formed : List ℕ → ℕ → Construct → Type 0
-Formed v i none = ⊥
-Formed v i top = Unit {0}
-Formed v i bottom = Unit {0}
-Formed v i name = Unit {0}
-Formed v i (negation a) = Operand v i a
-Formed v i (conjunction a b) = Operand v i a × Operand v i b
-Formed v i (disjunction a b) = Operand v i a × Operand v i b
-Formed v i (existential r b) = (r < roleCount v) × Operand v i b
-Formed v i (universal r b) = (r < roleCount v) × Operand v i b
-Formed v i (inclusion a b) = Operand v i a × Operand v i b
+Formed v i c = RoleBelow (roleCount v) c × Over (Operand v i) c
 
 pub record Accepted (v : List ℕ) : Type 0 where
   pub sized : Sized v
   pub header : recordAt v 0 .kind ≡ 16
   pub roles : roleCount v ≤ 64
-  pub formed : (i : ℕ) → 0 < i → i < count v → Formed v i (constructOf (recordAt v i))
+  pub fields : (i : ℕ) → 0 < i → i < count v → Fields v i (sortsOf (recordAt v i .kind)) (recordAt v i)
   pub labels : (i j : ℕ) → j < i → i < count v
       → recordAt v i .kind ≡ 3 → recordAt v j .kind ≡ 3 → recordAt v i .a ≡ recordAt v j .a → ⊥
   pub first : Linked v 0 (firstStatement v)
   pub rises : (i : ℕ) → 0 < i → i < count v → recordAt v i .kind ≡ 9 → Linked v i (recordAt v i .next)
 
--- What holds of every entry of a table holds of the entry at an index.
-abbrev pub All : {A : Type 0} → (A → Type 0) → List A → Type 0
-All P [] = Unit {0}
-All P (x ∷ xs) = P x × All P xs
-
-pub all-at : {A : Type 0} (P : A → Type 0) (l : List A) (d : A) → All P l → (k : ℕ) → k < length l → P (getD l k d)
-all-at P [] d t k h = absurd (omega arith)
-all-at P (x ∷ xs) d t zero h = t .0
-all-at P (x ∷ xs) d t (suc k) h = all-at P xs d (t .1) k (omega arith)
+-- a field that no row refuses
+unfaulted : (ok : Bool) (m : ℕ) → m < noFault → cond ok noFault m ≡ noFault → ok ≡ true
+unfaulted true m h e = refl
+unfaulted false m h e = absurd (omega arith)
 
 module _ (v : List ℕ) (i : ℕ) where
   operand : (x : ℕ) → termFits v i x ≡ true → Operand v i x
@@ -92,11 +146,6 @@ module _ (v : List ℕ) (i : ℕ) where
         term = both-right (ltb x i) (isTerm (recordAt v x .kind)) rest;
       }
 
-  operands : (a b : ℕ) → require (termFits v i a && termFits v i b) 5 i ≡ pass → Operand v i a × Operand v i b
-  operands a b e =
-      let both = require-passed (termFits v i a && termFits v i b) 5 i e in
-      (operand a (both-left (termFits v i a) (termFits v i b) both), operand b (both-right (termFits v i a) (termFits v i b) both))
-
   linked : (x : ℕ) → linkFits v i x ≡ true → Linked v i x
   linked x e = at (eqb x 0) refl e
     where
@@ -104,103 +153,75 @@ module _ (v : List ℕ) (i : ℕ) where
       at true q h = inl (eqb-true x 0 q)
       at false q h =
           let rest = both-right (ltb i x) (ltb x (count v) && isStatement (recordAt v x .kind)) h in
+          let is = both-right (ltb x (count v)) (isStatement (recordAt v x .kind)) rest in
           inr record {
             later = ltb-true i x (both-left (ltb i x) (ltb x (count v) && isStatement (recordAt v x .kind)) h);
             within = ltb-true x (count v) (both-left (ltb x (count v)) (isStatement (recordAt v x .kind)) rest);
-            target = eqb-true _ 9 (both-right (ltb x (count v)) (isStatement (recordAt v x .kind)) rest);
+            target = statement-kind (recordAt v x .kind) is;
           }
 
-  -- rows 4 to 7 passed, kind by kind
-  junction-formed : (r : Record) → rowsCheck v i junctionFields r ≡ pass → Operand v i (r .a) × Operand v i (r .b)
-  junction-formed r e =
-      operands (r .a) (r .b)
-      (then-passed (require (eqb (r .next) 0) 4 i) (require (termFits v i (r .a) && termFits v i (r .b)) 5 i) tt (sym (junction-rows v i r) ∙ e) .1)
+  field-held : (sort : Sort) (x : ℕ) → 7 < fault v i sort x → Held v i sort x
+  field-held sort x h = at sort (fault-known v i sort x .1 h)
+    where
+      at : (sort : Sort) → fault v i sort x ≡ noFault → Held v i sort x
+      at Spare e = eqb-true x 0 (unfaulted (fits v i Spare x) 4 (omega arith) e)
+      at Term e = operand x (unfaulted (fits v i Term x) 5 (omega arith) e)
+      at Role e = ltb-true x (roleCount v) (unfaulted (fits v i Role x) 6 (omega arith) e)
+      at Label e = not-true (labelled v i x) (unfaulted (fits v i Label x) 7 (omega arith) e)
+      at Link e = tt
 
-  inclusion-formed : (r : Record) → rowsCheck v i inclusionFields r ≡ pass → Operand v i (r .a) × Operand v i (r .b)
-  inclusion-formed r e = operands (r .a) (r .b) (sym (inclusion-rows v i r) ∙ e)
+  -- rows 4 to 7 passed
+  rows-held : (s : Sorts) (r : Record) → rowsCheck v i s r ≡ pass → Fields v i s r
+  rows-held s r e =
+      let least = firstFault v i s r in
+      let none : least ≡ noFault = eqb-true least noFault (require-passed (eqb least noFault) least i (rows-first v i s r ∙ e)) in
+      record {
+        a = field-held (s .a) (r .a) (omega arith);
+        b = field-held (s .b) (r .b) (omega arith);
+        next = field-held (s .next) (r .next) (omega arith);
+      }
 
-  restriction-formed : (r : Record) → rowsCheck v i restrictionFields r ≡ pass → (r .a < roleCount v) × Operand v i (r .b)
-  restriction-formed r e =
-      let filler = require (termFits v i (r .b)) 5 i in
-      let role = require (ltb (r .a) (roleCount v)) 6 i in
-      let after = then-passed (require (eqb (r .next) 0) 4 i) (filler then role) tt (sym (restriction-rows v i r) ∙ e) .1 in
-      let both = then-passed filler role tt after in (
-        ltb-true (r .a) (roleCount v) (require-passed (ltb (r .a) (roleCount v)) 6 i (both .1)),
-        operand (r .b) (require-passed (termFits v i (r .b)) 5 i (both .0)),
-      )
-
-  negation-formed : (r : Record) → rowsCheck v i negationFields r ≡ pass → Operand v i (r .a)
-  negation-formed r e =
-      operand (r .a)
-      (require-passed (termFits v i (r .a)) 5 i
-      (then-passed (require (eqb (r .b) 0 && eqb (r .next) 0) 4 i) (require (termFits v i (r .a)) 5 i) tt (sym (negation-rows v i r) ∙ e) .1))
-
-  RowsFormed : Kind → Type 0
-  RowsFormed k = (r : Record) → rowsCheck v i (k .fields) r ≡ pass → Formed v i (k .says r)
-
-  -- the table of kinds, entry by entry from 1
-  rows-formed : (k : ℕ) → 0 < k → k ≤ 9 → RowsFormed (kindOf k)
-  unfolding kindOf RowsFormed
-  rows-formed zero l h = absurd (omega arith)
-  rows-formed (suc k) l h =
-      all-at RowsFormed (drop 1 kinds) noKind (
-        λ r e. tt,
-        (
-          λ r e. tt,
-          (
-            λ r e. tt,
-            (
-              negation-formed,
-              (
-                junction-formed,
-                (
-                  junction-formed,
-                  (
-                    restriction-formed,
-                    (
-                      restriction-formed,
-                      (inclusion-formed, tt),
-                    ),
-                  ),
-                ),
-              ),
-            ),
-          ),
-        ),
-      )
-      k
-      (omega arith)
-
-  record-formed : recordCheck v i ≡ pass → Formed v i (constructOf (recordAt v i))
-  unfolding recordCheck RowsFormed
-  record-formed e =
+  record-held : recordCheck v i ≡ pass → Fields v i (sortsOf (recordAt v i .kind)) (recordAt v i)
+  unfolding recordCheck
+  record-held e =
       let r = recordAt v i in
-      let both = then-passed (kindCheck r i) (rowsCheck v i (sortsOf (r .kind)) r) tt e in
-      let fit : kindFits r ≡ true = require-passed (kindFits r) 3 i (both .0) in
-      let least = both-left (leb 1 (r .kind)) (leb (r .kind) 9 && eqb (r .second) 0) fit in
-      let most = both-right (leb 1 (r .kind)) (leb (r .kind) 9 && eqb (r .second) 0) fit in
-      rows-formed (r .kind)
-      (leb-true 1 (r .kind) least)
-      (leb-true (r .kind) 9 (both-left (leb (r .kind) 9) (eqb (r .second) 0) most))
-      r
-      (both .1)
+      rows-held (sortsOf (r .kind)) r (then-passed (kindCheck r i) (rowsCheck v i (sortsOf (r .kind)) r) tt e .1)
 
-  record-unlabelled : recordCheck v i ≡ pass → recordAt v i .kind ≡ 3 → labelled v i (recordAt v i .a) ≡ false
-  unfolding recordCheck kindOf
-  record-unlabelled e q =
-      let r = recordAt v i in
-      let rows = then-passed (kindCheck r i) (rowsCheck v i (sortsOf (r .kind)) r) tt e .1 in
-      let named : rowsCheck v i nameFields r ≡ pass = rw q at rows in
-      let label = require (not (labelled v i (r .a))) 7 i in
-      let spare = require (eqb (r .b) 0 && eqb (r .next) 0) 4 i in
-      not-true (labelled v i (r .a))
-      (require-passed (not (labelled v i (r .a))) 7 i (then-passed spare label tt (sym (name-rows v i r) ∙ named) .1))
+  -- what the fields of a record hold, and what it says
+  abbrev FieldsFormed : Record → Kind → Type 0
+  FieldsFormed r k = Fields v i (k .fields) r → Formed v i (k .says r)
+
+  pub fields-formed : (r : Record) (k : ℕ) → FieldsFormed r (kindOf k)
+  unfolding kindOf
+  fields-formed r k =
+      all-default (FieldsFormed r) kinds noKind nothing
+      (nothing, (nothing, (nothing, (nothing, (one, (two, (two, (restricted, (restricted, (two, tt)))))))))) k
+    where
+      nothing : {s : Sorts} → Fields v i s r → Formed v i none
+      nothing f = (tt, tt)
+
+      one : Fields v i negationFields r → Formed v i (negation (r .a))
+      one f = (tt, (f .a, tt))
+
+      two : {next : Sort} → Fields v i (holds Term Term next) r → Formed v i (conjunction (r .a) (r .b))
+      two f = (tt, (f .a, (f .b, tt)))
+
+      restricted : Fields v i restrictionFields r → Formed v i (existential (r .a) (r .b))
+      restricted f = ((f .a, tt), (f .b, tt))
+
+  record-unlabelled : Fields v i (sortsOf (recordAt v i .kind)) (recordAt v i) → recordAt v i .kind ≡ 3
+      → labelled v i (recordAt v i .a) ≡ false
+  unfolding kindOf
+  record-unlabelled f q = at (recordAt v i .kind) q (f .a)
+    where
+      at : (k : ℕ) → k ≡ 3 → Held v i (sortsOf k .a) (recordAt v i .a) → labelled v i (recordAt v i .a) ≡ false
+      at k e h = subst (λ (k : ℕ). Held v i (sortsOf k .a) (recordAt v i .a)) e h
 
   record-linked : linkCheck v i ≡ pass → recordAt v i .kind ≡ 9 → Linked v i (recordAt v i .next)
   unfolding linkCheck
   record-linked e q =
       let fit : nextFits v i ≡ true = require-passed (nextFits v i) 8 i e in
-      let is : isStatement (recordAt v i .kind) ≡ true = eq-eqb _ 9 q in
+      let is : isStatement (recordAt v i .kind) ≡ true = statement-range (recordAt v i .kind) ∙ eq-eqb _ 9 q in
       linked (recordAt v i .next) (rw is at fit)
 
 -- The theorem: a vocabulary that passed rows 1 to 8.
@@ -224,9 +245,9 @@ well-formed-vocabulary v e =
       sized = sized;
       header = eqb-true (r .kind) 16 (both-left (eqb (r .kind) 16) (eqb (r .second) 1 && (leb (r .b) 64 && eqb (r .next) 0)) fit);
       roles = leb-true (r .b) 64 (both-left (leb (r .b) 64) (eqb (r .next) 0) roles);
-      formed = λ i p h. record-formed v i (passed i p h);
+      fields = λ i p h. record-held v i (passed i p h);
       labels = λ i j p h q k same.
-          let clear = record-unlabelled v i (passed i (omega arith) h) q in
+          let clear = record-unlabelled v i (record-held v i (passed i (omega arith) h)) q in
           let at = any-at (named v (recordAt v i .a)) i clear j p in
           let hit : named v (recordAt v i .a) j ≡ true = rw (eq-eqb _ 3 k, eq-eqb _ _ (sym same)) in
           clash (cc);

@@ -1,19 +1,23 @@
 -- Kinds by ranges: the tests of a `match` over kind ranges, and what they say of the definitions by kind.
 --   Run, between                                    what holds at each number of a range
---   sorts-at, sorts-pair, sorts-low, sorts-high     what the fields of the kinds of an arm hold
---   atom-role, atom-not                             which kinds are atoms
+--   kind-past, kind-tested                          past the table there is no kind; a test that holds along the table
+--   term-range, atom-range, ..                      which kinds are terms, atoms, restrictions, statements
+--   restriction-kind, statement-kind                a restriction is of kind 7 or 8, a statement of kind 9
 --   key-same                                        a key made of kind and A
 -- Assumes nothing.
 use Prim.Native.Nat.{ℕ, zero, suc, _+_, _*_, _<_, _≤_}
 use native.Mathlib.Omega.{arith}
-use native.Mathlib.Decide.{ℕ-discrete}
-use mathlib.Core.Path.{_≡_, refl, ap, sym, subst, _∙_}
-use mathlib.Core.Bool.{true, false, _&&_}
-use mathlib.Core.Logic.{_⊎_, inl, inr, ⊎-elim}
-use lib.ListN.{List·getD-eq-default}
-use lib.Dec.{eqb}
-use borrow.Author.Tests.{eq-eqb, ne-eqb}
-use Rattle.records.specs.Kinds.{Kind, noKind, kinds, kindOf, sortsOf, isAtom, constantFields}
+use native.Mathlib.Decide.{ℕ-discrete, decLt}
+use mathlib.Core.Path.{_≡_, refl, sym, subst, _∙_}
+use mathlib.Core.Bool.{Bool, true, false, Bool·beq, _&&_, _||_, and-false}
+use mathlib.Core.List.{List, [], _∷_}
+use mathlib.Core.Logic.{_⊎_, inl, inr}
+use lib.ListN.{length, getD, List·getD-eq-default}
+use lib.Dec.{leb, eqb}
+use borrow.Author.Tests.{eq-eqb, ne-eqb, lt-leb, leb-true, eqb-true}
+use Rattle.records.specs.Kinds.{Class, Silent, areTerms, areAtoms, areRestrictions, areStatements, Kind, noKind, kinds}
+use Rattle.records.specs.Kinds.{kindOf, isTerm, isAtom, isRestriction, isStatement}
+use Rattle.records.proofs.Passed.{clash, both-left, both-right}
 
 -- What holds at each of n numbers from k on.
 abbrev pub Run : (ℕ → Type 0) → ℕ → ℕ → Type 0
@@ -28,37 +32,74 @@ between P (suc n) a r k l h = at (ℕ-discrete a k) (between P n (suc a) (r .1) 
     at (yes e) next = subst P e (r .0)
     at (no e) next = next (omega arith) (omega arith)
 
--- the two kinds of a range of two
-one-of-two : (k a : ℕ) → a ≤ k → k < a + 2 → (k ≡ a) ⊎ (k ≡ a + 1)
-one-of-two k a l h = pick (ℕ-discrete k a)
+-- The table of kinds. A test of each entry with its number, which holds along the table and past it, holds of every number.
+abbrev pub tested : (ℕ → Kind → Bool) → ℕ → List Kind → Bool
+tested test n [] = true
+tested test n (k ∷ ks) = test n k && tested test (suc n) ks
+
+tested-at : (test : ℕ → Kind → Bool) (n : ℕ) (l : List Kind) → tested test n l ≡ true → (i : ℕ) → i < length l
+    → test (n + i) (getD l i noKind) ≡ true
+tested-at test n [] e i h = absurd (omega arith)
+tested-at test n (k ∷ ks) e zero h =
+    let same : n + 0 ≡ n = omega arith in rw same (both-left (test n k) (tested test (suc n) ks) e)
+tested-at test n (k ∷ ks) e (suc i) h =
+    let same : n + suc i ≡ suc n + i = omega arith in
+    rw same (tested-at test (suc n) ks (both-right (test n k) (tested test (suc n) ks) e) i (omega arith))
+
+pub kind-past : (k : ℕ) → length kinds ≤ k → kindOf k ≡ noKind
+unfolding kindOf
+kind-past k h = List·getD-eq-default kinds noKind h
+
+pub kind-tested : (test : ℕ → Kind → Bool) → tested test 0 kinds ≡ true
+    → ((k : ℕ) → length kinds ≤ k → test k noKind ≡ true) → (k : ℕ) → test k (kindOf k) ≡ true
+unfolding kindOf
+kind-tested test each past k = at (decLt k (length kinds))
   where
-    pick : Dec (k ≡ a) → (k ≡ a) ⊎ (k ≡ a + 1)
-    pick (yes e) = inl e
-    pick (no n) = inr (omega arith)
+    at : Dec (k < length kinds) → test k (kindOf k) ≡ true
+    at (yes h) = let same : 0 + k ≡ k = omega arith in rw same at (tested-at test 0 kinds each k h)
+    at (no n) = rw (kind-past k (omega arith)) (past k (omega arith))
 
--- an arm of one kind, and an arm of two kinds whose fields hold the same
-pub sorts-at : (k a : ℕ) → k ≡ a → sortsOf a ≡ sortsOf k
-sorts-at k a e = ap sortsOf (sym e)
+pub same-true : (a b : Bool) → Bool·beq a b ≡ true → a ≡ b
+same-true true true e = refl
+same-true true false e = absurd (clash (cc))
+same-true false true e = absurd (clash (cc))
+same-true false false e = refl
 
-pub sorts-pair : (k a : ℕ) → sortsOf a ≡ sortsOf (a + 1) → a ≤ k → k < a + 2 → sortsOf a ≡ sortsOf k
-sorts-pair k a same l h = ⊎-elim (sorts-at k a) (λ e. same ∙ sorts-at k (a + 1) e) (one-of-two k a l h)
+-- The numbers of the kinds of a class: two tests that agree along the table.
+module _ (are : Class → Bool) (is : ℕ → Bool) (silent : are Silent ≡ false) where
+  class-range : tested (λ n k. Bool·beq (are (k .class)) (is n)) 0 kinds ≡ true → ((k : ℕ) → length kinds ≤ k → is k ≡ false)
+      → (k : ℕ) → are (kindOf k .class) ≡ is k
+  class-range each past k =
+      same-true (are (kindOf k .class)) (is k)
+      (kind-tested (λ n k. Bool·beq (are (k .class)) (is n)) each (λ k h. rw (silent, past k h)) k)
 
-pub sorts-low : (k : ℕ) → k < 3 → constantFields ≡ sortsOf k
-unfolding kindOf
-sorts-low zero h = refl
-sorts-low (suc zero) h = refl
-sorts-low (suc (suc zero)) h = refl
-sorts-low (suc (suc (suc k))) h = absurd (omega arith)
+pub term-range : (k : ℕ) → isTerm k ≡ (leb 1 k && leb k 8)
+term-range = class-range areTerms (λ k. leb 1 k && leb k 8) refl refl (λ k h. rw (lt-leb k 8 (omega arith)) (and-false (leb 1 k)))
 
-pub sorts-high : (k : ℕ) → 10 ≤ k → constantFields ≡ sortsOf k
-unfolding kindOf
-sorts-high k h = sym (ap (λ (k : Kind). k .fields) (List·getD-eq-default kinds noKind h))
+pub restriction-range : (k : ℕ) → isRestriction k ≡ (leb 7 k && leb k 8)
+restriction-range =
+    class-range areRestrictions (λ k. leb 7 k && leb k 8) refl refl (λ k h. rw (lt-leb k 8 (omega arith)) (and-false (leb 7 k)))
 
-pub atom-role : (k : ℕ) → 7 ≤ k → k < 9 → true ≡ isAtom k
-atom-role k l h = ⊎-elim (λ e. rw e) (λ e. rw e) (one-of-two k 7 l h)
+pub restriction-kind : (k : ℕ) → isRestriction k ≡ true → (k ≡ 7) ⊎ (k ≡ 8)
+restriction-kind k e = at (ℕ-discrete k 7)
+  where
+    both : (leb 7 k && leb k 8) ≡ true
+    both = sym (restriction-range k) ∙ e
 
-pub atom-not : (k : ℕ) → (k ≡ 3 → ⊥) → (k ≡ 7 → ⊥) → (k ≡ 8 → ⊥) → false ≡ isAtom k
-atom-not k a b c = rw (ne-eqb k 3 a, ne-eqb k 7 b, ne-eqb k 8 c)
+    at : Dec (k ≡ 7) → (k ≡ 7) ⊎ (k ≡ 8)
+    at (yes q) = inl q
+    at (no q) = inr (omega (arith, leb-true 7 k (both-left (leb 7 k) (leb k 8) both), leb-true k 8 (both-right (leb 7 k) (leb k 8) both)))
+
+pub atom-range : (k : ℕ) → isAtom k ≡ (eqb k 3 || (leb 7 k && leb k 8))
+atom-range =
+    class-range areAtoms (λ k. eqb k 3 || (leb 7 k && leb k 8)) refl refl
+    (λ k h. rw (ne-eqb k 3 (λ e. omega arith), lt-leb k 8 (omega arith)) (and-false (leb 7 k)))
+
+pub statement-range : (k : ℕ) → isStatement k ≡ eqb k 9
+statement-range = class-range areStatements (λ k. eqb k 9) refl refl (λ k h. ne-eqb k 9 (λ e. omega arith))
+
+pub statement-kind : (k : ℕ) → isStatement k ≡ true → k ≡ 9
+statement-kind k e = eqb-true k 9 (sym (statement-range k) ∙ e)
 
 -- Kind and A in one number: equal keys have equal parts.
 pub key-same : (k a l x y : ℕ) → k < 256 → x ≡ k + 65536 * a → y ≡ 3 + 65536 * l → eqb x y ≡ (eqb k 3 && eqb a l)

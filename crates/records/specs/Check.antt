@@ -1,14 +1,17 @@
 -- Rows 1 to 8 of the table of refusals, and the vocabulary check.
-use Prim.Native.Nat.{ℕ, zero, suc, _-_, _%_}
+use Prim.Native.Nat.{ℕ, zero, suc, _-_, _%_, min}
 use mathlib.Core.Path.{_≡_}
-use mathlib.Core.Bool.{Bool, false, not, _&&_, _||_}
+use mathlib.Core.Bool.{Bool, false, cond, not, _&&_, _||_}
 use mathlib.Core.List.{List}
 use lib.ListN.{length}
 use lib.Dec.{ltb, leb, eqb}
 use Rattle.records.specs.Outcome.{Outcome, Check, accepted, pass, _then_, require, inTurn}
 use Rattle.records.specs.Format.{recordAt, count, firstStatement, roleCount}
-use Rattle.records.specs.Kinds.{Sort, Spare, Term, Role, Label, Link, Sorts, isTerm, isStatement, sortsOf}
+use Rattle.records.specs.Kinds.{isTerm, isStatement, sortsOf, kinds}
 use Rattle.records.specs.declared.fields.Record.{Record}
+use Rattle.records.specs.declared.kinds.Sort.{Sort}
+use Rattle.records.specs.declared.kinds.Sort.the-variants.{Spare, Term, Role, Label, Link}
+use Rattle.records.specs.declared.kinds.Sorts.{Sorts}
 
 -- Row 1: "under 8, over 4,096 or no multiple of 8"; "At most 512 records, header included."
 abbrev pub lengthFits : List ℕ → Bool
@@ -26,7 +29,7 @@ headerCheck v = require (headerFits (recordAt v 0)) 2 0
 
 -- Row 3: "kind not 1 to 9, or second byte"; "Other records have second byte 0."
 abbrev pub kindFits : Record → Bool
-kindFits r = leb 1 (r .kind) && (leb (r .kind) 9 && eqb (r .second) 0)
+kindFits r = leb 1 (r .kind) && (ltb (r .kind) (length kinds) && eqb (r .second) 0)
 
 abbrev pub kindCheck : Record → ℕ → Check
 kindCheck r i = require (kindFits r) 3 i
@@ -82,6 +85,17 @@ rowCheck v i n s r = require (rowFits v i n s r) n i
 -- Rows 4 to 7, at one record
 abbrev pub rowsCheck : List ℕ → ℕ → Sorts → Record → Check
 rowsCheck v i s r = rowCheck v i 4 s r then rowCheck v i 5 s r then rowCheck v i 6 s r then rowCheck v i 7 s r
+
+-- What the code's check of a field answers: which of the rows 4 to 7 refuses x in a field of record i that holds this sort, or
+-- that none does. Of a record the smallest is the first that applies (proofs/Rows.antt). Row 8 comes after all records.
+abbrev pub noFault : ℕ
+noFault = 255
+
+abbrev pub fault : List ℕ → ℕ → Sort → ℕ → ℕ
+fault v i sort x = cond (eqb (row sort) 8 || fits v i sort x) noFault (row sort)
+
+abbrev pub firstFault : List ℕ → ℕ → Sorts → Record → ℕ
+firstFault v i s r = min (fault v i (s .a) (r .a)) (min (fault v i (s .b) (r .b)) (fault v i (s .next) (r .next)))
 
 -- Rows 3 to 7
 abbrev pub fieldsCheck : List ℕ → ℕ → Record → Check

@@ -5,21 +5,20 @@ use crate::answers::count_after;
 use crate::answers::pass_if;
 use crate::fields::Record;
 use crate::fields::read_at;
+use crate::kinds::Sort;
 use crate::kinds::is_statement;
 use crate::kinds::is_term;
+use crate::kinds::sorts_of;
 ghost use mathlib.Core.Path.{_≡_};
-ghost use Prim.Native.Nat.{ℕ, _+_, _*_, _-_, _≤_};
-ghost use mathlib.Core.Bool.{_&&_};
-ghost use mathlib.Core.List.{List};
-ghost use lib.Dec.{eqb};
+ghost use Prim.Native.Nat.{ℕ, _+_, _*_, _-_, _≤_, min};
+ghost use mathlib.Core.Bool.{cond};
 ghost use lib.ListN.{length};
 ghost use Rattle.records.specs.Outcome.{inTurn};
 ghost use Rattle.records.specs.Answers.{checked, counted};
 ghost use Rattle.records.specs.Format.{recordAt, recordOf, roleCount, count};
-ghost use Rattle.records.specs.Kinds.{sortsOf, constantFields, nameFields, negationFields, junctionFields};
-ghost use Rattle.records.specs.Kinds.{restrictionFields, inclusionFields};
+ghost use Rattle.records.specs.Kinds.{sortsOf};
 ghost use Rattle.records.specs.Check.{lengthFits, lengthCheck, headerFits, headerCheck, kindFits, kindCheck, named};
-ghost use Rattle.records.specs.Check.{labelled, termFits, linkFits, rowsCheck, fieldsCheck, recordCheck, linkCheck};
+ghost use Rattle.records.specs.Check.{labelled, termFits, linkFits, noFault, fault, rowsCheck, fieldsCheck, recordCheck, linkCheck};
 ghost use Rattle.records.specs.Check.{linksCheck, recordsCheck, vocabularyCheck};
 
 // Row 1: the length.
@@ -148,107 +147,49 @@ fn link_fits(v: &[u8], i: usize, next: u16) -> bool
     false
 }
 
-fn terms_fit(v: &[u8], i: usize, a: u16, b: u16) -> bool
-    requires { ⌜ 8 * i ≤ length (now v) ⌝ }
-    ensures { λ r. ⌜ r ≡ (termFits (now (v .entry)) i a && termFits (now (v .entry)) i b) ⌝ }
+// The row that has something against a field, unless it fits.
+fn fault_unless(fits: bool, row: u8) -> u8
+    ensures { λ r. ⌜ r ≡ cond fits noFault row ⌝ }
 {
-    if !term_fits(v, i, a) {
-        return false;
-    }
-    term_fits(v, i, b)
+    if fits { Sort::NO_FAULT } else { row }
 }
 
-// Row 4: whether fields that hold nothing are zero. For a field that holds something, 0 is passed.
-fn spare_fits(a: u16, b: u16, next: u16) -> bool
-    ensures { λ r. ⌜ r ≡ (eqb a 0 && (eqb b 0 && eqb next 0)) ⌝ }
-{
-    if a != 0 {
-        return false;
-    }
-    if b != 0 {
-        return false;
-    }
-    next == 0
-}
-
-// Whatever the vocabulary: top and bottom name no other record.
-fn check_constant(i: usize, fields: Record) -> Checked
-    ensures { λ r. ⌜ ((v : List ℕ) → checked r ≡ rowsCheck v i constantFields fields) ⌝ }
-{
-    pass_if(spare_fits(fields.a, fields.b, fields.next), 4, i)
-}
-
-fn check_name(v: &[u8], i: usize, fields: Record) -> Checked
-    requires { ⌜ 8 * i ≤ length (now v) ⌝ }
-    ensures { λ r. ⌜ checked r ≡ rowsCheck (now (v .entry)) i nameFields fields ⌝ }
-{
-    let spare = pass_if(spare_fits(0, fields.b, fields.next), 4, i);
-    let Checked::Fine = spare else {
-        return spare;
-    };
-    pass_if(!is_labelled(v, i, fields.a), 7, i)
-}
-
-fn check_negation(v: &[u8], i: usize, fields: Record) -> Checked
-    requires { ⌜ 8 * i ≤ length (now v) ⌝ }
-    ensures { λ r. ⌜ checked r ≡ rowsCheck (now (v .entry)) i negationFields fields ⌝ }
-{
-    let spare = pass_if(spare_fits(0, fields.b, fields.next), 4, i);
-    let Checked::Fine = spare else {
-        return spare;
-    };
-    pass_if(term_fits(v, i, fields.a), 5, i)
-}
-
-fn check_junction(v: &[u8], i: usize, fields: Record) -> Checked
-    requires { ⌜ 8 * i ≤ length (now v) ⌝ }
-    ensures { λ r. ⌜ checked r ≡ rowsCheck (now (v .entry)) i junctionFields fields ⌝ }
-{
-    let spare = pass_if(spare_fits(0, 0, fields.next), 4, i);
-    let Checked::Fine = spare else {
-        return spare;
-    };
-    pass_if(terms_fit(v, i, fields.a, fields.b), 5, i)
-}
-
-fn check_restriction(v: &[u8], i: usize, roles: u16, fields: Record) -> Checked
+// One field of record i: which of the rows 4 to 7 refuses x where this sort is held. Row 8 comes after all records.
+fn find_fault(v: &[u8], i: usize, roles: u16, sort: Sort, x: u16) -> u8
     requires { ⌜ 8 * i ≤ length (now v) ⌝ }
     requires { ⌜ roles ≡ roleCount (now v) ⌝ }
-    ensures { λ r. ⌜ checked r ≡ rowsCheck (now (v .entry)) i restrictionFields fields ⌝ }
+    ensures { λ r. ⌜ r ≡ fault (now (v .entry)) i sort x ⌝ }
 {
-    let spare = pass_if(spare_fits(0, 0, fields.next), 4, i);
-    let Checked::Fine = spare else {
-        return spare;
-    };
-    let filler = pass_if(term_fits(v, i, fields.b), 5, i);
-    let Checked::Fine = filler else {
-        return filler;
-    };
-    pass_if(fields.a < roles, 6, i)
+    match sort {
+        Sort::Spare => fault_unless(x == 0, 4),
+        Sort::Term => fault_unless(term_fits(v, i, x), 5),
+        Sort::Role => fault_unless(x < roles, 6),
+        Sort::Label => fault_unless(!is_labelled(v, i, x), 7),
+        Sort::Link => Sort::NO_FAULT,
+    }
 }
 
-fn check_inclusion(v: &[u8], i: usize, fields: Record) -> Checked
-    requires { ⌜ 8 * i ≤ length (now v) ⌝ }
-    ensures { λ r. ⌜ checked r ≡ rowsCheck (now (v .entry)) i inclusionFields fields ⌝ }
+fn smaller(x: u8, y: u8) -> u8
+    ensures { λ r. ⌜ r ≡ min x y ⌝ }
 {
-    pass_if(terms_fit(v, i, fields.a, fields.b), 5, i)
+    if x < y { x } else { y }
 }
 
-// Rows 4 to 7: the kind selects the field checks.
+// Rows 4 to 7: the kind selects what the fields hold; the smallest fault is of the first row that applies.
 fn check_rows(v: &[u8], i: usize, roles: u16, fields: Record) -> Checked
     requires { ⌜ 8 * i ≤ length (now v) ⌝ }
     requires { ⌜ roles ≡ roleCount (now v) ⌝ }
     ensures { λ r. ⌜ checked r ≡ rowsCheck (now (v .entry)) i (sortsOf (fields .kind)) fields ⌝ }
 {
-    let kind = fields.kind;
-    match kind {
-        3 => check_name(v, i, fields),
-        4 => check_negation(v, i, fields),
-        5..=6 => check_junction(v, i, fields),
-        7..=8 => check_restriction(v, i, roles, fields),
-        9 => check_inclusion(v, i, fields),
-        _ => check_constant(i, fields),
-    }
+    let sorts = sorts_of(fields.kind);
+    let first = sorts.a;
+    let second = sorts.b;
+    let third = sorts.next;
+    let a = find_fault(v, i, roles, first, fields.a);
+    let b = find_fault(v, i, roles, second, fields.b);
+    let next = find_fault(v, i, roles, third, fields.next);
+    let fault = smaller(a, smaller(b, next));
+    pass_if(fault == Sort::NO_FAULT, fault, i)
 }
 
 // Rows 3 to 7 at record i, whose eight bytes are `part`.

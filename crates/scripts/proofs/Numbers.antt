@@ -191,13 +191,13 @@ small-columns i n top h k e l = ((h, tt), tt)
 small-columns i n bottom h k e l = ((h, tt), tt)
 small-columns i n name h k e l = tt
 small-columns i n (negation j) h k e l =
-    let g : j < 512 = omega (arith, e) in
+    let g : j < 512 = omega (arith, e .0) in
     ((h, (g, tt)), ((h, (g, tt)), tt))
-small-columns i n (conjunction j m) h k e l = small-junction i j m h e
-small-columns i n (disjunction j m) h k e l = small-junction i j m h e
-small-columns i n (existential r j) h k e l = small-restriction i r j h (omega (arith, l)) e
-small-columns i n (universal r j) h k e l = small-restriction i r j h (omega (arith, l)) e
-small-columns i n (inclusion j m) h k e l = ((omega (arith, e .0), (omega (arith, e .1), tt)), tt)
+small-columns i n (conjunction j m) h k e l = small-junction i j m h (e .0, e .1 .0)
+small-columns i n (disjunction j m) h k e l = small-junction i j m h (e .0, e .1 .0)
+small-columns i n (existential r j) h k e l = small-restriction i r j h (omega (arith, l .0)) (e .0)
+small-columns i n (universal r j) h k e l = small-restriction i r j h (omega (arith, l .0)) (e .0)
+small-columns i n (inclusion j m) h k e l = ((omega (arith, e .0), (omega (arith, e .1 .0), tt)), tt)
 
 small-at : (cs : List Column) → AllSmall cs → (n : ℕ) → All Small (getD cs n [])
 small-at [] h n = tt

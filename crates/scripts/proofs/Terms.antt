@@ -26,6 +26,7 @@ use lib.ListN.{length, take, drop-of-length-le}
 use lib.Dec.{ltb, eqb}
 use borrow.Author.Tests.{ltb-true, eqb-true, eq-eqb, ne-eqb, not-true}
 use Rattle.records.specs.Format.{recordAt, count, wordAt}
+use Rattle.records.specs.Kinds as vocabulary
 use Rattle.records.proofs.Passed.{clash, both-left, both-right, any-at}
 use Rattle.records.proofs.Ranges.{between}
 use Rattle.records.proofs.Accepted.{Accepted}
@@ -193,10 +194,10 @@ module _ (v s : List ℕ) (good : Accepted v) (f : Formed v s) where
   term-positive (suc n) t = omega arith
 
   function-positive : (k : ℕ) → isFunction v k ≡ true → 0 < k
+  unfolding vocabulary.kindOf
   function-positive zero e =
-      let kind = recordAt v 0 .kind in
-      let is = both-right (ltb 0 (count v)) (eqb kind 7 || eqb kind 8) e in
-      let z : (eqb 16 7 || eqb 16 8) ≡ true = subst (λ (k : ℕ). (eqb k 7 || eqb k 8) ≡ true) (good .header) is in
+      let is = both-right (ltb 0 (count v)) (vocabulary.isRestriction (recordAt v 0 .kind)) e in
+      let z : vocabulary.isRestriction 16 ≡ true = subst (λ (k : ℕ). vocabulary.isRestriction k ≡ true) (good .header) is in
       absurd (clash (cc))
   function-positive (suc k) e = omega arith
 
@@ -223,8 +224,7 @@ module _ (v s : List ℕ) (good : Accepted v) (f : Formed v s) where
       let rest = both-right (isFunction v w1) (earlierTerm s n w2 && not (repeated s n w1 w2)) fits in
       let earlier = both-left (earlierTerm s n w2) (not (repeated s n w1 w2)) rest in
       let clear = not-true (repeated s n w1 w2) (both-right (earlierTerm s n w2) (not (repeated s n w1 w2)) rest) in
-      let kind = recordAt v w1 .kind in
-      let below = ltb-true w1 (count v) (both-left (ltb w1 (count v)) (eqb kind 7 || eqb kind 8) function) in
+      let below = ltb-true w1 (count v) (both-left (ltb w1 (count v)) (vocabulary.isRestriction (recordAt v w1 .kind)) function) in
       record {
         kind = e;
         positive = function-positive w1 function;

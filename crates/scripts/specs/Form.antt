@@ -6,6 +6,7 @@ use lib.ListN.{length}
 use lib.Dec.{ltb, leb, eqb}
 use Rattle.records.specs.Outcome.{Check, _then_, require, inTurn}
 use Rattle.records.specs.Format.{recordAt, count}
+use Rattle.records.specs.Kinds.{isRestriction}
 use Rattle.records.specs.Check.{anyBelow}
 use Rattle.types.specs.Compare.{termCheck}
 use Rattle.columns.specs.Columns.{Query, Column, columnAt, takesY}
@@ -49,7 +50,7 @@ earlierTerm s i t = ltb t i && isTerm (entryAt s t .w0)
 
 -- "w1 = i, of kind 7 or 8"
 abbrev pub isFunction : List ℕ → ℕ → Bool
-isFunction v f = ltb f (count v) && (eqb (recordAt v f .kind) 7 || eqb (recordAt v f .kind) 8)
+isFunction v f = ltb f (count v) && isRestriction (recordAt v f .kind)
 
 -- "a repeat of an earlier record is refused"
 abbrev pub repeats : List ℕ → ℕ → ℕ → ℕ → Bool

@@ -10,6 +10,7 @@ use records::answers::Checked;
 use records::answers::pass_if;
 use records::fields::Record;
 use records::fields::read_at;
+use records::kinds::is_restriction;
 use types::check_term;
 ghost use mathlib.Core.Path.{_≡_};
 ghost use mathlib.Core.Bool.{false};
@@ -135,11 +136,7 @@ fn is_function(v: &[u8], f: u16) -> bool
     if at >= v.len() / Record::SIZE {
         return false;
     }
-    let kind = read_at(v, at).kind;
-    match kind {
-        7..=8 => true,
-        _ => false,
-    }
+    is_restriction(read_at(v, at).kind)
 }
 
 // A record's kind, function and inner term in one number, so that one comparison tells of all.

@@ -13,7 +13,6 @@ use mathlib.Core.Path.{_≡_, refl, sym, ap, subst}
 use mathlib.Core.Bool.{Bool, true, false, not, _&&_, _||_}
 use lib.ListN.{List·getD-eq-default}
 use lib.Dec.{eqb}
-use borrow.Author.Tests.{ne-eqb}
 use Rattle.records.specs.Kinds.{kindOf, constructOf, isAtom}
 use Rattle.records.specs.declared.fields.Record.{Record}
 use Rattle.records.proofs.Ranges.{between}
@@ -21,7 +20,6 @@ use Rattle.records.proofs.Passed.{clash}
 use Rattle.records.proofs.Constructs.{Earlier, kind-past}
 use Rattle.types.specs.Below.{bit}
 use Rattle.types.specs.Meaning.{connect}
-use Rattle.types.specs.Words.{isRestriction}
 use Rattle.types.specs.Rules.{Shape, shape, shapes, shapeOf, ruleOf, firstOf, secondOf, select}
 
 shape-past : (k : ℕ) → 10 ≤ k → shapeOf k ≡ shape 0 false false
@@ -65,7 +63,7 @@ module _ (x n : ℕ) where
       at (no h) = rw (shape-past k (omega arith))
 
   pub first-atom : (k : ℕ) → isAtom k ≡ true → firstOf k x n ≡ n
-  unfolding shapeOf
+  unfolding shapeOf kindOf
   first-atom k = at (decLt k 10)
     where
       Same : ℕ → Type 0
@@ -204,14 +202,14 @@ operands-earlier r i n l = at (decLt (r .kind) 10)
               (
                 none,
                 (
-                  λ e. (omega arith, omega arith),
+                  λ e. (omega (arith, e .0), omega arith),
                   (
-                    λ e. (omega (arith, e .0), omega (arith, e .1)),
+                    λ e. (omega (arith, e .0), omega (arith, e .1 .0)),
                     (
-                      λ e. (omega (arith, e .0), omega (arith, e .1)),
+                      λ e. (omega (arith, e .0), omega (arith, e .1 .0)),
                       (
-                        λ e. (l, omega arith),
-                        (λ e. (l, omega arith), (λ e. (omega (arith, e .0), omega (arith, e .1)), tt)),
+                        λ e. (l, omega (arith, e .0)),
+                        (λ e. (l, omega (arith, e .0)), (λ e. (omega (arith, e .0), omega (arith, e .1 .0)), tt)),
                       ),
                     ),
                   ),
@@ -223,7 +221,7 @@ operands-earlier r i n l = at (decLt (r .kind) 10)
     at (no m) = λ e. rw (shape-past (r .kind) (omega arith)) (l, omega arith)
 
 pub rule-atom : (k : ℕ) → eqb (ruleOf k) 240 ≡ isAtom k
-unfolding shapeOf
+unfolding shapeOf kindOf
 rule-atom k = at (decLt k 10)
   where
     Same : ℕ → Type 0
@@ -232,13 +230,4 @@ rule-atom k = at (decLt k 10)
     at : Dec (k < 10) → Same k
     at (yes h) =
         between Same 10 0 (refl, (refl, (refl, (refl, (refl, (refl, (refl, (refl, (refl, (refl, tt)))))))))) k (omega arith) h
-    at (no n) =
-        rw (
-          shape-past k (omega arith),
-          ne-eqb k 3 (λ e. n (omega arith)),
-          ne-eqb k 7 (λ e. n (omega arith)),
-          ne-eqb k 8 (λ e. n (omega arith)),
-        )
-
-pub restriction-range : (k : ℕ) → 7 ≤ k → k < 9 → true ≡ isRestriction k
-restriction-range = between (λ k. true ≡ isRestriction k) 2 7 (refl, (refl, tt))
+    at (no n) = rw (shape-past k (omega arith), kind-past k (omega arith))

@@ -12,10 +12,11 @@ use mathlib.Core.Bool.{Bool, true, false, Bool·beq, not, _||_}
 use mathlib.Core.List.{List}
 use lib.ListN.{getD}
 use lib.Dec.{eqb}
-use borrow.Author.Tests.{eqb-true}
+use mathlib.Core.Logic.{_⊎_, inl, inr}
 use Rattle.records.specs.Format.{recordAt, count}
 use Rattle.records.specs.Chain.{chained}
 use Rattle.records.proofs.Accepted.{Accepted, accepted-vocabulary}
+use Rattle.records.proofs.Ranges.{restriction-kind}
 use Rattle.records.proofs.Chains.{chain-statement}
 use Rattle.types.specs.declared.profile.Profile.{Profile}
 use Rattle.types.specs.Below.{allBelow, number}
@@ -23,7 +24,7 @@ use Rattle.types.specs.Types.{truth}
 use Rattle.types.specs.Survivors.{fits}
 use Rattle.types.specs.Rules.{holding}
 use Rattle.types.specs.Words.{width, restriction, signed, demand, offer, Stating, Prepared, differ, profileAt}
-use Rattle.types.proofs.Tests.{either-rest, implies-true, implies-rest, same-truth}
+use Rattle.types.proofs.Tests.{implies-true, implies-rest, same-truth}
 use Rattle.types.proofs.Below.{all-intro, all-at}
 use Rattle.types.proofs.Bits.{number-cong}
 use Rattle.types.proofs.Listing.{ListedBelow}
@@ -41,13 +42,11 @@ module _ (v rules firsts seconds statements : List ℕ) (found : ℕ) (places fi
   place-below m h = omega (arith, p .listed m h, restriction-sound v (count v) m h .before)
 
   filler-earlier : (i : ℕ) → restricts v i ≡ true → recordAt v i .b < i
-  filler-earlier i h = at (eqb (recordAt v i .kind) 7) refl
+  filler-earlier i h = at (restriction-kind (recordAt v i .kind) h)
     where
-      at : (x : Bool) → eqb (recordAt v i .kind) 7 ≡ x → recordAt v i .b < i
-      at true e = some-earlier v prepared-good i _ _ (says-some v i (eqb-true _ 7 e))
-      at false e =
-          all-earlier v prepared-good i _ _
-          (says-all v i (eqb-true _ 8 (either-rest (eqb (recordAt v i .kind) 7) (eqb (recordAt v i .kind) 8) h e)))
+      at : (recordAt v i .kind ≡ 7) ⊎ (recordAt v i .kind ≡ 8) → recordAt v i .b < i
+      at (inl e) = some-earlier v prepared-good i _ _ (says-some v i e)
+      at (inr e) = all-earlier v prepared-good i _ _ (says-all v i e)
 
   pub filler-below : (m : ℕ) → m < width v → getD fillers m 0 < count v
   filler-below m h =

@@ -16,7 +16,7 @@ use lib.ListN.{length, getD, length-append, List·getD-append}
 use lib.Seq.{getD-append-seam}
 use lib.Dec.{eqb}
 use Rattle.records.specs.Format.{recordAt, count}
-use Rattle.records.specs.Kinds.{isAtom}
+use Rattle.records.specs.Kinds.{Class, Silent, Connective, Name, Restriction, Statement, areAtoms, areRestrictions, kindOf, isAtom}
 use Rattle.records.proofs.Passed.{clash}
 use Rattle.records.specs.Atoms.{atoms, digit, rank}
 use Rattle.types.specs.Below.{allBelow}
@@ -36,12 +36,14 @@ append-last true l n e = getD-append-seam l n [] 0
 append-last false l n e = absurd (clash (cc))
 
 restricts-atom : (k : ℕ) → digit (isRestriction k) ≤ digit (isAtom k)
-restricts-atom k = at (eqb k 3) (isRestriction k)
+restricts-atom k = at (kindOf k .class)
   where
-    at : (a b : Bool) → digit b ≤ digit (a || b)
-    at true true = omega arith
-    at true false = omega arith
-    at false b = omega arith
+    at : (c : Class) → digit (areRestrictions c) ≤ digit (areAtoms c)
+    at Silent = omega arith
+    at Connective = omega arith
+    at Name = omega arith
+    at Restriction = omega arith
+    at Statement = omega arith
 
 -- Whether record i is a restriction; how many of them are before n; the m-th of those.
 abbrev pub restricts : List ℕ → ℕ → Bool

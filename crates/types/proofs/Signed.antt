@@ -14,13 +14,13 @@ use mathlib.Core.Bool.{Bool, true, false, not, _||_, Bool·not-not}
 use mathlib.Core.List.{List}
 use mathlib.Core.Logic.{_⊎_, inl, inr}
 use lib.Dec.{eqb}
-use borrow.Author.Tests.{eqb-true}
 use Rattle.records.specs.Format.{recordAt, count, roleCount}
 use Rattle.records.specs.Kinds.{Construct, none, top, bottom, name, negation, conjunction, disjunction, existential}
-use Rattle.records.specs.Kinds.{universal, inclusion, constructOf, kindOf, isAtom}
+use Rattle.records.specs.Kinds.{universal, inclusion, constructOf, kindOf}
 use Rattle.records.proofs.Passed.{clash}
 use Rattle.records.proofs.Accepted.{Accepted}
-use Rattle.records.proofs.Constructs.{atomic, construct-atom, RoleBelow, construct-role}
+use Rattle.records.proofs.Constructs.{restricting, construct-restriction, RoleBelow, construct-role}
+use Rattle.records.proofs.Ranges.{restriction-kind}
 use Rattle.types.specs.Meaning.{some, all, plain, restrictionOf, restrictionAt}
 use Rattle.types.specs.Types.{truth, allows, witnessed, met}
 use Rattle.types.specs.Words.{isRestriction, signed, negated}
@@ -35,25 +35,18 @@ gives v s i = signed (negated v i) (truth v s (recordAt v i .b))
 abbrev pub apart : List ℕ → ℕ → ℕ → Bool
 apart v r i = not (eqb (recordAt v i .a) r)
 
--- what is no atom restricts nothing
-inert : (c : Construct) → atomic c ≡ false → restrictionOf c ≡ plain
+-- what is no restriction restricts nothing
+inert : (c : Construct) → restricting c ≡ false → restrictionOf c ≡ plain
 inert none e = refl
 inert top e = refl
 inert bottom e = refl
-inert name e = absurd (clash (cc))
+inert name e = refl
 inert (negation a) e = refl
 inert (conjunction a b) e = refl
 inert (disjunction a b) e = refl
 inert (existential r b) e = absurd (clash (cc))
 inert (universal r b) e = absurd (clash (cc))
 inert (inclusion a b) e = refl
-
-restriction-kind : (k : ℕ) → isRestriction k ≡ true → (k ≡ 7) ⊎ (k ≡ 8)
-restriction-kind k e = at (eqb k 7) refl e
-  where
-    at : (b : Bool) → eqb k 7 ≡ b → (b || eqb k 8) ≡ true → (k ≡ 7) ⊎ (k ≡ 8)
-    at true q h = inl (eqb-true k 7 q)
-    at false q h = inr (eqb-true k 8 h)
 
 module _ (v : List ℕ) (i : ℕ) where
   pub says-some : recordAt v i .kind ≡ 7 → restrictionAt v i ≡ some (recordAt v i .a) (recordAt v i .b)
@@ -65,14 +58,7 @@ module _ (v : List ℕ) (i : ℕ) where
   says-all e = ap (λ (k : ℕ). restrictionOf (kindOf k .says (recordAt v i))) e
 
   pub says-plain : restricts v i ≡ false → restrictionAt v i ≡ plain
-  unfolding kindOf
-  says-plain e = at (eqb (recordAt v i .kind) 3) refl
-    where
-      at : (b : Bool) → eqb (recordAt v i .kind) 3 ≡ b → restrictionAt v i ≡ plain
-      at true q = ap (λ (k : ℕ). restrictionOf (kindOf k .says (recordAt v i))) (eqb-true (recordAt v i .kind) 3 q)
-      at false q =
-          let other : isAtom (recordAt v i .kind) ≡ false = rw (q, e) in
-          inert (constructOf (recordAt v i)) (sym (construct-atom (recordAt v i)) ∙ other)
+  says-plain e = inert (constructOf (recordAt v i)) (sym (construct-restriction (recordAt v i)) ∙ e)
 
   pub allows-plain : (q t s : ℕ) → restricts v i ≡ false → allows v q t s i (restrictionAt v i) ≡ true
   allows-plain q t s e = ap (allows v q t s i) (says-plain e)
@@ -100,6 +86,7 @@ module _ (v : List ℕ) (i : ℕ) where
 
 -- the header of an accepted vocabulary is no restriction
 header-plain : (v : List ℕ) → Accepted v → restricts v 0 ≡ true → ⊥
+unfolding kindOf
 header-plain v good e = at (recordAt v 0 .kind) (good .header) e
   where
     at : (k : ℕ) → k ≡ 16 → isRestriction k ≡ true → ⊥
@@ -116,5 +103,5 @@ role-below v good (suc i) l e = at (restriction-kind (recordAt v (suc i) .kind) 
         (construct-role v good (suc i) (omega arith) l)
 
     at : (recordAt v (suc i) .kind ≡ 7) ⊎ (recordAt v (suc i) .kind ≡ 8) → recordAt v (suc i) .a < roleCount v
-    at (inl k) = says 7 k
-    at (inr k) = says 8 k
+    at (inl k) = says 7 k .0
+    at (inr k) = says 8 k .0

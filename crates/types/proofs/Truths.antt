@@ -15,7 +15,7 @@ use mathlib.Core.Bool.{Bool, true, false, not, _&&_, _||_}
 use mathlib.Core.List.{List}
 use Rattle.records.specs.Format.{recordAt, count}
 use Rattle.records.specs.Kinds.{Construct, none, top, bottom, name, negation, conjunction, disjunction, existential}
-use Rattle.records.specs.Kinds.{universal, inclusion, constructOf, isAtom}
+use Rattle.records.specs.Kinds.{universal, inclusion, constructOf, kindOf, isAtom}
 use Rattle.records.specs.Check.{anyBelow}
 use Rattle.records.specs.Chain.{chained}
 use Rattle.records.proofs.Passed.{clash}
@@ -36,12 +36,12 @@ connect-cong i none x y f g a e h = refl
 connect-cong i top x y f g a e h = refl
 connect-cong i bottom x y f g a e h = refl
 connect-cong i name x y f g a e h = a refl
-connect-cong i (negation p) x y f g a e h = ap not (h p e)
-connect-cong i (conjunction p q) x y f g a e h = ap₂ _&&_ (h p (e .0)) (h q (e .1))
-connect-cong i (disjunction p q) x y f g a e h = ap₂ _||_ (h p (e .0)) (h q (e .1))
+connect-cong i (negation p) x y f g a e h = ap not (h p (e .0))
+connect-cong i (conjunction p q) x y f g a e h = ap₂ _&&_ (h p (e .0)) (h q (e .1 .0))
+connect-cong i (disjunction p q) x y f g a e h = ap₂ _||_ (h p (e .0)) (h q (e .1 .0))
 connect-cong i (existential r b) x y f g a e h = a refl
 connect-cong i (universal r b) x y f g a e h = a refl
-connect-cong i (inclusion p q) x y f g a e h = ap₂ (λ (p q : Bool). not p || q) (h p (e .0)) (h q (e .1))
+connect-cong i (inclusion p q) x y f g a e h = ap₂ (λ (p q : Bool). not p || q) (h p (e .0)) (h q (e .1 .0))
 
 pub connect-atom : (c : Construct) (x : Bool) (f : ℕ → Bool) → atomic c ≡ true → connect c x f ≡ x
 connect-atom none x f a = absurd (clash (cc))
@@ -87,8 +87,8 @@ restriction-earlier i name e = tt
 restriction-earlier i (negation p) e = tt
 restriction-earlier i (conjunction p q) e = tt
 restriction-earlier i (disjunction p q) e = tt
-restriction-earlier i (existential r b) e = e
-restriction-earlier i (universal r b) e = e
+restriction-earlier i (existential r b) e = e .0
+restriction-earlier i (universal r b) e = e .0
 restriction-earlier i (inclusion p q) e = tt
 
 -- An atom's truth at d goes by the earlier records.
@@ -176,6 +176,7 @@ module _ (v : List ℕ) (good : Accepted v) where
 
 -- There is no atom past the end.
 pub atom-within : (v : List ℕ) → Accepted v → (i : ℕ) → isAtom (recordAt v i .kind) ≡ true → i < count v
+unfolding kindOf
 atom-within v good i e = at (decLt i (count v))
   where
     at : Dec (i < count v) → i < count v

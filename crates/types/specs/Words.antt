@@ -19,10 +19,7 @@ use Rattle.types.specs.Survivors.{fits}
 use Rattle.types.specs.Compare.{atomLimit}
 use Rattle.types.specs.Rules.{Decoded}
 use Rattle.types.specs.Compare.{typeLimit}
-
--- Kinds 7 and 8.
-abbrev pub isRestriction : ℕ → Bool
-isRestriction kind = eqb kind 7 || eqb kind 8
+pub use Rattle.records.specs.Kinds.{isRestriction}
 
 abbrev pub appendIf : Bool → List ℕ → ℕ → List ℕ
 appendIf b l n = cond b (l ++ (n ∷ [])) l

@@ -3,6 +3,7 @@ use crate::profile::Profile;
 use crate::truth::digit;
 use records::fields::Record;
 use records::fields::read_at;
+use records::kinds::is_restriction;
 ghost use mathlib.Core.Path.{_≡_};
 ghost use Prim.Native.Nat.{ℕ, _<_, _≤_};
 ghost use mathlib.Core.Bool.{false, not};
@@ -10,19 +11,10 @@ ghost use lib.ListN.{getD};
 ghost use lib.Dec.{eqb};
 ghost use Rattle.records.specs.Check.{IsAccepted};
 ghost use Rattle.types.specs.Below.{number};
-ghost use Rattle.types.specs.Words.{isRestriction, width, signed, Listed, Fillers, Roles, Signs};
+ghost use Rattle.types.specs.Words.{width, signed, Listed, Fillers, Roles, Signs};
 ghost use Rattle.records.specs.Format.{recordLimit};
 ghost use Rattle.records.specs.Atoms.{atoms};
 ghost use Rattle.types.specs.Compare.{atomLimit};
-
-fn is_restriction(kind: u8) -> bool
-    ensures { λ r. ⌜ r ≡ isRestriction kind ⌝ }
-{
-    match kind {
-        7..=8 => true,
-        _ => false,
-    }
-}
 
 // The restrictions in record order, and how many there are.
 pub struct Listing {

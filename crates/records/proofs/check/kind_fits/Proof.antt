@@ -1,6 +1,9 @@
 -- `records::check::kind_fits` meets its contract. At each return the tests that led there say what the conjunction is.
 -- Assumes nothing.
-use borrow.Author.Tests.{le-leb, lt-leb}
+use native.Mathlib.Omega.{arith}
+use lib.ListN.{length}
+use borrow.Author.Tests.{le-leb, lt-leb, lt-ltb, le-ltb}
+use Rattle.records.specs.Kinds.{kinds}
 use Rattle.records.proofs.check.kind_fits.Statement.{statement}
 use Rattle.records.proofs.check.kind_fits.Tie as tie
 
@@ -8,10 +11,14 @@ returns : tie.Need-returns
 returns c = simp (lt-leb _ _ (c .if1 .taken))
 
 returns-2 : tie.Need-returns-2
-returns-2 c = simp (le-leb _ _ (c .before .before .if1 .left), lt-leb _ _ (c .if2 .taken))
+returns-2 c =
+    let k = c .before .before .before .before .args .fields .kind in
+    simp (le-leb _ _ (c .before .before .if1 .left), le-ltb k (length kinds) (omega arith))
 
 returns-3 : tie.Need-returns-3
-returns-3 c = simp (le-leb _ _ (c .before .before .before .if1 .left), le-leb _ _ (c .before .if2 .left))
+returns-3 c =
+    let k = c .before .before .before .before .before .args .fields .kind in
+    simp (le-leb _ _ (c .before .before .before .if1 .left), lt-ltb k (length kinds) (omega arith))
 
 pub kind-fits-spec : {M : Type 1} → statement M
 kind-fits-spec = tie.close (tie.spec returns returns-2 returns-3)
