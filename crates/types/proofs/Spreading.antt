@@ -1,22 +1,24 @@
 -- One turn of the loops that spread a table of words, over plain values.
---   joinedIf                                           an entry, joined with an earlier one where a test holds
---   Joined, join-start, join-turn, join-end            a block, entry by entry
---   shifted                                            a power of two, as the code has it
---   Paired, pair-start, pair-turn, pair-end            one bit, block by block
---   pair-room, pair-less                               the next block lies in the table, and less is left after it
---   Stepped, step-start, step-turn, step-end           one bit, word by word
---   step-back, step-less                               the word without the bit lies in the table, and less is left
---   Spreading, spread-start, spread-turn, spread-end   all bits
---   spread-room                                        the words of so few bits lie in the table
+--   joined-none, joined-set, joined-twice      entries joined: none; one more; a block more
+--   Joining, join-start, join-turn, join-end   a block, entry by entry
+--   shifted, power                             a power of two, as the code has it
+--   words-room                                 the words of so few bits lie in the table
+--   spreads-end                                one bit, once a loop over its words is past them
+--   Paired, pair-start, pair-turn              one bit, block by block
+--   pair-room, pair-less                       the next block lies in the table, and less is left after it
+--   Stepped, step-start, step-turn             one bit, word by word
+--   step-back, step-less                       the word without the bit lies in the table, and less is left
+--   spread-start, spread-turn, spread-end      all bits
 -- Assumes nothing.
 use Prim.Native.Nat.{ℕ, suc, _+_, _-_, _*_, _/_, _%_, _^_, _≤_, _<_}
 use native.Mathlib.Omega.{arith}
 use native.Mathlib.Decide.{ℕ-discrete, decLt}
 use native.Mathlib.Nat.{add-mul, mul-le-mul-right, lt-of-mul-lt-mul-right}
 use native.Mathlib.Numerals.{add-one}
-use mathlib.Core.Path.{_≡_, refl, sym, ap, ap₂, _∙_}
-use mathlib.Core.Bool.{Bool, true, false, cond, _&&_, and-false}
+use mathlib.Core.Path.{_≡_, refl, sym, ap, ap₂, subst, _∙_}
+use mathlib.Core.Bool.{Bool, true, false, _&&_, and-false}
 use mathlib.Core.List.{List}
+use mathlib.Core.Logic.{_⊎_, inl, inr}
 use lib.Dec.{leb, ltb, eqb}
 use lib.ListN.{length, getD, set, length-set}
 use lib.Bits.{bitOr, or-block, or-zero-r, or-shifted}
@@ -25,97 +27,125 @@ use lib.Seq.{getD-set-same, getD-set-other}
 use borrow.Author.Tests.{lt-ltb, le-ltb, le-leb, lt-leb}
 use Rattle.types.specs.Below.{bit}
 use Rattle.types.specs.Words.{spread}
-use Rattle.types.specs.Compare.{atomLimit, typeLimit}
-
--- The entry at y, joined with the one `half` places before it where a test holds.
-abbrev pub joinedIf : Bool → List ℕ → ℕ → ℕ → ℕ
-joinedIf b old half y = cond b (bitOr (getD old y 0) (getD old (y - half) 0)) (getD old y 0)
+use Rattle.types.specs.Elimination.{between, joinedIf, Joined, Spreads, SpreadTo}
 
 -- y lies between a and e; before a; at e or past it
-between : (a e y : ℕ) → a ≤ y → y < e → (leb a y && ltb y e) ≡ true
-between a e y h k = rw (le-leb a y h, lt-ltb y e k)
+inside : (a e y : ℕ) → a ≤ y → y < e → between a e y ≡ true
+inside a e y h k = rw (le-leb a y h, lt-ltb y e k)
 
-before : (a e y : ℕ) → y < a → (leb a y && ltb y e) ≡ false
+before : (a e y : ℕ) → y < a → between a e y ≡ false
 before a e y h = rw (lt-leb a y h)
 
-past : (a e y : ℕ) → e ≤ y → (leb a y && ltb y e) ≡ false
+past : (a e y : ℕ) → e ≤ y → between a e y ≡ false
 past a e y h = rw (le-ltb y e h) (and-false (leb a y))
 
+module _ (half : ℕ) (old : List ℕ) where
+  joined-none : (test : ℕ → Bool) → ((y : ℕ) → test y ≡ false) → Joined test half old old
+  joined-none test none = record { size = refl; right = λ y. rw (none y) }
+
+  -- an entry of which nothing was joined yet
+  untouched : (test : ℕ → Bool) (l : List ℕ) → Joined test half old l → (y : ℕ) → test y ≡ false → getD l y 0 ≡ getD old y 0
+  untouched test l s y e = s .right y ∙ rw e
+
+  joined-set : (f g : ℕ → Bool) (l : List ℕ) (x : ℕ) → x < length old → Joined f half old l
+      → f x ≡ false → f (x - half) ≡ false → g x ≡ true → ((y : ℕ) → (y ≡ x → ⊥) → f y ≡ g y)
+      → Joined g half old (set l x (bitOr (getD l x 0) (getD l (x - half) 0)))
+  joined-set f g l x h s here low new other =
+      record { size = length-set l x entry ∙ s .size; right = λ y. at y (ℕ-discrete y x) }
+    where
+      entry : ℕ
+      entry = bitOr (getD l x 0) (getD l (x - half) 0)
+
+      at : (y : ℕ) → Dec (y ≡ x) → getD (set l x entry) y 0 ≡ joinedIf (g y) old half y
+      at y (yes q) =
+          rw (q, new) (getD-set-same l x entry 0 (omega (arith, s .size))
+          ∙ ap₂ bitOr (untouched f l s x here) (untouched f l s (x - half) low))
+      at y (no q) = getD-set-other l x y entry 0 q ∙ s .right y ∙ ap (λ (b : Bool). joinedIf b old half y) (other y q)
+
+  module _ (f g h : ℕ → Bool) (l m : List ℕ) (s : Joined f half old l) (t : Joined g half l m) where
+    -- The entry at y is joined by the first tests or by none, or, untouched by them, by the second.
+    abbrev Once : ℕ → Type 0
+    Once y = ((g y ≡ false) × (f y ≡ h y)) ⊎ ((g y ≡ true) × (f y ≡ false) × (f (y - half) ≡ false) × (h y ≡ true))
+
+    joined-twice : ((y : ℕ) → Once y) → Joined h half old m
+    joined-twice once = record { size = t .size ∙ s .size; right = λ y. at y (once y) }
+      where
+        at : (y : ℕ) → Once y → getD m y 0 ≡ joinedIf (h y) old half y
+        at y (inl k) = t .right y ∙ rw (k .0) (s .right y ∙ ap (λ (b : Bool). joinedIf b old half y) (k .1))
+        at y (inr k) =
+            t .right y ∙ rw (k .0, k .3)
+            (ap₂ bitOr (untouched f l s y (k .1)) (untouched f l s (y - half) (k .2)))
+
 -- A table whose entries from `at + half` up to `x + half` are joined with those `half` places before them.
-pub record Joined (old : List ℕ) (at half : ℕ) (l : List ℕ) (x : ℕ) : Type 0 where
-  pub size : length l ≡ typeLimit
+pub record Joining (old : List ℕ) (at half : ℕ) (l : List ℕ) (x : ℕ) : Type 0 where
   pub from : at ≤ x
   pub to : x ≤ at + half
-  pub right : (y : ℕ) → getD l y 0 ≡ joinedIf (leb (at + half) y && ltb y (x + half)) old half y
+  pub joined : Joined (between (at + half) (x + half)) half old l
 
 module _ (old : List ℕ) (at half : ℕ) where
-  abbrev joins : ℕ → ℕ → Bool
-  joins x y = leb (at + half) y && ltb y (x + half)
-
-  pub join-start : length old ≡ typeLimit → Joined old at half old at
-  join-start e = record { size = e; from = omega arith; to = omega arith; right = λ y. none y (decLt y (at + half)) }
+  pub join-start : Joining old at half old at
+  join-start =
+      record {
+        from = omega arith;
+        to = omega arith;
+        joined = joined-none half old (between (at + half) (at + half)) (λ y. none y (decLt y (at + half)));
+      }
     where
-      none : (y : ℕ) → Dec (y < at + half) → getD old y 0 ≡ joinedIf (joins at y) old half y
-      none y (yes h) = rw (before (at + half) (at + half) y h)
-      none y (no h) = rw (past (at + half) (at + half) y (omega arith))
+      none : (y : ℕ) → Dec (y < at + half) → between (at + half) (at + half) y ≡ false
+      none y (yes h) = before (at + half) (at + half) y h
+      none y (no h) = past (at + half) (at + half) y (omega arith)
 
-  module _ (l : List ℕ) (x : ℕ) (room : at + 2 * half ≤ typeLimit) (s : Joined old at half l x) where
-    abbrev next : ℕ
-    next = bitOr (getD l (x + half) 0) (getD l x 0)
-
-    -- what the turn reads is old
-    reads : x < at + half → next ≡ bitOr (getD old (x + half) 0) (getD old (x + half - half) 0)
-    reads h =
-        let back : x + half - half ≡ x = omega arith in
-        let kept : getD l (x + half) 0 ≡ getD old (x + half) 0 =
-        s .right (x + half) ∙ rw (past (at + half) (x + half) (x + half) (omega arith)) in
-        let low : getD l x 0 ≡ getD old x 0 = s .right x ∙ rw (before (at + half) (x + half) x h) in
-        rw (back, kept, low)
-
-    -- other entries stay
-    others : (y : ℕ) → (y ≡ x + half → ⊥) → joins x y ≡ joins (x + 1) y
-    others y d = ap (λ (b : Bool). leb (at + half) y && b) (at-or-past (decLt y (x + half)))
+  module _ (l : List ℕ) (x : ℕ) (s : Joining old at half l x) where
+    pub join-turn : at + 2 * half ≤ length old → x < at + half
+        → Joining old at half (set l (x + half) (bitOr (getD l (x + half) 0) (getD l x 0))) (x + 1)
+    join-turn room h =
+        record { from = omega (arith, s .from); to = omega arith; joined = rw back at next }
       where
-        at-or-past : Dec (y < x + half) → ltb y (x + half) ≡ ltb y (x + 1 + half)
-        at-or-past (yes h) = lt-ltb y (x + half) h ∙ sym (lt-ltb y (x + 1 + half) (omega arith))
-        at-or-past (no h) = le-ltb y (x + half) (omega arith) ∙ sym (le-ltb y (x + 1 + half) (omega arith))
+        back : x + half - half ≡ x
+        back = omega arith
 
-    pub join-turn : x < at + half → Joined old at half (set l (x + half) next) (x + 1)
-    join-turn h =
-        record {
-          size = length-set l (x + half) next ∙ s .size;
-          from = omega (arith, s .from);
-          to = omega arith;
-          right = λ y. turned y (ℕ-discrete y (x + half));
-        }
-      where
-        joined : joins (x + 1) (x + half) ≡ true
-        joined = between (at + half) (x + 1 + half) (x + half) (omega (arith, s .from)) (omega arith)
+        same : (y : ℕ) → (y ≡ x + half → ⊥) → Dec (y < x + half) → ltb y (x + half) ≡ ltb y (x + 1 + half)
+        same y d (yes k) = lt-ltb y (x + half) k ∙ sym (lt-ltb y (x + 1 + half) (omega arith))
+        same y d (no k) = le-ltb y (x + half) (omega arith) ∙ sym (le-ltb y (x + 1 + half) (omega arith))
 
-        turned : (y : ℕ) → Dec (y ≡ x + half) → getD (set l (x + half) next) y 0 ≡ joinedIf (joins (x + 1) y) old half y
-        turned y (yes q) =
-            rw (q, joined) (getD-set-same l (x + half) next 0 (omega (arith, s .size, s .to)) ∙ reads h)
-        turned y (no q) =
-            getD-set-other l (x + half) y next 0 q ∙ s .right y ∙ ap (λ (b : Bool). joinedIf b old half y) (others y q)
+        next : Joined (between (at + half) (x + 1 + half)) half old
+            (set l (x + half) (bitOr (getD l (x + half) 0) (getD l (x + half - half) 0)))
+        next =
+            joined-set half old (between (at + half) (x + half)) (between (at + half) (x + 1 + half)) l (x + half)
+            (omega arith) (s .joined) (past (at + half) (x + half) (x + half) (omega arith))
+            (before (at + half) (x + half) (x + half - half) (omega arith))
+            (inside (at + half) (x + 1 + half) (x + half) (omega (arith, s .from)) (omega arith))
+            (λ y d. ap (λ (b : Bool). leb (at + half) y && b) (same y d (decLt y (x + half))))
 
-    pub join-end : at + half ≤ x → (y : ℕ) → getD l y 0 ≡ joinedIf (leb (at + half) y && ltb y (at + 2 * half)) old half y
-    join-end h y =
+    pub join-end : at + half ≤ x → Joined (between (at + half) (at + 2 * half)) half old l
+    join-end h =
         let all : x + half ≡ at + 2 * half = omega (arith, s .to) in
-        s .right y ∙ ap (λ (e : ℕ). joinedIf (leb (at + half) y && ltb y e) old half y) all
+        subst (λ (e : ℕ). Joined (between (at + half) e) half old l) all (s .joined)
 
 -- `1 << k`, as the code has it.
 abbrev pub shifted : ℕ → ℕ
 shifted k = (1 * 2 ^ k) % 2 ^ 64
 
-power : (k : ℕ) → k < 64 → shifted k ≡ 2 ^ k
+pub power : (k : ℕ) → k < 64 → shifted k ≡ 2 ^ k
 power k h = omega (arith, shl-exact {a = 1} 1 k 64 (omega arith) (omega arith))
+
+pub words-room : (bits most : ℕ) → bits ≤ most → most < 64 → shifted bits ≤ 2 ^ most
+words-room bits most few h = omega (arith, power bits (omega arith), pow-mono {i = bits} {j = most} few)
+
+-- y is a word before x that has bit n.
+abbrev wordsBefore : ℕ → ℕ → ℕ → Bool
+wordsBefore x n y = ltb y x && bit y n
+
+pub spreads-end : (old l : List ℕ) (n words x : ℕ) → Joined (wordsBefore x n) (2 ^ n) old l → words ≤ x
+    → Spreads n words old l
+spreads-end old l n words x s h =
+    record { size = s .size; right = λ y k. s .right y ∙ rw (lt-ltb y x (omega arith)) }
 
 -- A table whose entries below `at` are joined where they have bit n; `at` ends a block of two halves.
 pub record Paired (old : List ℕ) (n : ℕ) (l : List ℕ) (at : ℕ) : Type 0 where
   pub blocks : ℕ
   pub place : at ≡ 2 * blocks * 2 ^ n
-  pub size : length l ≡ typeLimit
-  pub right : (y : ℕ) → getD l y 0 ≡ joinedIf (ltb y at && bit y n) old (2 ^ n) y
+  pub joined : Joined (wordsBefore at n) (2 ^ n) old l
 
 -- bit n of a number in the first half of a block, and in the second
 first-half : (n q y : ℕ) → 2 * q * 2 ^ n ≤ y → y < 2 * q * 2 ^ n + 2 ^ n → bit y n ≡ false
@@ -135,76 +165,67 @@ second-half n q y h k =
     let m : y / 2 ^ n % 2 ≡ 1 = omega arith in
     ap (λ (z : ℕ). eqb z 1) m
 
--- entries joined below a bound past all words
-joined-end : (old l : List ℕ) (n words at : ℕ) → words ≤ at
-    → ((y : ℕ) → getD l y 0 ≡ joinedIf (ltb y at && bit y n) old (2 ^ n) y)
-    → (x : ℕ) → x < words → getD l x 0 ≡ joinedIf (bit x n) old (2 ^ n) x
-joined-end old l n words at h r x k = r x ∙ rw (lt-ltb x at (omega arith))
-
 module _ (old : List ℕ) (n : ℕ) where
-  pub pair-start : length old ≡ typeLimit → Paired old n old 0
-  pair-start e = record { blocks = 0; place = omega arith; size = e; right = λ y. rw (le-ltb y 0 (omega arith)) }
+  pub pair-start : Paired old n old 0
+  pair-start =
+      record {
+        blocks = 0;
+        place = omega arith;
+        joined = joined-none (2 ^ n) old (wordsBefore 0 n) (λ y. rw (le-ltb y 0 (omega arith)));
+      }
 
   module _ (l : List ℕ) (at : ℕ) (s : Paired old n l at) where
-    -- at the loop's end all entries are joined
-    pub pair-end : (words : ℕ) → words ≤ at → (x : ℕ) → x < words → getD l x 0 ≡ joinedIf (bit x n) old (2 ^ n) x
-    pair-end words h = joined-end old l n words at h (s .right)
-
     -- the next block has been joined
-    module _ (m : List ℕ)
-        (j : (y : ℕ) → getD m y 0 ≡ joinedIf (leb (at + 2 ^ n) y && ltb y (at + 2 * 2 ^ n)) l (2 ^ n) y) where
-      untouched : (y : ℕ) → at ≤ y → getD l y 0 ≡ getD old y 0
-      untouched y k = s .right y ∙ rw (le-ltb y at k)
+    paired : (m : List ℕ) → Joined (between (at + 2 ^ n) (at + 2 * 2 ^ n)) (2 ^ n) l m → Paired old n m (at + 2 * 2 ^ n)
+    paired m j =
+        let b : 2 * (s .blocks + 1) ≡ 2 * s .blocks + 2 = omega arith in
+        record {
+          blocks = s .blocks + 1;
+          place = rw b (omega (arith, s .place, add-mul (2 * s .blocks) 2 (2 ^ n)));
+          joined = joined-twice (2 ^ n) old (wordsBefore at n) block (wordsBefore end n) l m (s .joined) j
+              (λ y. once y (decLt y at) (decLt y (at + 2 ^ n)) (decLt y end));
+        }
+      where
+        end : ℕ
+        end = at + 2 * 2 ^ n
 
-      turned : (y : ℕ) → Dec (y < at) → Dec (y < at + 2 ^ n) → Dec (y < at + 2 * 2 ^ n)
-          → getD m y 0 ≡ joinedIf (ltb y (at + 2 * 2 ^ n) && bit y n) old (2 ^ n) y
-      turned y (yes p) q r =
-          j y ∙ rw (before (at + 2 ^ n) (at + 2 * 2 ^ n) y (omega arith))
-          (s .right y ∙ rw (lt-ltb y at p, lt-ltb y (at + 2 * 2 ^ n) (omega arith)))
-      turned y (no p) (yes q) r =
-          let clear = first-half n (s .blocks) y (omega (arith, s .place)) (omega (arith, s .place)) in
-          j y ∙ rw (before (at + 2 ^ n) (at + 2 * 2 ^ n) y q, clear, and-false (ltb y (at + 2 * 2 ^ n)))
-          (untouched y (omega arith))
-      turned y (no p) (no q) (yes r) =
-          let there = second-half n (s .blocks) y (omega (arith, s .place)) (omega (arith, s .place)) in
-          j y ∙ rw (
-            between (at + 2 ^ n) (at + 2 * 2 ^ n) y (omega arith) r,
-            lt-ltb y (at + 2 * 2 ^ n) r,
-            there,
-            untouched y (omega arith),
-            untouched (y - 2 ^ n) (omega arith),
-          )
-      turned y (no p) (no q) (no r) =
-          j y ∙ rw (past (at + 2 ^ n) (at + 2 * 2 ^ n) y (omega arith), le-ltb y (at + 2 * 2 ^ n) (omega arith))
-          (untouched y (omega arith))
+        block : ℕ → Bool
+        block = between (at + 2 ^ n) (at + 2 * 2 ^ n)
 
-      paired : length m ≡ typeLimit → Paired old n m (at + 2 * 2 ^ n)
-      paired e =
-          let b : 2 * (s .blocks + 1) ≡ 2 * s .blocks + 2 = omega arith in
-          record {
-            blocks = s .blocks + 1;
-            place = rw b (omega (arith, s .place, add-mul (2 * s .blocks) 2 (2 ^ n)));
-            size = e;
-            right = λ y. turned y (decLt y at) (decLt y (at + 2 ^ n)) (decLt y (at + 2 * 2 ^ n));
-          }
+        once : (y : ℕ) → Dec (y < at) → Dec (y < at + 2 ^ n) → Dec (y < at + 2 * 2 ^ n)
+            → Once (2 ^ n) old (wordsBefore at n) block (wordsBefore end n) l m (s .joined) j y
+        once y (yes p) q r =
+            inl (before (at + 2 ^ n) end y (omega arith), rw (lt-ltb y at p, lt-ltb y end (omega arith)))
+        once y (no p) (yes q) r =
+            let clear = first-half n (s .blocks) y (omega (arith, s .place)) (omega (arith, s .place)) in
+            inl (before (at + 2 ^ n) end y q, rw (clear, and-false (ltb y at), and-false (ltb y end)))
+        once y (no p) (no q) (yes r) =
+            let there = second-half n (s .blocks) y (omega (arith, s .place)) (omega (arith, s .place)) in
+            inr (
+              inside (at + 2 ^ n) end y (omega arith) r,
+              rw (le-ltb y at (omega arith)),
+              rw (le-ltb (y - 2 ^ n) at (omega arith)),
+              rw (lt-ltb y end r, there),
+            )
+        once y (no p) (no q) (no r) =
+            inl (past (at + 2 ^ n) end y (omega arith), rw (le-ltb y at (omega arith), le-ltb y end (omega arith)))
 
-    module _ (words : ℕ) (few : words ≤ typeLimit) (h : n < atomLimit) where
-      pub pair-room : at < words → at + 2 * shifted n ≤ typeLimit
+    module _ (most words : ℕ) (few : words ≤ 2 ^ most) (h : n < most) (small : most < 64) where
+      pub pair-room : at < words → at + 2 * shifted n ≤ 2 ^ most
       pair-room k =
-          let e : atomLimit ≡ suc (atomLimit - 1 - n) + n = omega arith in
-          let p : typeLimit ≡ 2 ^ suc (atomLimit - 1 - n) * 2 ^ n = ap (λ (z : ℕ). 2 ^ z) e ∙ pow-add 2 (suc (atomLimit - 1 - n)) n in
-          let below : 2 * s .blocks < 2 ^ suc (11 - n) = lt-of-mul-lt-mul-right (2 ^ n) (omega (arith, s .place)) in
-          let next : 2 * s .blocks + 2 ≤ 2 ^ suc (11 - n) = omega arith in
+          let e : most ≡ suc (most - 1 - n) + n = omega arith in
+          let p : 2 ^ most ≡ 2 ^ suc (most - 1 - n) * 2 ^ n = ap (λ (z : ℕ). 2 ^ z) e ∙ pow-add 2 (suc (most - 1 - n)) n in
+          let below : 2 * s .blocks < 2 ^ suc (most - 1 - n) = lt-of-mul-lt-mul-right (2 ^ n) (omega (arith, s .place)) in
+          let next : 2 * s .blocks + 2 ≤ 2 ^ suc (most - 1 - n) = omega arith in
           let two = add-mul (2 * s .blocks) 2 (2 ^ n) in
           omega (arith, s .place, mul-le-mul-right (2 ^ n) next, two, power n (omega arith))
 
       pub pair-less : at < words → words - (at + 2 * shifted n) < words - at
       pair-less k = omega (arith, power n (omega arith), pow-pos n)
 
-      pub pair-turn : (m : List ℕ) → length m ≡ typeLimit
-          → ((y : ℕ) → getD m y 0 ≡ joinedIf (leb (at + shifted n) y && ltb y (at + 2 * shifted n)) l (shifted n) y)
+      pub pair-turn : (m : List ℕ) → Joined (between (at + shifted n) (at + 2 * shifted n)) (shifted n) l m
           → Paired old n m (at + 2 * shifted n)
-      pair-turn m e j = let w = power n (omega arith) in rw w (paired m (rw w at j) e)
+      pair-turn m j = let w = power n (omega arith) in rw w (paired m (rw w at j))
 
 -- A word that has bit n: its place in the second half of a block.
 record Word (n x : ℕ) : Type 0 where
@@ -267,96 +288,66 @@ module _ (n x : ℕ) (w : Word n x) where
 -- A table whose entries below x, a word that has bit n, are joined where they have it.
 pub record Stepped (old : List ℕ) (n : ℕ) (l : List ℕ) (x : ℕ) : Type 0 where
   word : Word n x
-  pub size : length l ≡ typeLimit
-  pub right : (y : ℕ) → getD l y 0 ≡ joinedIf (ltb y x && bit y n) old (2 ^ n) y
+  pub joined : Joined (wordsBefore x n) (2 ^ n) old l
 
-module _ (old : List ℕ) (n : ℕ) where
-  pub step-start : n < 64 → length old ≡ typeLimit → Stepped old n old (shifted n)
-  step-start h e =
+module _ (old : List ℕ) (n : ℕ) (h : n < 64) where
+  pub step-start : Stepped old n old (shifted n)
+  step-start =
       rw (power n h) (record {
         word = record { block = 0; rest = 0; place = omega arith; inside = pow-pos n };
-        size = e;
-        right = λ y. none y (decLt y (2 ^ n));
+        joined = joined-none (2 ^ n) old (wordsBefore (2 ^ n) n) (λ y. none y (decLt y (2 ^ n)));
       })
     where
-      none : (y : ℕ) → Dec (y < 2 ^ n) → getD old y 0 ≡ joinedIf (ltb y (2 ^ n) && bit y n) old (2 ^ n) y
-      none y (yes k) = rw (first-half n 0 y (omega arith) (omega arith), and-false (ltb y (2 ^ n)))
+      none : (y : ℕ) → Dec (y < 2 ^ n) → wordsBefore (2 ^ n) n y ≡ false
+      none y (yes k) = rw (first-half n 0 y (omega arith) (omega arith)) (and-false (ltb y (2 ^ n)))
       none y (no k) = rw (le-ltb y (2 ^ n) (omega arith))
 
-  module _ (l : List ℕ) (x : ℕ) (h : n < atomLimit) (s : Stepped old n l x) where
-    pub step-end : (words : ℕ) → words ≤ x → (y : ℕ) → y < words → getD l y 0 ≡ joinedIf (bit y n) old (2 ^ n) y
-    step-end words k = joined-end old l n words x k (s .right)
-
+  module _ (l : List ℕ) (x : ℕ) (s : Stepped old n l x) where
     pub step-back : shifted n ≤ x
-    step-back = omega (arith, power n (omega arith), s .word .place)
+    step-back = omega (arith, power n h, s .word .place)
 
     pub step-less : (words : ℕ) → x < words → words - bitOr (x + 1) (shifted n) < words - x
-    step-less words k = rw (power n (omega arith)) (omega (arith, next-word n x (s .word) .later))
+    step-less words k = rw (power n h) (omega (arith, next-word n x (s .word) .later))
 
-    abbrev entry : ℕ
-    entry = bitOr (getD l x 0) (getD l (x - 2 ^ n) 0)
-
-    -- what the turn reads is old
-    reads-old : entry ≡ bitOr (getD old x 0) (getD old (x - 2 ^ n) 0)
-    reads-old =
-        let here : getD l x 0 ≡ getD old x 0 = s .right x ∙ rw (le-ltb x x (omega arith)) in
-        let low : getD l (x - 2 ^ n) 0 ≡ getD old (x - 2 ^ n) 0 =
-        s .right (x - 2 ^ n) ∙ rw (without-bit n x (s .word), and-false (ltb (x - 2 ^ n) x)) in
-        rw (here, low)
-
-    stepped : x < typeLimit → (z : ℕ) → Next n x (s .word) z → Stepped old n (set l x entry) z
+    stepped : x < length old → (z : ℕ) → Next n x (s .word) z
+        → Stepped old n (set l x (bitOr (getD l x 0) (getD l (x - 2 ^ n) 0))) z
     stepped k z w =
         record {
           word = w .word;
-          size = length-set l x entry ∙ s .size;
-          right = λ y. turned y (ℕ-discrete y x) (decLt y x) (decLt y z);
+          joined = joined-set (2 ^ n) old (wordsBefore x n) (wordsBefore z n) l x k (s .joined)
+              (rw (le-ltb x x (omega arith)))
+              (rw (without-bit n x (s .word)) (and-false (ltb (x - 2 ^ n) x)))
+              (rw (lt-ltb x z (w .later)) (word-bit n x (s .word)))
+              (λ y d. same y d (decLt y x) (decLt y z));
         }
       where
-        turned : (y : ℕ) → Dec (y ≡ x) → Dec (y < x) → Dec (y < z)
-            → getD (set l x entry) y 0 ≡ joinedIf (ltb y z && bit y n) old (2 ^ n) y
-        turned y (yes p) q r =
-            rw (p, lt-ltb x z (w .later), word-bit n x (s .word))
-            (getD-set-same l x entry 0 (omega (arith, s .size)) ∙ reads-old)
-        turned y (no p) (yes q) r =
-            getD-set-other l x y entry 0 p ∙ s .right y ∙ rw (lt-ltb y x q, lt-ltb y z (omega (arith, w .later)))
-        turned y (no p) (no q) (yes r) =
-            let clear = w .between-none y (omega arith) r in
-            getD-set-other l x y entry 0 p ∙ s .right y ∙ rw (le-ltb y x (omega arith), clear, and-false (ltb y z))
-        turned y (no p) (no q) (no r) =
-            getD-set-other l x y entry 0 p ∙ s .right y ∙ rw (le-ltb y x (omega arith), le-ltb y z (omega arith))
+        same : (y : ℕ) → (y ≡ x → ⊥) → Dec (y < x) → Dec (y < z) → wordsBefore x n y ≡ wordsBefore z n y
+        same y d (yes q) r = rw (lt-ltb y x q, lt-ltb y z (omega (arith, w .later)))
+        same y d (no q) (yes r) =
+            rw (w .between-none y (omega arith) r, and-false (ltb y x), and-false (ltb y z))
+        same y d (no q) (no r) = rw (le-ltb y x (omega arith), le-ltb y z (omega arith))
 
-    pub step-turn : x < typeLimit
+    pub step-turn : x < length old
         → Stepped old n (set l x (bitOr (getD l x 0) (getD l (x - shifted n) 0))) (bitOr (x + 1) (shifted n))
-    step-turn k = rw (power n (omega arith)) (stepped k (bitOr (x + 1) (2 ^ n)) (next-word n x (s .word)))
-
--- A table spread over the bits below n, in its first 2 ^ bits entries.
-pub record Spreading (old : List ℕ) (bits : ℕ) (l : List ℕ) (n : ℕ) : Type 0 where
-  pub within : n ≤ bits
-  pub size : length l ≡ typeLimit
-  pub right : (x : ℕ) → x < 2 ^ bits → getD l x 0 ≡ spread (λ y. getD old y 0) n x
-
-pub spread-room : (bits : ℕ) → bits ≤ atomLimit → shifted bits ≤ typeLimit
-spread-room bits few = omega (arith, power bits (omega arith), pow-mono {i = bits} {j = atomLimit} few)
+    step-turn k = rw (power n h) (stepped k (bitOr (x + 1) (2 ^ n)) (next-word n x (s .word)))
 
 module _ (old : List ℕ) (bits : ℕ) where
-  pub spread-start : length old ≡ typeLimit → Spreading old bits old 0
+  pub spread-start : SpreadTo 0 (2 ^ bits) old old
   unfolding spread
-  spread-start e = record { within = omega arith; size = e; right = λ x h. refl }
+  spread-start = record { size = refl; right = λ x h. refl }
 
-  pub spread-turn : (l m : List ℕ) (n : ℕ) → bits ≤ atomLimit → n < bits → Spreading old bits l n → length m ≡ typeLimit
-      → ((x : ℕ) → x < shifted bits → getD m x 0 ≡ joinedIf (bit x n) l (2 ^ n) x) → Spreading old bits m (n + 1)
-  unfolding spread
-  spread-turn l m n few h s e j =
-      record {
-        within = omega arith;
-        size = e;
-        right = λ x k.
-            j x (omega (arith, power bits (omega arith)))
-            ∙ rw (add-one n, s .right x k, s .right (x - 2 ^ n) (omega arith));
-      }
+  module _ (l : List ℕ) (n : ℕ) (s : SpreadTo n (2 ^ bits) old l) where
+    pub spread-turn : (m : List ℕ) → bits < 64 → Spreads n (shifted bits) l m → SpreadTo (n + 1) (2 ^ bits) old m
+    unfolding spread
+    spread-turn m few j =
+        record {
+          size = j .size ∙ s .size;
+          right = λ x k.
+              j .right x (omega (arith, power bits few))
+              ∙ rw (add-one n, s .right x k, s .right (x - 2 ^ n) (omega arith));
+        }
 
-  pub spread-end : (l : List ℕ) (n : ℕ) → bits ≤ n → Spreading old bits l n
-      → (x : ℕ) → x < 2 ^ bits → getD l x 0 ≡ spread (λ y. getD old y 0) bits x
-  spread-end l n h s x k =
-      let all : n ≡ bits = omega (arith, s .within) in
-      s .right x k ∙ ap (λ (i : ℕ). spread (λ y. getD old y 0) i x) all
+    pub spread-end : n ≤ bits → bits ≤ n → SpreadTo bits (2 ^ bits) old l
+    spread-end h k =
+        let all : n ≡ bits = omega arith in
+        subst (λ (i : ℕ). SpreadTo i (2 ^ bits) old l) all s

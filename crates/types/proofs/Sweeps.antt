@@ -1,29 +1,28 @@
 -- One turn of the loops of type elimination, over plain values.
---   list-covering                                             the members of a set, listed, cover it
---   member-below, search-list                                 a list that has every member; a search for one over it
---   Entered, enter-start, enter-more, enter-same, enter-end   the words that members offer, each at its own place
---   Swept, sweep-start, sweep-out, sweep-met, sweep-past      the members that fail a test, removed
---   sweep-set, sweep-any                                      what is left; whether any were removed
+--   list-covering, covering-less                              the members of a set, listed, cover it and each smaller set
+--   Entered, enter-start, enter-more, enter-same              the words that members offer, each at its own place
+--   Swept, sweep-start, sweep-out, sweep-met, sweep-past, sweep-end   the members that fail a test, removed
+--   keeps-all, keeps-both, keeps-cong                      a test that all pass; two in a row; one that says the same
 -- Assumes nothing.
 use Prim.Native.Nat.{ℕ, _+_, _≤_, _<_}
 use native.Mathlib.Omega.{arith}
 use native.Mathlib.Decide.{ℕ-discrete, decLt}
 use mathlib.Core.Path.{_≡_, refl, sym, ap, subst, _∙_}
-use mathlib.Core.Bool.{Bool, true, false, cond, not, _&&_, and-false}
+use mathlib.Core.Bool.{Bool, true, false, cond, _&&_, _||_, and-true, and-false}
 use mathlib.Core.List.{List}
 use lib.ListN.{length, getD, set, length-set}
 use lib.Dec.{eqb}
 use lib.Seq.{getD-set-same, getD-set-other}
-use borrow.Author.Tests.{not-true, eq-eqb, ne-eqb}
+use borrow.Author.Tests.{eq-eqb, ne-eqb}
 use Rattle.records.specs.Check.{anyBelow}
 use Rattle.records.proofs.Order.{any-hit, any-miss}
 use Rattle.records.proofs.Passed.{clash, both-left, both-right}
-use Rattle.records.proofs.Search.{any-intro, any-elim}
 use Rattle.types.specs.Below.{has}
-use Rattle.types.specs.Words.{offeredIn, Covering}
-use Rattle.types.proofs.Listing.{ListedBelow}
-use Rattle.types.proofs.Tests.{both-true, unless-false, same-truth}
 use Rattle.types.specs.Compare.{typeLimit}
+use Rattle.types.specs.Elimination.{Covering, Enters, Keeps}
+use Rattle.types.proofs.Listing.{ListedBelow}
+use Rattle.types.proofs.Sets.{Within}
+use Rattle.types.proofs.Tests.{both-true, either-rest, same-truth}
 
 -- The members of a set, listed, cover it.
 pub list-covering : (S : List Bool) (types : List ℕ) (left t : ℕ) → ListedBelow typeLimit S types left t → t ≤ typeLimit
@@ -39,88 +38,64 @@ list-covering S types left t l h ends =
     at u m (yes k) = l .finds u k m
     at u m (no k) = let none = ends u (omega arith) in absurd (clash (cc))
 
--- A list that has every member: a search over it for a member is one over all types.
-module _ (live : List ℕ) (left : ℕ) (S : List Bool) (c : Covering live left S) where
-  pub member-below : (t : ℕ) → has S t ≡ true → t < typeLimit
-  member-below t m = let f = c .finds t m in omega (arith, f .2, c .inside (f .0) (f .1))
+pub covering-less : (live : List ℕ) (left : ℕ) (S R : List Bool) → Within R S → Covering live left S → Covering live left R
+covering-less live left S R less c =
+    record { few = c .few; inside = c .inside; finds = λ t h. c .finds t (less t h) }
 
-  module _ (p : ℕ → Bool) where
-    abbrev listed : ℕ → Bool
-    listed i = has S (getD live i 0) && p (getD live i 0)
-
-    abbrev all : ℕ → Bool
-    all t = has S t && p t
-
-    pub search-list : anyBelow listed left ≡ anyBelow all typeLimit
-    search-list = same-truth _ _ there back
-      where
-        there : anyBelow listed left ≡ true → anyBelow all typeLimit ≡ true
-        there e = let f = any-elim listed left e in any-intro all typeLimit (getD live (f .0) 0) (c .inside (f .0) (f .1)) (f .2)
-
-        back : anyBelow all typeLimit ≡ true → anyBelow listed left ≡ true
-        back e =
-            let f = any-elim all typeLimit e in
-            let g = c .finds (f .0) (both-left (has S (f .0)) (p (f .0)) (f .2)) in
-            any-intro listed left (g .0) (g .1) (subst (λ (t : ℕ). all t ≡ true) (sym (g .2)) (f .2))
-
-module _ (offers live : List ℕ) (S : List Bool) where
-  -- Whether the i-th listed type is a member that offers x.
-  abbrev pub offersAt : ℕ → ℕ → Bool
-  offersAt x i = has S (getD live i 0) && eqb (getD offers (getD live i 0) 0) x
-
-  -- The words that the first j listed types offer, each at its own place.
+module _ (offers live : List ℕ) (S : List Bool) (room words : ℕ) where
+  -- A table of the words that the first j listed types offer.
   pub record Entered (cover : List ℕ) (j : ℕ) : Type 0 where
-    pub size : length cover ≡ typeLimit
-    pub entered : (x : ℕ) → getD cover x 0 ≡ cond (anyBelow (offersAt x) j) x 0
+    pub size : length cover ≡ room
+    pub entered : Enters offers live S j words cover
 
   module _ (cover : List ℕ) where
-    pub enter-start : length cover ≡ typeLimit → ((x : ℕ) → getD cover x 0 ≡ 0) → Entered cover 0
+    pub enter-start : length cover ≡ room → ((x : ℕ) → x < words → getD cover x 0 ≡ 0) → Entered cover 0
     unfolding anyBelow
     enter-start e zeros = record { size = e; entered = zeros }
 
     module _ (j : ℕ) (l : Entered cover j) where
-      pub enter-more : has S (getD live j 0) ≡ true → getD offers (getD live j 0) 0 < typeLimit
+      -- Whether the listed type is a member that offers x.
+      abbrev offersIt : ℕ → ℕ → Bool
+      offersIt x i = has S (getD live i 0) && eqb (getD offers (getD live i 0) 0) x
+
+      pub enter-more : has S (getD live j 0) ≡ true → getD offers (getD live j 0) 0 < room
           → Entered (set cover (getD offers (getD live j 0) 0) (getD offers (getD live j 0) 0)) (j + 1)
       enter-more m h =
-          record { size = length-set cover o o ∙ l .size; entered = λ x. at x (ℕ-discrete x o) }
+          record { size = length-set cover o o ∙ l .size; entered = λ x k. at x k (ℕ-discrete x o) }
         where
           o : ℕ
           o = getD offers (getD live j 0) 0
 
-          at : (x : ℕ) → Dec (x ≡ o) → getD (set cover o o) x 0 ≡ cond (anyBelow (offersAt x) (j + 1)) x 0
-          at x (yes q) =
+          at : (x : ℕ) → x < words → Dec (x ≡ o) → getD (set cover o o) x 0 ≡ cond (anyBelow (offersIt x) (j + 1)) x 0
+          at x k (yes q) =
               rw q (getD-set-same cover o o 0 (omega (arith, l .size))
-              ∙ ap (λ (b : Bool). cond b o 0) (any-hit (offersAt o) j (both-true _ _ m (eq-eqb o o refl))))
-          at x (no q) =
-              let missed : offersAt x j ≡ false = rw (ne-eqb o x (λ e. q (sym e))) (and-false (has S (getD live j 0))) in
-              getD-set-other cover o x o 0 q ∙ l .entered x
-              ∙ ap (λ (b : Bool). cond b x 0) (any-miss (offersAt x) j _ refl missed)
+              ∙ ap (λ (b : Bool). cond b o 0) (any-hit (offersIt o) j (both-true _ _ m (eq-eqb o o refl))))
+          at x k (no q) =
+              let missed : offersIt x j ≡ false = rw (ne-eqb o x (λ e. q (sym e))) (and-false (has S (getD live j 0))) in
+              getD-set-other cover o x o 0 q ∙ l .entered x k
+              ∙ ap (λ (b : Bool). cond b x 0) (any-miss (offersIt x) j _ refl missed)
 
       pub enter-same : has S (getD live j 0) ≡ false → Entered cover (j + 1)
       enter-same m =
           record {
             size = l .size;
-            entered = λ x. l .entered x ∙ ap (λ (b : Bool). cond b x 0) (any-miss (offersAt x) j _ refl (rw m));
+            entered = λ x k. l .entered x k ∙ ap (λ (b : Bool). cond b x 0) (any-miss (offersIt x) j _ refl (rw m));
           }
-
-    pub enter-end : (left : ℕ) → Covering live left S → Entered cover left → (x : ℕ) → getD cover x 0 ≡ offeredIn offers S typeLimit x
-    enter-end left c l x =
-        l .entered x ∙ ap (λ (b : Bool). cond b x 0) (search-list live left S c (λ t. eqb (getD offers t 0) x))
 
 -- What is left of a set after the first j listed types were tested.
 pub record Swept (met : ℕ → Bool) (live : List ℕ) (S R : List Bool) (removed : Bool) (j : ℕ) : Type 0 where
-  pub size : length R ≡ typeLimit
-  pub within : (t : ℕ) → has R t ≡ true → has S t ≡ true
+  pub size : length R ≡ length S
+  pub within : Within R S
   pub stays : (t : ℕ) → has S t ≡ true → met t ≡ true → has R t ≡ true
   pub tested : (i : ℕ) → i < j → has R (getD live i 0) ≡ true → met (getD live i 0) ≡ true
   pub found : removed ≡ true → (t : ℕ) × (has S t ≡ true) × (met t ≡ false)
-  pub untouched : removed ≡ false → (t : ℕ) → has S t ≡ true → has R t ≡ true
+  pub untouched : removed ≡ false → Within S R
 
 module _ (met : ℕ → Bool) (live : List ℕ) (S : List Bool) where
-  pub sweep-start : length S ≡ typeLimit → Swept met live S S false 0
-  sweep-start e =
+  pub sweep-start : Swept met live S S false 0
+  sweep-start =
       record {
-        size = e;
+        size = refl;
         within = λ t m. m;
         stays = λ t m h. m;
         tested = λ i h. absurd (omega arith);
@@ -129,7 +104,7 @@ module _ (met : ℕ → Bool) (live : List ℕ) (S : List Bool) where
       }
 
   module _ (R : List Bool) (removed : Bool) (j : ℕ) (l : Swept met live S R removed j) where
-    pub sweep-out : getD live j 0 < typeLimit → has R (getD live j 0) ≡ true → met (getD live j 0) ≡ false
+    pub sweep-out : getD live j 0 < length S → has R (getD live j 0) ≡ true → met (getD live j 0) ≡ false
         → Swept met live S (set R (getD live j 0) false) true (j + 1)
     sweep-out h m n =
         record {
@@ -150,7 +125,7 @@ module _ (met : ℕ → Bool) (live : List ℕ) (S : List Bool) where
         other : (t : ℕ) → (t ≡ u → ⊥) → has (set R u false) t ≡ has R t
         other t q = getD-set-other R u t false false q
 
-        kept : (t : ℕ) → has (set R u false) t ≡ true → has R t ≡ true
+        kept : Within (set R u false) R
         kept t k = sym (other t (λ q. let g = gone in clash (cc))) ∙ k
 
         at : (i : ℕ) → i < j + 1 → has (set R u false) (getD live i 0) ≡ true → Dec (i ≡ j) → met (getD live i 0) ≡ true
@@ -178,30 +153,66 @@ module _ (met : ℕ → Bool) (live : List ℕ) (S : List Bool) where
     pub sweep-past : has R (getD live j 0) ≡ false → Swept met live S R removed (j + 1)
     sweep-past e = keep (λ m. absurd (clash (cc)))
 
-    module _ (left : ℕ) (c : Covering live left S) (e : left ≤ j) where
-      all-met : (t : ℕ) → has R t ≡ true → met t ≡ true
-      all-met t m =
-          let f = c .finds t (l .within t m) in
-          subst (λ (u : ℕ). met u ≡ true) (f .2)
-          (l .tested (f .0) (omega (arith, f .1)) (subst (λ (u : ℕ). has R u ≡ true) (sym (f .2)) m))
+    pub sweep-end : (left : ℕ) → Covering live left S → left ≤ j → Keeps met S R removed
+    sweep-end left c e =
+        record {
+          size = l .size;
+          kept = λ t. same-truth _ _ (λ m. both-true (has S t) (met t) (l .within t m) (all-met t m))
+              (λ b. l .stays t (both-left (has S t) (met t) b) (both-right (has S t) (met t) b));
+          less = l .found;
+          same = λ r t m. all-met t (l .untouched r t m);
+        }
+      where
+        all-met : (t : ℕ) → has R t ≡ true → met t ≡ true
+        all-met t m =
+            let f = c .finds t (l .within t m) in
+            subst (λ (u : ℕ). met u ≡ true) (f .2)
+            (l .tested (f .0) (omega (arith, f .1)) (subst (λ (u : ℕ). has R u ≡ true) (sym (f .2)) m))
 
-      pub sweep-set : (t : ℕ) → has R t ≡ (has S t && met t)
-      sweep-set t =
-          same-truth _ _ (λ m. both-true (has S t) (met t) (l .within t m) (all-met t m))
-          (λ b. l .stays t (both-left (has S t) (met t) b) (both-right (has S t) (met t) b))
+pub keeps-all : (f : ℕ → Bool) (S : List Bool) → ((t : ℕ) → f t ≡ true) → Keeps f S S false
+keeps-all f S all =
+    record {
+      size = refl;
+      kept = λ t. rw (all t) (sym (and-true (has S t)));
+      less = λ h. absurd (clash (cc));
+      same = λ h t m. all t;
+    }
 
-      pub sweep-any : removed ≡ anyBelow (λ t. has S t && not (met t)) typeLimit
-      sweep-any = same-truth _ _ there back
-        where
-          there : removed ≡ true → anyBelow (λ t. has S t && not (met t)) typeLimit ≡ true
-          there r =
-              let f = l .found r in
-              any-intro (λ t. has S t && not (met t)) typeLimit (f .0) (member-below live left S c (f .0) (f .1))
-              (both-true (has S (f .0)) (not (met (f .0))) (f .1) (ap not (f .2)))
+module _ (f g : ℕ → Bool) (S R : List Bool) (a : Bool) (w : Keeps f S R a) where
+  pub keeps-cong : ((t : ℕ) → has S t ≡ true → f t ≡ g t) → Keeps g S R a
+  keeps-cong e =
+      record {
+        size = w .size;
+        kept = λ t. w .kept t ∙ at t (has S t) refl;
+        less = λ r. let h = w .less r in (h .0, h .1, sym (e (h .0) (h .1)) ∙ h .2);
+        same = λ r t m. sym (e t m) ∙ w .same r t m;
+      }
+    where
+      at : (t : ℕ) (b : Bool) → has S t ≡ b → (b && f t) ≡ (b && g t)
+      at t true q = e t q
+      at t false q = refl
 
-          back : anyBelow (λ t. has S t && not (met t)) typeLimit ≡ true → removed ≡ true
-          back a =
-              let f = any-elim (λ t. has S t && not (met t)) typeLimit a in
-              let m = both-left (has S (f .0)) (not (met (f .0))) (f .2) in
-              let n = not-true (met (f .0)) (both-right (has S (f .0)) (not (met (f .0))) (f .2)) in
-              unless-false removed (λ r. let k = all-met (f .0) (l .untouched r (f .0) m) in clash (cc))
+  pub keeps-both : (Q : List Bool) (b : Bool) → Keeps g R Q b → Keeps (λ t. f t && g t) S Q (a || b)
+  keeps-both Q b z =
+      record {
+        size = z .size ∙ w .size;
+        kept = λ t. z .kept t ∙ ap (λ (x : Bool). x && g t) (w .kept t) ∙ three (has S t) (f t) (g t);
+        less = λ r. less-at a refl r;
+        same = λ r t m. same-at a refl r t m;
+      }
+    where
+      three : (x y z : Bool) → ((x && y) && z) ≡ (x && (y && z))
+      three true y z = refl
+      three false y z = refl
+
+      less-at : (x : Bool) → a ≡ x → (x || b) ≡ true → (t : ℕ) × (has S t ≡ true) × ((f t && g t) ≡ false)
+      less-at true q r = let h = w .less q in (h .0, h .1, rw (h .2))
+      less-at false q r =
+          let h = z .less r in
+          (h .0, both-left (has S (h .0)) (f (h .0)) (sym (w .kept (h .0)) ∙ h .1), rw (h .2) (and-false (f (h .0))))
+
+      same-at : (x : Bool) → a ≡ x → (x || b) ≡ false → (t : ℕ) → has S t ≡ true → (f t && g t) ≡ true
+      same-at true q r t m = absurd (clash (cc))
+      same-at false q r t m =
+          let first = w .same q t m in
+          both-true (f t) (g t) first (z .same r t (w .kept t ∙ both-true (has S t) (f t) m first))

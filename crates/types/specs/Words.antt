@@ -18,8 +18,7 @@ use Rattle.types.specs.Types.{types, truth}
 use Rattle.types.specs.Survivors.{fits}
 use Rattle.types.specs.Compare.{atomLimit}
 use Rattle.types.specs.Rules.{Decoded}
-use Rattle.types.specs.Compare.{typeLimit}
-pub use Rattle.records.specs.Kinds.{isRestriction}
+use Rattle.records.specs.Kinds.{isRestriction}
 
 abbrev pub appendIf : Bool → List ℕ → ℕ → List ℕ
 appendIf b l n = cond b (l ++ (n ∷ [])) l
@@ -128,21 +127,3 @@ Differs v a b differs = (t : ℕ) → t < types v → getD differs t false ≡ d
 -- Two tables hold the same set.
 abbrev pub SameSet : List Bool → List Bool → Type 0
 SameSet S R = (t : ℕ) → has S t ≡ has R t
-
--- x itself where a number of the set below n has x in a table, else 0.
-abbrev pub offeredIn : List ℕ → List Bool → ℕ → ℕ → ℕ
-offeredIn offers S n x = cond (anyBelow (λ s. has S s && eqb (getD offers s 0) x) n) x 0
-
--- What a demand word asks of one role is met by a table of covers.
-abbrev pub metBy : List ℕ → ℕ → ℕ → Bool
-metBy cover others demand = eqb (bitOr (getD cover (bitOr demand others) 0) others) (bitOr demand others)
-
--- A list of types that has every member of a set.
-pub record Covering (live : List ℕ) (left : ℕ) (S : List Bool) : Type 0 where
-  pub few : left ≤ typeLimit
-  pub inside : (j : ℕ) → j < left → getD live j 0 < typeLimit
-  pub finds : (t : ℕ) → has S t ≡ true → (j : ℕ) × (j < left) × (getD live j 0 ≡ t)
-
--- A table of the covers of all words.
-abbrev pub Covers : List ℕ → List Bool → List ℕ → Type 0
-Covers v S table = (x : ℕ) → x < 2 ^ width v → getD table x 0 ≡ cover v S x

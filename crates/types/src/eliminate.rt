@@ -1,61 +1,78 @@
 // Type elimination: rounds over a table of the types that are left.
 use crate::profile::Profile;
 use crate::restrict::others_of;
+use crate::words::clear_words;
 use crate::words::spread_words;
+use records::fields::Record;
 use records::fields::read_at;
 ghost use mathlib.Core.Path.{_≡_};
-ghost use mathlib.Core.Bool.{true, false, not, _&&_, _||_};
-ghost use Prim.Native.Nat.{ℕ, _≤_, _<_};
+ghost use mathlib.Core.Bool.{true, false, _||_};
+ghost use Prim.Native.Nat.{ℕ, _≤_, _<_, _^_};
 ghost use lib.ListN.{length, getD};
 ghost use lib.Bits.{bitOr};
-ghost use Rattle.records.specs.Format.{count};
-ghost use Rattle.records.specs.Check.{anyBelow, IsAccepted};
+ghost use Rattle.records.specs.Check.{IsAccepted};
 ghost use Rattle.records.specs.Atoms.{atoms};
 ghost use Rattle.types.specs.Below.{has};
-ghost use Rattle.types.specs.Types.{types, served};
-ghost use Rattle.types.specs.Survivors.{round, removes, stage, rounds, survivors};
-ghost use Rattle.types.specs.Words.{width, Roles, Demands, Offers, SameSet, offeredIn, metBy, Covering, Covers};
+ghost use Rattle.types.specs.Types.{types};
+ghost use Rattle.types.specs.Survivors.{stage, rounds, survivors};
+ghost use Rattle.types.specs.Words.{width, Roles, Demands, Offers, SameSet};
+ghost use Rattle.types.specs.Elimination.{Masks, Covering, Covers, Enters, Eliminating, AfterRound, Keeps, metBy, metAt};
 ghost use Rattle.types.specs.Compare.{atomLimit, typeLimit};
 
-// The types that fit, in rising order: no round looks at any other.
-pub struct Live {
-    pub left: usize,
-    pub types: [u16; Profile::TYPES],
+// The words of the other roles, for each role: no round works them out again.
+fn list_masks(v: &[u8], roles: &[u16; Profile::ATOMS], bits: usize) -> [u16; Record::ROLES as usize]
+    requires { ⌜ IsAccepted (now v) ⌝ }
+    requires { ⌜ atoms (now v) ≤ atomLimit ⌝ }
+    requires { ⌜ bits ≡ width (now v) ⌝ }
+    requires { ⌜ Roles (now v) (now roles) ⌝ }
+    ensures { λ r. ⌜ Masks (now (v .entry)) r ⌝ }
+{
+    let count = read_at(v, 0).b;
+    let mut masks = [0; Record::ROLES as usize];
+    let mut role = 0;
+    while role < count {
+        masks[role as usize] = others_of(roles, bits, role);
+        role += 1;
+    }
+    masks
 }
 
-fn list_live(alive: &[bool; Profile::TYPES], size: usize) -> Live
+// The types that fit, in rising order, and how many: no round looks at any other.
+fn list_live(alive: &[bool; Profile::TYPES], size: usize, live: &mut [u16; Profile::TYPES]) -> usize
     requires { ⌜ size ≤ typeLimit ⌝ }
     requires { ⌜ ((t : ℕ) → size ≤ t → has (now alive) t ≡ false) ⌝ }
-    ensures { λ r. ⌜ Covering (r .types) (r .left) (now (alive .entry)) ⌝ }
+    requires { ⌜ length (now live) ≡ typeLimit ⌝ }
+    ensures { λ r. ⌜ Covering (now (live .exit)) r (now (alive .entry)) ⌝ }
 {
-    let mut types = [0; Profile::TYPES];
     let mut left = 0;
     let mut t = 0;
     while t < size {
         if alive[t] {
-            types[left] = t as u16;
+            live[left] = t as u16;
             left += 1;
         }
         t += 1;
     }
-    Live { left, types }
+    left
 }
 
-// Enters each word that a type of the set offers at its own place.
+// Enters each word that a type of the set offers at its own place, in a table that was cleared.
 fn enter_offers(
     offers: &[u16; Profile::TYPES],
     alive: &[bool; Profile::TYPES],
     live: &[u16; Profile::TYPES],
     left: usize,
+    bits: usize,
     cover: &mut [u16; Profile::TYPES],
 )
     requires { ⌜ Covering (now live) left (now alive) ⌝ }
     requires { ⌜ ((t : ℕ) → has (now alive) t ≡ true → getD (now offers) t 0 < typeLimit) ⌝ }
-    requires { ⌜ ((x : ℕ) → getD (now cover) x 0 ≡ 0) ⌝ }
+    requires { ⌜ bits ≤ atomLimit ⌝ }
     requires { ⌜ length (now cover) ≡ typeLimit ⌝ }
     ensures { λ _. ⌜ length (now (cover .exit)) ≡ typeLimit ⌝ }
-    ensures { λ _. ⌜ ((x : ℕ) → getD (now (cover .exit)) x 0 ≡ offeredIn (now (offers .entry)) (now (alive .entry)) typeLimit x) ⌝ }
+    ensures { λ _. ⌜ Enters (now (offers .entry)) (now (live .entry)) (now (alive .entry)) left (2 ^ bits) (now (cover .exit)) ⌝ }
 {
+    clear_words(cover, bits);
     let mut j = 0;
     while j < left {
         let t = live[j] as usize;
@@ -68,36 +85,34 @@ fn enter_offers(
 }
 
 // Whether a demand by restrictions of one role is met.
-fn is_met(cover: &[u16; Profile::TYPES], others: u16, demand: u16) -> bool
-    requires { ⌜ bitOr demand others < typeLimit ⌝ }
-    ensures { λ r. ⌜ r ≡ metBy (now (cover .entry)) others demand ⌝ }
+fn is_met(cover: &[u16; Profile::TYPES], mask: u16, demand: u16) -> bool
+    requires { ⌜ bitOr demand mask < typeLimit ⌝ }
+    ensures { λ r. ⌜ r ≡ metBy (now (cover .entry)) mask demand ⌝ }
 {
-    let reached = demand | others;
-    (cover[reached as usize] | others) == reached
+    let reached = demand | mask;
+    (cover[reached as usize] | mask) == reached
 }
 
 // Removes the types whose demands by restrictions of one role are not met; whether there were any.
 fn sweep(
     demands: &[u16; Profile::TYPES],
     cover: &[u16; Profile::TYPES],
-    others: u16,
+    mask: u16,
     live: &[u16; Profile::TYPES],
     left: usize,
     alive: &mut [bool; Profile::TYPES],
 ) -> bool
     requires { ⌜ Covering (now live) left (now alive) ⌝ }
-    requires { ⌜ ((t : ℕ) → has (now alive) t ≡ true → bitOr (getD (now demands) t 0) others < typeLimit) ⌝ }
+    requires { ⌜ ((t : ℕ) → has (now alive) t ≡ true → bitOr (getD (now demands) t 0) mask < typeLimit) ⌝ }
     requires { ⌜ length (now alive) ≡ typeLimit ⌝ }
-    ensures { λ _. ⌜ length (now (alive .exit)) ≡ typeLimit ⌝ }
-    ensures { λ _. ⌜ ((t : ℕ) → has (now (alive .exit)) t ≡ (has (now (alive .entry)) t && metBy (now (cover .entry)) others (getD (now (demands .entry)) t 0))) ⌝ }
-    ensures { λ r. ⌜ r ≡ anyBelow (λ t. has (now (alive .entry)) t && not (metBy (now (cover .entry)) others (getD (now (demands .entry)) t 0))) typeLimit ⌝ }
+    ensures { λ r. ⌜ Keeps (metAt (now (cover .entry)) mask (now (demands .entry))) (now (alive .entry)) (now (alive .exit)) r ⌝ }
 {
     let mut removed = false;
     let mut j = 0;
     while j < left {
         let t = live[j] as usize;
         if alive[t] {
-            if !is_met(cover, others, demands[t]) {
+            if !is_met(cover, mask, demands[t]) {
                 alive[t] = false;
                 removed = true;
             }
@@ -116,35 +131,26 @@ fn either(a: bool, b: bool) -> bool
 // The same for the restrictions of all roles, one after the other; a role with no restriction asks for nothing.
 fn sweep_roles(
     v: &[u8],
-    roles: &[u16; Profile::ATOMS],
     bits: usize,
+    masks: &[u16; Record::ROLES as usize],
     demands: &[u16; Profile::TYPES],
     cover: &[u16; Profile::TYPES],
     live: &[u16; Profile::TYPES],
     left: usize,
     alive: &mut [bool; Profile::TYPES],
 ) -> bool
-    requires { ⌜ IsAccepted (now v) ⌝ }
-    requires { ⌜ atoms (now v) ≤ atomLimit ⌝ }
-    requires { ⌜ bits ≡ width (now v) ⌝ }
-    requires { ⌜ Roles (now v) (now roles) ⌝ }
-    requires { ⌜ Demands (now v) (now demands) ⌝ }
+    requires { ⌜ Eliminating (now v) bits (now masks) (now demands) (now live) left (now alive) ⌝ }
     requires { ⌜ Covers (now v) (now alive) (now cover) ⌝ }
-    requires { ⌜ Covering (now live) left (now alive) ⌝ }
-    requires { ⌜ ((t : ℕ) → types (now v) ≤ t → has (now alive) t ≡ false) ⌝ }
-    requires { ⌜ length (now alive) ≡ typeLimit ⌝ }
-    ensures { λ _. ⌜ length (now (alive .exit)) ≡ typeLimit ⌝ }
-    ensures { λ _. ⌜ SameSet (now (alive .exit)) (round (now (v .entry)) (now (alive .entry))) ⌝ }
-    ensures { λ r. ⌜ r ≡ removes (now (v .entry)) (now (alive .entry)) ⌝ }
+    ensures { λ r. ⌜ AfterRound (now (v .entry)) (now (alive .entry)) (now (alive .exit)) r ⌝ }
 {
     let count = read_at(v, 0).b;
     let full = (1 << bits) - 1;
     let mut removed = false;
     let mut role = 0;
     while role < count {
-        let others = others_of(roles, bits, role);
-        if others != full {
-            let found = sweep(demands, cover, others, live, left, alive);
+        let mask = masks[role as usize];
+        if mask != full {
+            let found = sweep(demands, cover, mask, live, left, alive);
             removed = either(removed, found);
         }
         role += 1;
@@ -152,37 +158,60 @@ fn sweep_roles(
     removed
 }
 
-// One round: removes together all types not served by the set as the round began; whether there were any.
+// One round: removes together all types not served by the set as the round began; whether there were any. The table of
+// covers is lent: what it held is of no matter.
 fn remove_unserved(
     v: &[u8],
-    roles: &[u16; Profile::ATOMS],
     bits: usize,
+    masks: &[u16; Record::ROLES as usize],
     demands: &[u16; Profile::TYPES],
     offers: &[u16; Profile::TYPES],
     live: &[u16; Profile::TYPES],
     left: usize,
+    cover: &mut [u16; Profile::TYPES],
     alive: &mut [bool; Profile::TYPES],
 ) -> bool
-    requires { ⌜ IsAccepted (now v) ⌝ }
-    requires { ⌜ atoms (now v) ≤ atomLimit ⌝ }
-    requires { ⌜ bits ≡ width (now v) ⌝ }
-    requires { ⌜ Roles (now v) (now roles) ⌝ }
-    requires { ⌜ Demands (now v) (now demands) ⌝ }
+    requires { ⌜ Eliminating (now v) bits (now masks) (now demands) (now live) left (now alive) ⌝ }
     requires { ⌜ Offers (now v) (now offers) ⌝ }
-    requires { ⌜ Covering (now live) left (now alive) ⌝ }
-    requires { ⌜ ((t : ℕ) → types (now v) ≤ t → has (now alive) t ≡ false) ⌝ }
-    requires { ⌜ length (now alive) ≡ typeLimit ⌝ }
-    ensures { λ _. ⌜ length (now (alive .exit)) ≡ typeLimit ⌝ }
-    ensures { λ _. ⌜ SameSet (now (alive .exit)) (round (now (v .entry)) (now (alive .entry))) ⌝ }
-    ensures { λ r. ⌜ r ≡ removes (now (v .entry)) (now (alive .entry)) ⌝ }
+    requires { ⌜ length (now cover) ≡ typeLimit ⌝ }
+    ensures { λ _. ⌜ length (now (cover .exit)) ≡ typeLimit ⌝ }
+    ensures { λ r. ⌜ AfterRound (now (v .entry)) (now (alive .entry)) (now (alive .exit)) r ⌝ }
 {
-    let mut cover = [0; Profile::TYPES];
-    enter_offers(offers, alive, live, left, &mut cover);
-    spread_words(&mut cover, bits);
-    sweep_roles(v, roles, bits, demands, &cover, live, left, alive)
+    enter_offers(offers, alive, live, left, bits, cover);
+    spread_words(cover, bits);
+    sweep_roles(v, bits, masks, demands, cover, live, left, alive)
 }
 
 // Rounds until one removes nothing; how many removed something.
+fn count_rounds(
+    v: &[u8],
+    bits: usize,
+    masks: &[u16; Record::ROLES as usize],
+    demands: &[u16; Profile::TYPES],
+    offers: &[u16; Profile::TYPES],
+    live: &[u16; Profile::TYPES],
+    left: usize,
+    cover: &mut [u16; Profile::TYPES],
+    alive: &mut [bool; Profile::TYPES],
+) -> usize
+    requires { ⌜ Eliminating (now v) bits (now masks) (now demands) (now live) left (now alive) ⌝ }
+    requires { ⌜ Offers (now v) (now offers) ⌝ }
+    requires { ⌜ SameSet (now alive) (stage (now v) 0) ⌝ }
+    requires { ⌜ length (now cover) ≡ typeLimit ⌝ }
+    ensures { λ _. ⌜ SameSet (now (alive .exit)) (survivors (now (v .entry))) ⌝ }
+    ensures { λ r. ⌜ r ≡ rounds (now (v .entry)) ⌝ }
+{
+    let mut done = 0;
+    loop {
+        let removed = remove_unserved(v, bits, masks, demands, offers, live, left, cover, alive);
+        if !removed {
+            return done;
+        }
+        done += 1;
+    }
+}
+
+// Keeps the survivors; answers the number of rounds that removed something.
 pub fn eliminate(
     v: &[u8],
     roles: &[u16; Profile::ATOMS],
@@ -204,15 +233,19 @@ pub fn eliminate(
     ensures { λ _. ⌜ SameSet (now (alive .exit)) (survivors (now (v .entry))) ⌝ }
     ensures { λ r. ⌜ r ≡ rounds (now (v .entry)) ⌝ }
 {
-    let list = list_live(alive, size);
-    let live = list.types;
-    let left = list.left;
-    let mut done = 0;
-    loop {
-        let removed = remove_unserved(v, roles, bits, demands, offers, &live, left, alive);
-        if !removed {
-            return done;
-        }
-        done += 1;
-    }
+    let masks = list_masks(v, roles, bits);
+    let mut live = [0; Profile::TYPES];
+    let left = list_live(alive, size, &mut live);
+    let mut cover = [0; Profile::TYPES];
+    count_rounds(
+        v,
+        bits,
+        &masks,
+        demands,
+        offers,
+        &live,
+        left,
+        &mut cover,
+        alive,
+    )
 }

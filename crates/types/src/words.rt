@@ -1,21 +1,31 @@
 // A table of words, each entry spread to the words that have it within them.
 use crate::profile::Profile;
 ghost use mathlib.Core.Path.{_≡_};
-ghost use mathlib.Core.Bool.{cond, _&&_};
-ghost use Prim.Native.Nat.{ℕ, _+_, _-_, _*_, _^_, _≤_, _<_};
+ghost use Prim.Native.Nat.{ℕ, _+_, _*_, _^_, _≤_, _<_};
 ghost use lib.ListN.{length, getD};
-ghost use lib.Dec.{ltb, leb};
-ghost use lib.Bits.{bitOr};
-ghost use Rattle.types.specs.Below.{bit};
-ghost use Rattle.types.specs.Words.{spread};
+ghost use Rattle.types.specs.Elimination.{between, Joined, Spreads, SpreadTo};
 ghost use Rattle.types.specs.Compare.{atomLimit, typeLimit};
+
+// Clears the words below 2^bits.
+pub fn clear_words(cover: &mut [u16; Profile::TYPES], bits: usize)
+    requires { ⌜ bits ≤ atomLimit ⌝ }
+    requires { ⌜ length (now cover) ≡ typeLimit ⌝ }
+    ensures { λ _. ⌜ length (now (cover .exit)) ≡ typeLimit ⌝ }
+    ensures { λ _. ⌜ ((x : ℕ) → x < 2 ^ bits → getD (now (cover .exit)) x 0 ≡ 0) ⌝ }
+{
+    let size = 1 << bits;
+    let mut x = 0;
+    while x < size {
+        cover[x] = 0;
+        x += 1;
+    }
+}
 
 // Adds to each of `half` entries from `at + half` on the entry `half` places before it.
 fn join_block(cover: &mut [u16; Profile::TYPES], at: usize, half: usize)
     requires { ⌜ at + 2 * half ≤ typeLimit ⌝ }
     requires { ⌜ length (now cover) ≡ typeLimit ⌝ }
-    ensures { λ _. ⌜ length (now (cover .exit)) ≡ typeLimit ⌝ }
-    ensures { λ _. ⌜ ((y : ℕ) → getD (now (cover .exit)) y 0 ≡ cond (leb (at + half) y && ltb y (at + 2 * half)) (bitOr (getD (now (cover .entry)) y 0) (getD (now (cover .entry)) (y - half) 0)) (getD (now (cover .entry)) y 0)) ⌝ }
+    ensures { λ _. ⌜ Joined (between (at + half) (at + 2 * half)) half (now (cover .entry)) (now (cover .exit)) ⌝ }
 {
     let end = at + half;
     let mut x = at;
@@ -30,8 +40,7 @@ fn spread_blocks(cover: &mut [u16; Profile::TYPES], size: usize, n: usize)
     requires { ⌜ size ≤ typeLimit ⌝ }
     requires { ⌜ n < atomLimit ⌝ }
     requires { ⌜ length (now cover) ≡ typeLimit ⌝ }
-    ensures { λ _. ⌜ length (now (cover .exit)) ≡ typeLimit ⌝ }
-    ensures { λ _. ⌜ ((x : ℕ) → x < size → getD (now (cover .exit)) x 0 ≡ cond (bit x n) (bitOr (getD (now (cover .entry)) x 0) (getD (now (cover .entry)) (x - 2 ^ n) 0)) (getD (now (cover .entry)) x 0)) ⌝ }
+    ensures { λ _. ⌜ Spreads n size (now (cover .entry)) (now (cover .exit)) ⌝ }
 {
     let half = 1 << n;
     let mut at = 0;
@@ -47,8 +56,7 @@ fn spread_near(cover: &mut [u16; Profile::TYPES], size: usize, n: usize)
     requires { ⌜ size ≤ typeLimit ⌝ }
     requires { ⌜ n < atomLimit ⌝ }
     requires { ⌜ length (now cover) ≡ typeLimit ⌝ }
-    ensures { λ _. ⌜ length (now (cover .exit)) ≡ typeLimit ⌝ }
-    ensures { λ _. ⌜ ((x : ℕ) → x < size → getD (now (cover .exit)) x 0 ≡ cond (bit x n) (bitOr (getD (now (cover .entry)) x 0) (getD (now (cover .entry)) (x - 2 ^ n) 0)) (getD (now (cover .entry)) x 0)) ⌝ }
+    ensures { λ _. ⌜ Spreads n size (now (cover .entry)) (now (cover .exit)) ⌝ }
 {
     let half = 1 << n;
     let mut x = half;
@@ -63,8 +71,7 @@ fn spread_bit(cover: &mut [u16; Profile::TYPES], size: usize, n: usize)
     requires { ⌜ size ≤ typeLimit ⌝ }
     requires { ⌜ n < atomLimit ⌝ }
     requires { ⌜ length (now cover) ≡ typeLimit ⌝ }
-    ensures { λ _. ⌜ length (now (cover .exit)) ≡ typeLimit ⌝ }
-    ensures { λ _. ⌜ ((x : ℕ) → x < size → getD (now (cover .exit)) x 0 ≡ cond (bit x n) (bitOr (getD (now (cover .entry)) x 0) (getD (now (cover .entry)) (x - 2 ^ n) 0)) (getD (now (cover .entry)) x 0)) ⌝ }
+    ensures { λ _. ⌜ Spreads n size (now (cover .entry)) (now (cover .exit)) ⌝ }
 {
     if n < 4 {
         spread_near(cover, size, n);
@@ -77,8 +84,7 @@ fn spread_bit(cover: &mut [u16; Profile::TYPES], size: usize, n: usize)
 pub fn spread_words(cover: &mut [u16; Profile::TYPES], bits: usize)
     requires { ⌜ bits ≤ atomLimit ⌝ }
     requires { ⌜ length (now cover) ≡ typeLimit ⌝ }
-    ensures { λ _. ⌜ length (now (cover .exit)) ≡ typeLimit ⌝ }
-    ensures { λ _. ⌜ ((x : ℕ) → x < 2 ^ bits → getD (now (cover .exit)) x 0 ≡ spread (λ y. getD (now (cover .entry)) y 0) bits x) ⌝ }
+    ensures { λ _. ⌜ SpreadTo bits (2 ^ bits) (now (cover .entry)) (now (cover .exit)) ⌝ }
 {
     let size = 1 << bits;
     let mut n = 0;

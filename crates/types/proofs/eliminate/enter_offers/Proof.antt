@@ -1,35 +1,42 @@
 -- `types::eliminate::enter_offers` meets its contract. The loop's invariant: `cover` holds what the first `j` listed types
--- offer. The list has every type of the set.
+-- offer.
 -- Assumes nothing.
-use Prim.Native.Nat.{_-_, _≤_, _<_}
+use Prim.Native.Nat.{_-_, _^_, _≤_, _<_}
 use native.Mathlib.Omega.{arith}
 use mathlib.Core.Logic.{⊎-elim}
 use mathlib.Core.Path.{_≡_, subst}
 use lib.ListN.{getD}
 use denote.Ref.{now}
-use Rattle.types.proofs.Sweeps.{Entered, enter-start, enter-more, enter-same, enter-end}
+use Rattle.types.specs.Compare.{typeLimit}
+use Rattle.types.proofs.Sweeps.{Entered, enter-start, enter-more, enter-same}
 use Rattle.types.proofs.eliminate.enter_offers.Statement.{statement}
 use Rattle.types.proofs.eliminate.enter_offers.Tie as tie
-use Rattle.types.specs.Compare.{typeLimit}
 
 abbrev Inv-loop : tie.InvT-loop
-Inv-loop offers alive live left cover₀ j₀ cover j = (j ≤ left) × Entered offers live alive cover j
+Inv-loop offers alive live left bits cover₀ j₀ cover j = (j ≤ left) × Entered offers live alive typeLimit (2 ^ bits) cover j
 
 abbrev μ-loop : tie.MeasureT-loop
-μ-loop offers alive live left cover₀ j₀ cover j = left - j
+μ-loop offers alive live left bits cover₀ j₀ cover j = left - j
 
--- the listed type is one of the tables' 4096
-inside : (c : tie.In-loop Inv-loop μ-loop) → getD (now (c .before .before .args .live)) (c .before .loop .j) 0 < typeLimit
-inside c = c .before .before .pre .0 .inside (c .before .loop .j) (c .loop-test .taken)
+clear-words-requires : tie.Need-clear-words-requires Inv-loop μ-loop
+clear-words-requires c κs = c .before .pre .1 .1
 
 loop-holds : tie.Need-loop-holds Inv-loop μ-loop
-loop-holds c = (omega arith, enter-start _ _ _ _ (c .pre .1 .1 .1) (c .pre .1 .1 .0))
+loop-holds c = (omega arith, enter-start _ _ _ _ _ _ (c .clear-words .ensures .0) (c .clear-words .ensures .1))
+
+-- the place in the list, and the listed type, are in the tables
+place : (c : tie.In-loop Inv-loop μ-loop) → c .before .loop .j < typeLimit
+place c = omega (arith, c .before .before .before .before .pre .0 .few)
+
+inside : (c : tie.In-loop Inv-loop μ-loop)
+    → getD (now (c .before .before .before .before .args .live)) (c .before .loop .j) 0 < typeLimit
+inside c = c .before .before .before .before .pre .0 .inside (c .before .loop .j) (c .loop-test .taken)
 
 mul-t : tie.Need-mul-t Inv-loop μ-loop
-mul-t c = omega (arith, c .before .before .pre .0 .few)
+mul-t c = omega (arith, place c)
 
 element-copy-out-t : tie.Need-element-copy-out-t Inv-loop μ-loop
-element-copy-out-t c = omega (arith, c .before .before .pre .0 .few)
+element-copy-out-t c = place c
 
 cast-t : tie.Need-cast-t Inv-loop μ-loop
 cast-t c = omega (arith, inside (c .before))
@@ -45,7 +52,9 @@ element-copy-out-offer c = inside (c .before .before .before)
 
 -- and so is the word it offers
 element-write-cover : tie.Need-element-write-cover Inv-loop μ-loop
-element-write-cover c = c .before .before .before .before .before .before .pre .1 .0 _ (c .before .if1 .taken)
+element-write-cover c =
+    let loop = c .before .before .before .before .before in
+    loop .before .before .before .pre .1 .0 _ (c .before .if1 .taken)
 
 cast-cover : tie.Need-cast-cover Inv-loop μ-loop
 cast-cover c = omega (arith, element-write-cover c)
@@ -54,27 +63,27 @@ mul-cover : tie.Need-mul-cover Inv-loop μ-loop
 mul-cover c = omega (arith, element-write-cover c)
 
 add-j : tie.Need-add-j Inv-loop μ-loop
-add-j c = omega (arith, c .before .before .before .before .before .pre .0 .few)
+add-j c = omega (arith, place (c .before .before .before))
 
 loop-less : tie.Need-loop-less Inv-loop μ-loop
 loop-less c = omega arith
 
 loop-again : tie.Need-loop-again Inv-loop μ-loop
 loop-again c =
-    let l = c .before .before .before .before .loop .inv .1 in (
+    let loop = c .before .before .before .before in
+    let l = loop .loop .inv .1 in
+    let offers-in = loop .before .before .before .pre .1 .0 in (
       omega arith,
-      ⊎-elim
-          (λ w. rw (w .2)
-          (enter-more _ _ _ _ _ l (w .0 .taken) (c .before .before .before .before .before .pre .1 .0 _ (w .0 .taken))))
-          (λ w. rw (w .1) (enter-same _ _ _ _ _ l (w .0 .left)))
+      ⊎-elim (λ w. rw (w .2) (enter-more _ _ _ _ _ _ _ l (w .0 .taken) (offers-in _ (w .0 .taken))))
+          (λ w. rw (w .1) (enter-same _ _ _ _ _ _ _ l (w .0 .left)))
           (c .if1 .came),
     )
 
 returns : tie.Need-returns Inv-loop μ-loop
 returns c =
     let l = c .before .loop .inv .1 in
-    let e : c .before .loop .j ≡ c .before .before .args .left = omega arith in
-    (l .size, enter-end _ _ _ _ _ (c .before .before .pre .0) (subst (Entered _ _ _ _) e l))
+    let e : c .before .loop .j ≡ c .before .before .before .before .args .left = omega arith in
+    (l .size, subst (Entered _ _ _ _ _ _) e l .entered)
 
 pub enter-offers-spec : {M : Type 1} → statement M
 enter-offers-spec =
@@ -82,6 +91,7 @@ enter-offers-spec =
     (tie.spec
     Inv-loop
     μ-loop
+    clear-words-requires
     loop-holds
     mul-t
     element-copy-out-t

@@ -1,60 +1,66 @@
 -- `types::eliminate::list_live` meets its contract. The loop's invariant: the types below `t` that are alive are listed.
 -- From `size` on there are none.
 -- Assumes nothing.
-use Prim.Native.Nat.{_-_, _≤_}
+use Prim.Native.Nat.{_-_, _≤_, _<_}
 use native.Mathlib.Omega.{arith}
 use mathlib.Core.Logic.{⊎-elim}
-use mathlib.Core.Path.{refl}
+use Rattle.types.specs.Compare.{typeLimit}
 use Rattle.types.proofs.Listing.{ListedBelow, list-start, list-more, list-same}
 use Rattle.types.proofs.Sweeps.{list-covering}
 use Rattle.types.proofs.eliminate.list_live.Statement.{statement}
 use Rattle.types.proofs.eliminate.list_live.Tie as tie
-use Rattle.types.specs.Compare.{typeLimit}
 
 abbrev Inv-loop : tie.InvT-loop
-Inv-loop alive size types₀ left₀ t₀ types left t = (t ≤ size) × ListedBelow typeLimit alive types left t
+Inv-loop alive size live₀ left₀ t₀ live left t = (t ≤ size) × ListedBelow typeLimit alive live left t
 
 abbrev μ-loop : tie.MeasureT-loop
-μ-loop alive size types₀ left₀ t₀ types left t = size - t
+μ-loop alive size live₀ left₀ t₀ live left t = size - t
 
 loop-holds : tie.Need-loop-holds Inv-loop μ-loop
-loop-holds c = (omega arith, list-start _ _ _ refl)
+loop-holds c = (omega arith, list-start _ _ _ (c .pre .1 .1))
+
+-- the type, and its place in the list, are in the tables
+inside : (c : tie.In-loop Inv-loop μ-loop) → c .before .loop .t < typeLimit
+inside c = omega (arith, c .before .before .pre .0)
+
+place : (c : tie.In-loop Inv-loop μ-loop) → c .before .loop .left < typeLimit
+place c = omega (arith, inside c, c .before .loop .inv .1 .few)
 
 element-copy-out-if1 : tie.Need-element-copy-out-if1 Inv-loop μ-loop
-element-copy-out-if1 c = omega (arith, c .before .before .pre .0)
+element-copy-out-if1 c = inside c
 
-cast-types : tie.Need-cast-types Inv-loop μ-loop
-cast-types c = omega (arith, c .before .before .before .before .pre .0)
+cast-live : tie.Need-cast-live Inv-loop μ-loop
+cast-live c = omega (arith, inside (c .before .before))
 
-mul-types : tie.Need-mul-types Inv-loop μ-loop
-mul-types c = omega (arith, c .before .before .before .before .pre .0, c .before .before .before .loop .inv .1 .few)
+mul-live : tie.Need-mul-live Inv-loop μ-loop
+mul-live c = omega (arith, place (c .before .before))
 
-array-write-types : tie.Need-array-write-types Inv-loop μ-loop
-array-write-types c = omega (arith, c .before .before .before .before .pre .0, c .before .before .before .loop .inv .1 .few)
+element-write-live : tie.Need-element-write-live Inv-loop μ-loop
+element-write-live c = omega (arith, place (c .before .before))
 
 add-left : tie.Need-add-left Inv-loop μ-loop
-add-left c = omega (arith, c .before .before .before .before .pre .0, c .before .before .before .loop .inv .1 .few)
+add-left c = omega (arith, place (c .before .before))
 
 add-t : tie.Need-add-t Inv-loop μ-loop
-add-t c = omega (arith, c .before .before .before .before .pre .0)
+add-t c = omega (arith, inside (c .before .before))
 
 loop-less : tie.Need-loop-less Inv-loop μ-loop
 loop-less c = omega arith
 
 loop-again : tie.Need-loop-again Inv-loop μ-loop
 loop-again c =
-    let l = c .before .before .before .loop .inv .1 in (
+    let turn = c .before .before in
+    let l = turn .before .loop .inv .1 in (
       omega arith,
-      ⊎-elim
-          (λ w. rw (w .1, w .2) (list-more _ _ _ _ _ l (omega (arith, c .before .before .before .before .pre .0)) (w .0 .taken)))
+      ⊎-elim (λ w. rw (w .1, w .2) (list-more _ _ _ _ _ l (inside turn) (w .0 .taken)))
           (λ w. rw (w .1, w .2) (list-same _ _ _ _ _ l (w .0 .left)))
           (c .if1 .came),
     )
 
 returns : tie.Need-returns Inv-loop μ-loop
 returns c =
-    list-covering _ _ _ _ (c .before .loop .inv .1) (omega (arith, c .before .before .pre .0))
-    (λ u h. c .before .before .pre .1 u (omega arith))
+    let start = c .before .before .pre in
+    list-covering _ _ _ _ (c .before .loop .inv .1) (omega (arith, start .0)) (λ u h. start .1 .0 u (omega arith))
 
 pub list-live-spec : {M : Type 1} → statement M
 list-live-spec =
@@ -64,9 +70,9 @@ list-live-spec =
     μ-loop
     loop-holds
     element-copy-out-if1
-    cast-types
-    mul-types
-    array-write-types
+    cast-live
+    mul-live
+    element-write-live
     add-left
     add-t
     loop-less

@@ -5,34 +5,37 @@ use Prim.Native.Nat.{_-_, _<_}
 use native.Mathlib.Omega.{arith}
 use mathlib.Core.Logic.{⊎-elim}
 use mathlib.Core.Path.{sym, _∙_}
-use lib.ListN.{getD}
+use lib.ListN.{length, getD}
 use denote.Ref.{now}
 use borrow.Author.Tests.{not-true, not-false}
-use Rattle.types.specs.Words.{metBy}
-use Rattle.types.proofs.Sweeps.{Swept, sweep-start, sweep-out, sweep-met, sweep-past, sweep-set, sweep-any}
+use Rattle.types.specs.Compare.{typeLimit}
+use Rattle.types.specs.Elimination.{metAt}
+use Rattle.types.proofs.Sweeps.{Swept, sweep-start, sweep-out, sweep-met, sweep-past, sweep-end}
 use Rattle.types.proofs.eliminate.sweep.Statement.{statement}
 use Rattle.types.proofs.eliminate.sweep.Tie as tie
-use Rattle.types.specs.Compare.{typeLimit}
 
 abbrev Inv-loop : tie.InvT-loop
-Inv-loop demands cover others live left alive₀ removed₀ j₀ alive removed j =
-    Swept (λ t. metBy cover others (getD demands t 0)) live alive₀ alive removed j
+Inv-loop demands cover mask live left alive₀ removed₀ j₀ alive removed j =
+    Swept (metAt cover mask demands) live alive₀ alive removed j
 
 abbrev μ-loop : tie.MeasureT-loop
-μ-loop demands cover others live left alive₀ removed₀ j₀ alive removed j = left - j
+μ-loop demands cover mask live left alive₀ removed₀ j₀ alive removed j = left - j
 
--- the listed type is one of the tables' 4096
+-- the place in the list, and the listed type, are in the tables
+place : (c : tie.In-loop Inv-loop μ-loop) → c .before .loop .j < typeLimit
+place c = omega (arith, c .before .before .pre .0 .few)
+
 inside : (c : tie.In-loop Inv-loop μ-loop) → getD (now (c .before .before .args .live)) (c .before .loop .j) 0 < typeLimit
 inside c = c .before .before .pre .0 .inside (c .before .loop .j) (c .loop-test .taken)
 
 loop-holds : tie.Need-loop-holds Inv-loop μ-loop
-loop-holds c = sweep-start _ _ _ (c .pre .1 .1)
+loop-holds c = sweep-start _ _ _
 
 mul-t : tie.Need-mul-t Inv-loop μ-loop
-mul-t c = omega (arith, c .before .before .pre .0 .few)
+mul-t c = omega (arith, place c)
 
 element-copy-out-t : tie.Need-element-copy-out-t Inv-loop μ-loop
-element-copy-out-t c = omega (arith, c .before .before .pre .0 .few)
+element-copy-out-t c = place c
 
 cast-t : tie.Need-cast-t Inv-loop μ-loop
 cast-t c = omega (arith, inside (c .before))
@@ -48,35 +51,34 @@ element-copy-out-is-met c = inside (c .before .before .before)
 
 is-met-requires : tie.Need-is-met-requires Inv-loop μ-loop
 is-met-requires c κs =
-    c .before .before .before .before .before .before .pre .1 .0 _
-    (c .before .before .before .before .before .loop .inv .within _ (c .before .if1 .taken))
+    let loop = c .before .before .before .before .before in
+    loop .before .pre .1 .0 _ (loop .loop .inv .within _ (c .before .if1 .taken))
 
 element-write-alive : tie.Need-element-write-alive Inv-loop μ-loop
 element-write-alive c = inside (c .before .before .before .before .before .before)
 
 add-j : tie.Need-add-j Inv-loop μ-loop
-add-j c = omega (arith, c .before .before .before .before .before .pre .0 .few)
+add-j c = omega (arith, place (c .before .before .before))
 
 loop-less : tie.Need-loop-less Inv-loop μ-loop
 loop-less c = omega arith
 
 loop-again : tie.Need-loop-again Inv-loop μ-loop
 loop-again c =
-    let l = c .before .before .before .before .loop .inv in
+    let turn = c .before .before .before in
+    let l = turn .before .loop .inv in
+    let start = turn .before .before in
+    let u : getD (now (start .args .live)) (turn .before .loop .j) 0 < length (now (start .args .alive)) = omega
+    (arith, inside turn, start .pre .1 .1) in
     ⊎-elim
-    (λ w. rw (w .4, w .5) (sweep-out _ _ _ _ _ _ l (inside (c .before .before .before)) (w .0 .taken)
-    (sym (w .2 .ensures) ∙ not-true _ (w .3 .taken))))
+    (λ w. rw (w .4, w .5) (sweep-out _ _ _ _ _ _ l u (w .0 .taken) (sym (w .2 .ensures) ∙ not-true _ (w .3 .taken))))
     (⊎-elim
     (λ w. rw (w .4, w .5) (sweep-met _ _ _ _ _ _ l (sym (w .2 .ensures) ∙ not-false _ (w .3 .left))))
     (λ w. rw (w .1, w .2) (sweep-past _ _ _ _ _ _ l (w .0 .left))))
     (c .if1 .came)
 
 returns : tie.Need-returns Inv-loop μ-loop
-returns c =
-    let l = c .before .loop .inv in
-    let has-all = c .before .before .pre .0 in
-    let end = c .loop-test .left in
-    (l .size, (sweep-set _ _ _ _ _ _ l _ has-all end, sweep-any _ _ _ _ _ _ l _ has-all end))
+returns c = sweep-end _ _ _ _ _ _ (c .before .loop .inv) _ (c .before .before .pre .0) (c .loop-test .left)
 
 pub sweep-spec : {M : Type 1} → statement M
 sweep-spec =

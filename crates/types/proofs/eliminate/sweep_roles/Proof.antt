@@ -1,7 +1,7 @@
 -- `types::eliminate::sweep_roles` meets its contract. The loop's invariant: what is left is what the roles below `role`
 -- serve.
 -- Assumes nothing.
-use Prim.Native.Nat.{ℕ, _-_, _^_, _≤_}
+use Prim.Native.Nat.{ℕ, _+_, _-_, _^_, _≤_, _<_}
 use native.Mathlib.Omega.{arith}
 use mathlib.Core.Logic.{⊎-elim}
 use mathlib.Core.Path.{_≡_, ap, _∙_, subst}
@@ -9,154 +9,97 @@ use lib.ListN.{getD}
 use lib.Pow.{pow-pos}
 use borrow.Author.Needs.{needs}
 use denote.Ref.{now}
-use Rattle.records.proofs.Accepted.{accepted-vocabulary}
-use Rattle.records.specs.Format.{roleCount, count}
+use Rattle.records.specs.Format.{roleCount}
 use Rattle.records.specs.declared.fields.Record.{Record}
-use Rattle.types.specs.Words.{metBy}
-use Rattle.types.proofs.Restrictions.{width-bound}
-use Rattle.types.proofs.Rounds.{Swept, swept-start, swept-skip, swept-turn, swept-round, swept-removes}
-use Rattle.types.proofs.Rounds.{others-done, reached-in, met-role, full-word, swept-within, covering-less, member-below}
-use Rattle.types.proofs.Served.{role-unused}
-use Rattle.types.proofs.Turns.{types-bound}
+use Rattle.types.proofs.Rounds.{AfterRoles, roles-start, roles-within, roles-skip, roles-turn, round-done}
+use Rattle.types.proofs.Rounds.{good, bits-few, reached-in, met-role, role-skipped, full-word}
+use Rattle.types.proofs.Sweeps.{covering-less}
 use Rattle.types.proofs.eliminate.sweep_roles.Statement.{statement}
 use Rattle.types.proofs.eliminate.sweep_roles.Tie as tie
 
 abbrev Inv-loop : tie.InvT-loop
-Inv-loop v roles bits demands cover live left alive₀ count full removed₀ role₀ alive removed role =
-    (role ≤ roleCount v) × Swept v alive₀ alive removed role
+Inv-loop v bits masks demands cover live left alive₀ count full removed₀ role₀ alive removed role =
+    (role ≤ roleCount v) × AfterRoles v alive₀ role alive removed
 
 abbrev μ-loop : tie.MeasureT-loop
-μ-loop v roles bits demands cover live left alive₀ count full removed₀ role₀ alive removed role = roleCount v - role
+μ-loop v bits masks demands cover live left alive₀ count full removed₀ role₀ alive removed role = count - role
 
 read-at-requires : tie.Need-read-at-requires Inv-loop μ-loop
-read-at-requires c κs = omega (arith, (accepted-vocabulary (now (c .before .args .v)) _ (c .before .pre .0)) .sized .least)
+read-at-requires c κs = omega (arith, good (c .before .pre .0) .sized .least)
 
 cast-full : tie.Need-cast-full Inv-loop μ-loop
-cast-full c =
-    let p = c .before .before .pre in omega (
-      arith,
-      (p .1 .1 .0),
-      (p .1 .0),
-      width-bound
-          (now (c .before .before .args .v)),
-    )
+cast-full c = omega (arith, bits-few (c .before .before .pre .0))
 
 shl-full : tie.Need-shl-full Inv-loop μ-loop
-shl-full c =
-    let p = c .before .before .pre in omega (
-      arith,
-      (p .1 .1 .0),
-      (p .1 .0),
-      width-bound
-          (now (c .before .before .args .v)),
-    )
+shl-full c = omega (arith, bits-few (c .before .before .pre .0))
 
 sub-full : tie.Need-sub-full Inv-loop μ-loop
 sub-full c =
-    let p = c .before .before .pre in
-    let a = c .before .before .args in omega (
-      arith,
-      full-word (a .bits)
-          (omega (arith, (p .1 .1 .0), (p .1 .0), width-bound (now (a .v)))),
-      pow-pos (a .bits),
-    )
+    let few = bits-few (c .before .before .pre .0) in
+    omega (arith, full-word (c .before .before .args .bits) (omega arith), pow-pos (c .before .before .args .bits))
 
 loop-holds : tie.Need-loop-holds Inv-loop μ-loop
-loop-holds c =
-    let a = c .before .before .args in (
-      omega arith,
-      swept-start (now (a .v)) (now (a .alive))
-          (c .before .before .pre .1 .1 .1 .1 .1 .1 .1 .1),
-    )
+loop-holds c = (omega arith, roles-start _ _)
 
-others-of-requires : tie.Need-others-of-requires Inv-loop μ-loop
-others-of-requires c κs =
-    let p = c .before .before .before .before .pre in omega
-    (arith, (p .1 .1 .0), (p .1 .0), width-bound (now (c .before .before .before .before .args .v)))
+-- the role is one of the vocabulary's
+below : (c : tie.In-loop Inv-loop μ-loop) → c .before .loop .role < roleCount (now (c .before .before .before .before .args .v))
+below c = omega (arith, c .loop-test .taken, ap (λ (r : Record). r .b) (c .before .before .read-at .ensures))
+
+-- so of the table's
+inside : (c : tie.In-loop Inv-loop μ-loop) → c .before .loop .role < 64
+inside c = omega (arith, below c, good (c .before .before .before .before .pre .0) .roles)
+
+cast-mask : tie.Need-cast-mask Inv-loop μ-loop
+cast-mask c = omega (arith, inside c)
+
+mul-mask : tie.Need-mul-mask Inv-loop μ-loop
+mul-mask c = omega (arith, inside c)
+
+element-copy-out-mask : tie.Need-element-copy-out-mask Inv-loop μ-loop
+element-copy-out-mask c = omega (arith, inside c)
 
 sweep-requires : tie.Need-sweep-requires Inv-loop μ-loop
 sweep-requires c κs =
-    let l = c .before .before .before .before .loop in
-    let p = c .before .before .before .before .before .before .before .pre in
-    let a = c .before .before .before .before .before .before .before .args in (
-      covering-less _ _ (now (a .alive)) (l .alive) (swept-within (now (a .v)) (now (a .alive)) (l .alive) _ _
-          (l .inv .1)) (p .1 .1 .1 .1 .1 .1 .0),
-      (
-        λ t h. reached-in (now (a .v)) (now (a .demands)) t (l .role) _ (p .1 .0)
-            (member-below (now (a .v)) (now (a .alive)) (accepted-vocabulary (now (a .v)) _ (p .0)) (p .1 .1 .1 .1 .1 .1 .1 .0) t
-            ((swept-within (now (a .v)) (now (a .alive)) (l .alive) _ _ (l .inv .1)) t h)) (p .1 .1 .1 .1 .0)
-            (c .before .before .others-of .ensures ∙ others-done (now (a .v)) (now (a .roles)) (a .bits) (l .role) (p .1 .1 .0)
-            (p .1 .1 .1 .0)),
-        l .inv .1 .size,
-      ),
-    )
+    let turn = c .before .before .before in
+    let w = turn .before .loop .inv .1 in
+    let s = turn .before .before .before .before .pre .0 in
+    let within = roles-within _ _ _ _ _ w in
+    (covering-less _ _ _ _ within (s .listed), (λ t h. reached-in s _ t (below turn) (within t h), w .size ∙ s .size))
 
 either-requires : tie.Need-either-requires Inv-loop μ-loop
 either-requires c κs = search needs
 
 add-role : tie.Need-add-role Inv-loop μ-loop
-add-role c = omega (arith, c .before .before .before .loop .inv .0, c .before .before .before .before .read-at .ok)
+add-role c = omega (arith, inside (c .before .before))
 
 loop-less : tie.Need-loop-less Inv-loop μ-loop
-loop-less c =
-    omega (
-      arith,
-      c .before .before .before .loop .inv .0,
-      c .before .before .loop-test .taken,
-      ap (λ (r : Record). r .b)
-          (c .before .before .before .before .read-at .ensures),
-    )
+loop-less c = omega (arith, c .before .before .loop-test .taken)
 
 loop-again : tie.Need-loop-again Inv-loop μ-loop
 loop-again c =
-    let l = c .before .before .before .loop in
-    let p = c .before .before .before .before .before .before .pre in
-    let a = c .before .before .before .before .before .before .args in (
-      omega (
-        arith,
-        l .inv .0,
-        c .before .before .loop-test .taken,
-        ap (λ (r : Record). r .b)
-            (c .before .before .before .before .read-at .ensures),
-      ),
+    let turn = c .before .before in
+    let w = turn .before .loop .inv .1 in
+    let start = turn .before .before .before .before in
+    let s = start .pre .0 in
+    let few = bits-few s in
+    let full = full-word (start .args .bits) (omega arith) in (
+      omega (arith, below turn),
       ⊎-elim
-          (λ w. rw (w .4, w .5 ∙ w .3 .ensures) (swept-turn (now (a .v)) (now (a .alive)) (l .alive) _ (l .removed)
-          (w .2 .result) (l .role) (λ t. metBy (now (a .cover)) (c .before .others-of .result) (getD (now (a .demands)) t 0))
-          (l .inv .1) (λ t h. met-role (now (a .v)) (now (a .alive)) (now (a .demands)) (now (a .cover)) t (l .role) _
-          (member-below (now (a .v)) (now (a .alive)) (accepted-vocabulary (now (a .v)) _ (p .0)) (p .1 .1 .1 .1 .1 .1 .1 .0) t
-          h) (p .1 .1 .1 .1 .0) (p .1 .1 .1 .1 .1 .0) (c .before .others-of .ensures ∙ others-done (now (a .v))
-          (now (a .roles)) (a .bits) (l .role) (p .1 .1 .0) (p .1 .1 .1 .0))) (w .2 .ensures .0) (w .2 .ensures .1 .0)
-          (w .2 .ensures .1 .1))) (λ w. rw (w .1, w .2) (swept-skip (now (a .v)) (now (a .alive)) (l .alive) (l .removed)
-          (l .role) (λ t. role-unused (now (a .v)) (now (a .alive)) t (l .role)
-          (omega (
-            arith,
-            (c .before .others-of .ensures ∙ others-done (now (a .v)) (now (a .roles)) (a .bits) (l .role)
-                (p .1 .1 .0) (p .1 .1 .1 .0)),
-            w .0 .left,
-            full-word (a .bits)
-                (omega (arith, (p .1 .1 .0), (p .1 .0), width-bound (now (a .v)))),
-            ap (λ (n : ℕ). 2 ^ n) (p .1 .1 .0),
-          )))
-          (l .inv .1))) (c .if1 .came),
+          (λ z. rw (z .4, z .5 ∙ z .3 .ensures)
+          (roles-turn _ _ _ _ _ w _ _ _ (z .2 .ensures) (λ t m. met-role s (now (start .args .cover)) (start .pre .1) _ t (below turn) m)))
+          (λ z. rw (z .1, z .2)
+          (roles-skip _ _ _ _ _ w (λ t. role-skipped s _ t (below turn) (omega (arith, z .0 .left, full)))))
+          (c .if1 .came),
     )
 
 returns : tie.Need-returns Inv-loop μ-loop
 returns c =
-    let p = c .before .before .before .before .pre in
-    let a = c .before .before .before .before .args in
-    let w = c .before .loop .inv .1 in
-    let e : c .before .loop .role ≡ roleCount (now (a .v)) = omega
-    (arith, c .before .loop .inv .0, c .loop-test .left, ap (λ (r : Record). r .b) (c .before .before .read-at .ensures))
+    let loop = c .before in
+    let start = loop .before .before .before in
+    let e : loop .loop .role ≡ roleCount (now (start .args .v)) = omega
+    (arith, loop .loop .inv .0, c .loop-test .left, ap (λ (r : Record). r .b) (loop .before .read-at .ensures))
     in
-    let all = subst (Swept (now (a .v)) (now (a .alive)) (c .before .loop .alive) (c .before .loop .removed)) e w in (
-      w .size,
-      (
-        swept-round (now (a .v)) (now (a .alive)) (accepted-vocabulary (now (a .v)) _ (p .0))
-            (p .1 .1 .1 .1 .1 .1 .1 .0) _ _ all,
-        swept-removes (now (a .v)) (now (a .alive))
-            (accepted-vocabulary (now (a .v)) _ (p .0)) (p .1 .1 .1 .1 .1 .1 .1 .0) _ _ (types-bound (now (a .v)) (p .1 .0)) all,
-      ),
-    )
+    round-done (start .pre .0) _ _ _ e (loop .loop .inv .1)
 
 pub sweep-roles-spec : {M : Type 1} → statement M
 sweep-roles-spec =
@@ -169,7 +112,9 @@ sweep-roles-spec =
     shl-full
     sub-full
     loop-holds
-    others-of-requires
+    cast-mask
+    mul-mask
+    element-copy-out-mask
     sweep-requires
     either-requires
     add-role

@@ -3,12 +3,12 @@
 -- Assumes nothing.
 use Prim.Native.Nat.{_+_, _-_}
 use native.Mathlib.Omega.{arith}
-use Rattle.types.proofs.Spreading.{Joined, join-start, join-turn, join-end}
+use Rattle.types.proofs.Spreading.{Joining, join-start, join-turn, join-end}
 use Rattle.types.proofs.words.join_block.Statement.{statement}
 use Rattle.types.proofs.words.join_block.Tie as tie
 
 abbrev Inv-loop : tie.InvT-loop
-Inv-loop cover₀ at half end x₀ cover x = Joined cover₀ at half cover x
+Inv-loop cover₀ at half end x₀ cover x = Joining cover₀ at half cover x
 
 abbrev μ-loop : tie.MeasureT-loop
 μ-loop cover₀ at half end x₀ cover x = at + half - x
@@ -17,7 +17,7 @@ add-end : tie.Need-add-end Inv-loop μ-loop
 add-end c = omega arith
 
 loop-holds : tie.Need-loop-holds Inv-loop μ-loop
-loop-holds c = join-start _ _ _ (c .pre .1)
+loop-holds c = join-start _ _ _
 
 add-cover : tie.Need-add-cover Inv-loop μ-loop
 add-cover c = omega arith
@@ -51,12 +51,12 @@ loop-less c = omega arith
 
 loop-again : tie.Need-loop-again Inv-loop μ-loop
 loop-again c =
-    join-turn _ _ _ _ _ (c .before .before .before .before .pre .0) (c .before .before .before .loop .inv)
-    (c .before .before .loop-test .taken)
+    let turn = c .before .before in
+    let start = turn .before .before .pre in
+    join-turn _ _ _ _ _ (turn .before .loop .inv) (omega (arith, start .0, start .1)) (turn .loop-test .taken)
 
 returns : tie.Need-returns Inv-loop μ-loop
-returns c =
-    (c .before .loop .inv .size, join-end _ _ _ _ _ (c .before .before .pre .0) (c .before .loop .inv) (c .loop-test .left))
+returns c = join-end _ _ _ _ _ (c .before .loop .inv) (c .loop-test .left)
 
 pub join-block-spec : {M : Type 1} → statement M
 join-block-spec =

@@ -3,7 +3,7 @@
 -- Assumes nothing.
 use Prim.Native.Nat.{_-_}
 use native.Mathlib.Omega.{arith}
-use Rattle.types.proofs.Spreading.{Stepped, step-start, step-back, step-less, step-turn, step-end}
+use Rattle.types.proofs.Spreading.{Stepped, step-start, step-back, step-less, step-turn, spreads-end}
 use Rattle.types.proofs.words.spread_near.Statement.{statement}
 use Rattle.types.proofs.words.spread_near.Tie as tie
 
@@ -17,7 +17,7 @@ shl-half : tie.Need-shl-half Inv-loop μ-loop
 shl-half c = omega arith
 
 loop-holds : tie.Need-loop-holds Inv-loop μ-loop
-loop-holds c = step-start _ _ (omega arith) (c .pre .1 .1)
+loop-holds c = step-start _ _ (omega arith)
 
 mul-cover : tie.Need-mul-cover Inv-loop μ-loop
 mul-cover c = omega arith
@@ -26,7 +26,7 @@ element-copy-out-cover : tie.Need-element-copy-out-cover Inv-loop μ-loop
 element-copy-out-cover c = omega arith
 
 sub-cover : tie.Need-sub-cover Inv-loop μ-loop
-sub-cover c = step-back _ _ _ _ (c .before .before .before .pre .1 .0) (c .before .before .loop .inv)
+sub-cover c = step-back _ _ (omega arith) _ _ (c .before .before .loop .inv)
 
 mul-cover-2 : tie.Need-mul-cover-2 Inv-loop μ-loop
 mul-cover-2 c = omega arith
@@ -45,16 +45,16 @@ add-x c = omega arith
 
 loop-less : tie.Need-loop-less Inv-loop μ-loop
 loop-less c =
-    let s = c .before .before .before .loop .inv in
-    step-less _ _ _ _ (c .before .before .before .before .pre .1 .0) s _ (c .before .before .loop-test .taken)
+    let turn = c .before .before in
+    step-less _ _ (omega arith) _ _ (turn .before .loop .inv) _ (turn .loop-test .taken)
 
 loop-again : tie.Need-loop-again Inv-loop μ-loop
 loop-again c =
-    step-turn _ _ _ _ (c .before .before .before .before .pre .1 .0) (c .before .before .before .loop .inv) (omega arith)
+    let loop = c .before .before .before in
+    step-turn _ _ (omega arith) _ _ (loop .loop .inv) (omega (arith, loop .before .pre .1 .1))
 
 returns : tie.Need-returns Inv-loop μ-loop
-returns c =
-    (c .before .loop .inv .size, step-end _ _ _ _ (c .before .before .pre .1 .0) (c .before .loop .inv) _ (c .loop-test .left))
+returns c = spreads-end _ _ _ _ _ (c .before .loop .inv .joined) (c .loop-test .left)
 
 pub spread-near-spec : {M : Type 1} → statement M
 spread-near-spec =

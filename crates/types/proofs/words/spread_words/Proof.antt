@@ -1,14 +1,17 @@
 -- `types::words::spread_words` meets its contract. The loop's invariant: the first 2^bits entries are spread over the
 -- bits below n.
 -- Assumes nothing.
-use Prim.Native.Nat.{_-_}
+use Prim.Native.Nat.{_-_, _^_, _≤_}
 use native.Mathlib.Omega.{arith}
-use Rattle.types.proofs.Spreading.{Spreading, spread-room, spread-start, spread-turn, spread-end}
+use mathlib.Core.Path.{_∙_}
+use Rattle.types.specs.Compare.{atomLimit}
+use Rattle.types.specs.Elimination.{SpreadTo}
+use Rattle.types.proofs.Spreading.{words-room, spread-start, spread-turn, spread-end}
 use Rattle.types.proofs.words.spread_words.Statement.{statement}
 use Rattle.types.proofs.words.spread_words.Tie as tie
 
 abbrev Inv-loop : tie.InvT-loop
-Inv-loop cover₀ bits size n₀ cover n = Spreading cover₀ bits cover n
+Inv-loop cover₀ bits size n₀ cover n = (n ≤ bits) × SpreadTo n (2 ^ bits) cover₀ cover
 
 abbrev μ-loop : tie.MeasureT-loop
 μ-loop cover₀ bits size n₀ cover n = bits - n
@@ -17,12 +20,13 @@ shl-size : tie.Need-shl-size Inv-loop μ-loop
 shl-size c = omega arith
 
 loop-holds : tie.Need-loop-holds Inv-loop μ-loop
-loop-holds c = spread-start _ _ (c .pre .1)
+loop-holds c = (omega arith, spread-start _ _)
 
 spread-bit-requires : tie.Need-spread-bit-requires Inv-loop μ-loop
 spread-bit-requires c κs =
-    let few = c .before .before .before .pre .0 in
-    (spread-room _ few, (omega arith, c .before .before .loop .inv .size))
+    let loop = c .before .before in
+    let start = loop .before .pre in
+    (words-room _ atomLimit (start .0) (omega arith), (omega arith, loop .loop .inv .1 .size ∙ start .1))
 
 add-n : tie.Need-add-n Inv-loop μ-loop
 add-n c = omega arith
@@ -32,13 +36,10 @@ loop-less c = omega arith
 
 loop-again : tie.Need-loop-again Inv-loop μ-loop
 loop-again c =
-    let e = c .spread-bit .ensures in
-    let s = c .before .before .before .loop .inv in
-    spread-turn _ _ _ _ _ (c .before .before .before .before .pre .0) (c .before .before .loop-test .taken) s (e .0) (e .1)
+    (omega arith, spread-turn _ _ _ _ (c .before .before .before .loop .inv .1) _ (omega arith) (c .spread-bit .ensures))
 
 returns : tie.Need-returns Inv-loop μ-loop
-returns c =
-    (c .before .loop .inv .size, spread-end _ _ _ _ (c .loop-test .left) (c .before .loop .inv))
+returns c = let l = c .before .loop .inv in spread-end _ _ _ _ (l .1) (l .0) (c .loop-test .left)
 
 pub spread-words-spec : {M : Type 1} → statement M
 spread-words-spec =

@@ -1,0 +1,91 @@
+-- `types::eliminate::list_masks` meets its contract. The loop's invariant: the words of the roles below `role` are right.
+-- Assumes nothing.
+use Prim.Native.Nat.{ℕ, _-_, _≤_, _<_}
+use native.Mathlib.Omega.{arith}
+use mathlib.Core.Path.{_≡_, refl, ap, _∙_}
+use denote.Ref.{now}
+use Rattle.records.specs.Format.{roleCount, count}
+use Rattle.records.specs.declared.fields.Record.{Record}
+use Rattle.records.proofs.Accepted.{accepted-vocabulary}
+use Rattle.types.specs.Words.{others}
+use Rattle.types.proofs.Restrictions.{width-bound}
+use Rattle.types.proofs.Rounds.{others-done}
+use Rattle.types.proofs.Turns.{Filled, fill-start, fill-turn}
+use Rattle.types.proofs.eliminate.list_masks.Statement.{statement}
+use Rattle.types.proofs.eliminate.list_masks.Tie as tie
+
+-- the entries of the table
+abbrev room : ℕ
+room = 64
+
+abbrev Inv-loop : tie.InvT-loop
+Inv-loop v roles bits count masks₀ role₀ masks role = (role ≤ roleCount v) × Filled 0 room masks (others v) role
+
+abbrev μ-loop : tie.MeasureT-loop
+μ-loop v roles bits count masks₀ role₀ masks role = count - role
+
+read-at-requires : tie.Need-read-at-requires Inv-loop μ-loop
+read-at-requires c κs = omega (arith, accepted-vocabulary (now (c .before .args .v)) _ (c .before .pre .0) .sized .least)
+
+loop-holds : tie.Need-loop-holds Inv-loop μ-loop
+loop-holds c = (omega arith, fill-start 0 room _ _ refl)
+
+others-of-requires : tie.Need-others-of-requires Inv-loop μ-loop
+others-of-requires c κs =
+    let start = c .before .before .before .before in
+    omega (arith, start .pre .1 .1 .0, start .pre .1 .0, width-bound (now (start .args .v)))
+
+-- the role is one of the vocabulary's, so of the table's
+below : (c : tie.In-loop Inv-loop μ-loop) → c .before .loop .role < roleCount (now (c .before .before .before .before .args .v))
+below c = omega (arith, c .loop-test .taken, ap (λ (r : Record). r .b) (c .before .before .read-at .ensures))
+
+inside : (c : tie.In-loop Inv-loop μ-loop) → c .before .loop .role < room
+inside c =
+    let start = c .before .before .before .before in
+    omega (arith, below c, accepted-vocabulary (now (start .args .v)) _ (start .pre .0) .roles)
+
+cast-masks : tie.Need-cast-masks Inv-loop μ-loop
+cast-masks c = omega (arith, inside (c .before))
+
+mul-masks : tie.Need-mul-masks Inv-loop μ-loop
+mul-masks c = omega (arith, inside (c .before))
+
+array-write-masks : tie.Need-array-write-masks Inv-loop μ-loop
+array-write-masks c = omega (arith, inside (c .before))
+
+add-role : tie.Need-add-role Inv-loop μ-loop
+add-role c = omega (arith, inside (c .before))
+
+loop-less : tie.Need-loop-less Inv-loop μ-loop
+loop-less c = omega arith
+
+loop-again : tie.Need-loop-again Inv-loop μ-loop
+loop-again c =
+    let loop = c .before .before .loop in
+    let start = c .before .before .before .before .before in
+    let made = c .others-of .ensures ∙ others-done (now (start .args .v)) (now (start .args .roles)) (start .args .bits) (loop .role)
+    (start .pre .1 .1 .0) (start .pre .1 .1 .1) in
+    (omega (arith, below (c .before)), fill-turn 0 room _ _ _ _ (inside (c .before)) (loop .inv .1) made)
+
+returns : tie.Need-returns Inv-loop μ-loop
+returns c =
+    let loop = c .before .loop in
+    λ r h. loop .inv .1 .right r
+    (omega (arith, c .loop-test .left, ap (λ (r : Record). r .b) (c .before .before .read-at .ensures)))
+
+pub list-masks-spec : {M : Type 1} → statement M
+list-masks-spec =
+    tie.close
+    (tie.spec
+    Inv-loop
+    μ-loop
+    read-at-requires
+    loop-holds
+    others-of-requires
+    cast-masks
+    mul-masks
+    array-write-masks
+    add-role
+    loop-less
+    loop-again
+    returns)
