@@ -1,10 +1,10 @@
 -- The words by which the code tests `served`, and the table it keeps of them. No promise to a caller speaks of them:
 -- proofs/Served.antt shows that the test is the paper's.
-use Prim.Native.Nat.{ℕ, zero, suc, _-_, _^_, _≤_, _<_}
+use Prim.Native.Nat.{ℕ, zero, suc, _+_, _-_, _^_, _≤_, _<_}
 use mathlib.Core.Path.{_≡_}
 use mathlib.Core.Bool.{Bool, true, false, Bool·beq, cond, not, _&&_, _||_}
 use mathlib.Core.List.{List, [], _∷_, _++_}
-use lib.ListN.{length, getD}
+use lib.ListN.{length, getD, set}
 use lib.Dec.{eqb}
 use lib.Bits.{bitOr}
 use Rattle.records.specs.Outcome.{accepted}
@@ -149,3 +149,8 @@ pub record Covering (live : List ℕ) (left : ℕ) (S : List Bool) : Type 0 wher
 -- A table of the covers of all words.
 abbrev pub Covers : List ℕ → List Bool → List ℕ → Type 0
 Covers v S table = (x : ℕ) → x < 2 ^ width v → getD table x 0 ≡ cover v S x
+
+-- A list with n zeros written from `start` on.
+unfoldable pub cleared : List ℕ → ℕ → ℕ → List ℕ
+cleared l start zero = l
+cleared l start (suc n) = set (cleared l start n) (start + n) 0

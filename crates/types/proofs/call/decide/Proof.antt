@@ -93,9 +93,12 @@ write-form-requires c κs =
     let left = c .before .before .before .before .before .before .before .eliminate in
     let a = c .before .before .before .before .before .before .before .before .before .before .before .before .before .before .before .before .before .before .before .before .before .before .before .before .args in
     let p = c .before .before .before .before .before .before .before .before .before .before .before .before .before .before .before .before .before .before .before .before .before .before .before .before .pre in (
-      λ t h. (left .ensures .0) t ∙ survivors-end (now (a .v)) t
-          (omega (arith, (size-word (now (a .v)) (a .k) (p .1 .0) (p .1 .1 .0)))),
-      (p .1 .1 .1 .1 .1),
+      omega (arith, size-word (now (a .v)) (a .k) (p .1 .0) (p .1 .1 .0), types-bound (now (a .v)) (p .1 .0)),
+      (
+        λ t h. (left .ensures .0) t ∙ survivors-end (now (a .v)) t
+            (omega (arith, (size-word (now (a .v)) (a .k) (p .1 .0) (p .1 .1 .0)))),
+        (p .1 .1 .1 .1 .1),
+      ),
     )
 
 conclude-requires : tie.Need-conclude-requires
