@@ -1,10 +1,8 @@
 -- The truth rules of the code are the paper's.
 --   rule-restriction, rule-low, rule-high, first-.., second-..   the tables of shapes by the ranges of a `match`
---   first-atom                     an atom finds its own bit
 --   select-..                      what each rule selects
 --   rule-connects                  what a record says, by its rule
 --   operands-earlier               its operands come no later than the record
---   rule-atom                      atoms by their rule
 -- Assumes nothing.
 use Prim.Native.Nat.{ℕ, zero, suc, _+_, _≤_, _<_}
 use native.Mathlib.Omega.{arith}
@@ -27,9 +25,9 @@ unfolding shapeOf
 shape-past k h = List·getD-eq-default shapes (shape 0 false false) h
 
 -- The rule, A and B of the kinds in an arm of a `match`.
-pub rule-restriction : (k : ℕ) → 7 ≤ k → k < 9 → 240 ≡ ruleOf k
+pub rule-restriction : (k : ℕ) → 7 ≤ k → k < 9 → 10 ≡ ruleOf k
 unfolding shapeOf
-rule-restriction = between (λ k. 240 ≡ ruleOf k) 2 7 (refl, (refl, tt))
+rule-restriction = between (λ k. 10 ≡ ruleOf k) 2 7 (refl, (refl, tt))
 
 pub rule-low : (k : ℕ) → k < 7 → (k ≡ 1 → ⊥) → (k ≡ 3 → ⊥) → (k ≡ 4 → ⊥) → (k ≡ 5 → ⊥) → (k ≡ 6 → ⊥) → 0 ≡ ruleOf k
 unfolding shapeOf
@@ -62,24 +60,6 @@ module _ (x n : ℕ) where
       at (yes h) = between (λ k. n ≡ firstOf k x n) 2 7 (refl, (refl, tt)) k l h
       at (no h) = rw (shape-past k (omega arith))
 
-  pub first-atom : (k : ℕ) → isAtom k ≡ true → firstOf k x n ≡ n
-  unfolding shapeOf kindOf
-  first-atom k = at (decLt k 10)
-    where
-      Same : ℕ → Type 0
-      Same k = isAtom k ≡ true → firstOf k x n ≡ n
-
-      none : false ≡ true → x ≡ n
-      none e = absurd (clash (cc))
-
-      at : Dec (k < 10) → Same k
-      at (yes h) =
-          between Same 10 0 (
-            λ e. refl,
-            (λ e. refl, (λ e. refl, (λ e. refl, (none, (none, (none, (λ e. refl, (λ e. refl, (none, tt))))))))),
-          ) k (omega arith) h
-      at (no m) = λ e. rw (shape-past k (omega arith))
-
 module _ (x : ℕ) where
   pub second-operand : (k : ℕ) → 5 ≤ k → k < 10 → x ≡ secondOf k x
   unfolding shapeOf
@@ -92,84 +72,77 @@ module _ (x : ℕ) where
   pub second-high : (k : ℕ) → 10 ≤ k → 0 ≡ secondOf k x
   second-high k h = rw (shape-past k h)
 
--- Two rules that agree at all eight places.
-abbrev Agree : (Bool → Bool → Bool → Bool) → (Bool → Bool → Bool → Bool) → Type 0
+-- Two rules that agree at all four places.
+abbrev Agree : (Bool → Bool → Bool) → (Bool → Bool → Bool) → Type 0
 Agree f g =
-    (f false false false ≡ g false false false)
-    × (f false false true ≡ g false false true)
-    × (f false true false ≡ g false true false)
-    × (f false true true ≡ g false true true)
-    × (f true false false ≡ g true false false)
-    × (f true false true ≡ g true false true)
-    × (f true true false ≡ g true true false)
-    × (f true true true ≡ g true true true)
+    (f false false ≡ g false false)
+    × (f false true ≡ g false true)
+    × (f true false ≡ g true false)
+    × (f true true ≡ g true true)
 
-agree : (f g : Bool → Bool → Bool → Bool) → Agree f g → (x y z : Bool) → f x y z ≡ g x y z
-agree f g h false false false = h .0
-agree f g h false false true = h .1
-agree f g h false true false = h .2
-agree f g h false true true = h .3
-agree f g h true false false = h .4
-agree f g h true false true = h .5
-agree f g h true true false = h .6
-agree f g h true true true = h .7
+agree : (f g : Bool → Bool → Bool) → Agree f g → (x y : Bool) → f x y ≡ g x y
+agree f g h false false = h .0
+agree f g h false true = h .1
+agree f g h true false = h .2
+agree f g h true true = h .3
 
-module _ (x y z : Bool) where
-  select-never : select 0 x y z ≡ false
+module _ (x y : Bool) where
+  select-never : select 0 x y ≡ false
   unfolding select bit
-  select-never = agree (select 0) (λ x y z. false) (refl, refl, refl, refl, refl, refl, refl, refl) x y z
+  select-never = agree (select 0) (λ x y. false) (refl, refl, refl, refl) x y
 
-  select-always : select 255 x y z ≡ true
+  select-always : select 15 x y ≡ true
   unfolding select bit
-  select-always = agree (select 255) (λ x y z. true) (refl, refl, refl, refl, refl, refl, refl, refl) x y z
+  select-always = agree (select 15) (λ x y. true) (refl, refl, refl, refl) x y
 
-  select-atom : select 240 x y z ≡ z
+  select-first : select 10 x y ≡ x
   unfolding select bit
-  select-atom = agree (select 240) (λ x y z. z) (refl, refl, refl, refl, refl, refl, refl, refl) x y z
+  select-first = agree (select 10) (λ x y. x) (refl, refl, refl, refl) x y
 
-  select-not : select 85 x y z ≡ not x
+  select-not : select 5 x y ≡ not x
   unfolding select bit
-  select-not = agree (select 85) (λ x y z. not x) (refl, refl, refl, refl, refl, refl, refl, refl) x y z
+  select-not = agree (select 5) (λ x y. not x) (refl, refl, refl, refl) x y
 
-  select-and : select 136 x y z ≡ (x && y)
+  select-and : select 8 x y ≡ (x && y)
   unfolding select bit
-  select-and = agree (select 136) (λ x y z. x && y) (refl, refl, refl, refl, refl, refl, refl, refl) x y z
+  select-and = agree (select 8) (λ x y. x && y) (refl, refl, refl, refl) x y
 
-  select-or : select 238 x y z ≡ (x || y)
+  select-or : select 14 x y ≡ (x || y)
   unfolding select bit
-  select-or = agree (select 238) (λ x y z. x || y) (refl, refl, refl, refl, refl, refl, refl, refl) x y z
+  select-or = agree (select 14) (λ x y. x || y) (refl, refl, refl, refl) x y
 
-  select-implies : select 221 x y z ≡ (not x || y)
+  select-implies : select 13 x y ≡ (not x || y)
   unfolding select bit
-  select-implies = agree (select 221) (λ x y z. not x || y) (refl, refl, refl, refl, refl, refl, refl, refl) x y z
+  select-implies = agree (select 13) (λ x y. not x || y) (refl, refl, refl, refl) x y
 
-pub rule-connects : (r : Record) (n : ℕ) (z : Bool) (f : ℕ → Bool)
-    → select (ruleOf (r .kind)) (f (firstOf (r .kind) (r .a) n)) (f (secondOf (r .kind) (r .b))) z ≡ connect (constructOf r) z f
+-- where an atom's own place has its truth already
+pub rule-connects : (r : Record) (n : ℕ) (f : ℕ → Bool)
+    → select (ruleOf (r .kind)) (f (firstOf (r .kind) (r .a) n)) (f (secondOf (r .kind) (r .b))) ≡ connect (constructOf r) (f n) f
 unfolding kindOf shapeOf
-rule-connects r n z f = at (decLt (r .kind) 10)
+rule-connects r n f = at (decLt (r .kind) 10)
   where
     Connects : ℕ → Type 0
-    Connects k = select (ruleOf k) (f (firstOf k (r .a) n)) (f (secondOf k (r .b))) z ≡ connect (kindOf k .says r) z f
+    Connects k = select (ruleOf k) (f (firstOf k (r .a) n)) (f (secondOf k (r .b))) ≡ connect (kindOf k .says r) (f n) f
 
     at : Dec (r .kind < 10) → Connects (r .kind)
     at (yes h) =
         between Connects 10 0 (
-          select-never (f n) (f 0) z,
+          select-never (f n) (f 0),
           (
-            select-always (f n) (f 0) z,
+            select-always (f n) (f 0),
             (
-              select-never (f n) (f 0) z,
+              select-never (f n) (f 0),
               (
-                select-atom (f n) (f 0) z,
+                select-first (f n) (f 0),
                 (
-                  select-not (f (r .a)) (f 0) z,
+                  select-not (f (r .a)) (f 0),
                   (
-                    select-and (f (r .a)) (f (r .b)) z,
+                    select-and (f (r .a)) (f (r .b)),
                     (
-                      select-or (f (r .a)) (f (r .b)) z,
+                      select-or (f (r .a)) (f (r .b)),
                       (
-                        select-atom (f n) (f (r .b)) z,
-                        (select-atom (f n) (f (r .b)) z, (select-implies (f (r .a)) (f (r .b)) z, tt)),
+                        select-first (f n) (f (r .b)),
+                        (select-first (f n) (f (r .b)), (select-implies (f (r .a)) (f (r .b)), tt)),
                       ),
                     ),
                   ),
@@ -178,7 +151,7 @@ rule-connects r n z f = at (decLt (r .kind) 10)
             ),
           ),
         ) (r .kind) (omega arith) h
-    at (no m) = rw (shape-past (r .kind) (omega arith), kind-past (r .kind) (omega arith)) (select-never (f n) (f 0) z)
+    at (no m) = rw (shape-past (r .kind) (omega arith), kind-past (r .kind) (omega arith)) (select-never (f n) (f 0))
 
 pub operands-earlier : (r : Record) (i n : ℕ) → n ≤ i → Earlier i (constructOf r)
     → (firstOf (r .kind) (r .a) n ≤ i) × (secondOf (r .kind) (r .b) ≤ i)
@@ -219,15 +192,3 @@ operands-earlier r i n l = at (decLt (r .kind) 10)
           ),
         ) (r .kind) (omega arith) h
     at (no m) = λ e. rw (shape-past (r .kind) (omega arith)) (l, omega arith)
-
-pub rule-atom : (k : ℕ) → eqb (ruleOf k) 240 ≡ isAtom k
-unfolding shapeOf kindOf
-rule-atom k = at (decLt k 10)
-  where
-    Same : ℕ → Type 0
-    Same k = eqb (ruleOf k) 240 ≡ isAtom k
-
-    at : Dec (k < 10) → Same k
-    at (yes h) =
-        between Same 10 0 (refl, (refl, (refl, (refl, (refl, (refl, (refl, (refl, (refl, (refl, tt)))))))))) k (omega arith) h
-    at (no n) = rw (shape-past k (omega arith), kind-past k (omega arith))

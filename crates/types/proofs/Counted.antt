@@ -4,9 +4,10 @@
 --   inBoth, first-..                            the first number in both of two sets, looked for in order
 --   tableOver, over-start, over-turn, over-length   a table written over the front of a list
 --   alive-counted, alive-first, alive-form      what a table that holds the survivors shows of them
---   size-word, verdict-same, number-none   the number of types, the verdict and an empty byte as the code makes them
+--   size-word, verdict-same, byte-none   the number of types, the verdict and an empty byte as the code makes them
+--   cleared-start, cleared-length, cleared-turn, cleared-over   zeros written over the front of a list
 -- Assumes nothing.
-use Prim.Native.Nat.{ℕ, zero, suc, _+_, _*_, _%_, _^_, _≤_, _<_}
+use Prim.Native.Nat.{ℕ, zero, suc, _+_, _-_, _*_, _%_, _^_, _≤_, _<_}
 use native.Mathlib.Omega.{arith}
 use native.Mathlib.Numerals.{add-one}
 use mathlib.Core.Path.{_≡_, refl, sym, ap, ap₂, _∙_}
@@ -14,7 +15,7 @@ use mathlib.Core.Bool.{Bool, true, false, _&&_, and-false}
 use mathlib.Core.List.{List, [], _∷_, _++_}
 use lib.Dec.{ltb}
 use lib.Pow.{shl-exact}
-use lib.ListN.{length, getD, set, drop, length-append, length-drop}
+use lib.ListN.{length, getD, set, drop, length-append, length-drop, length-set}
 use Rattle.records.specs.Outcome.{Outcome, accepted}
 use Rattle.records.specs.Atoms.{atoms, digit}
 use Rattle.records.proofs.Ranks.{digit-small}
@@ -23,7 +24,7 @@ use Rattle.types.specs.Types.{types}
 use Rattle.types.specs.Survivors.{survivors, rounds}
 use Rattle.types.specs.Compare.{Verdict, parted, firstParted, verdictWith, verdict}
 use Rattle.types.specs.Form.{byteOf, form}
-use Rattle.types.specs.Words.{SameSet, Differs}
+use Rattle.types.specs.Words.{SameSet, Differs, cleared}
 use Rattle.types.proofs.Tests.{both-true}
 use Rattle.types.proofs.Below.{least-is, least-end, least-cong, None, none-turn}
 use Rattle.types.proofs.Sets.{length-table, table-cong}
@@ -118,7 +119,7 @@ module _ (v : List ℕ) (alive : List Bool) (same : SameSet alive (survivors v))
       least-cong (types v) (λ t. has alive t && getD differs t false) (parted v a b)
       (λ t l. ap₂ (λ (x y : Bool). x && y) (same t) (d t l))
 
-  pub alive-form : table formBytes (λ n. number 8 (λ j. has alive (8 * n + j))) ≡ form v
+  pub alive-form : table formBytes (byteOf alive) ≡ form v
   unfolding form
   alive-form =
       table-cong formBytes (byteOf alive) (byteOf (survivors v))
@@ -137,6 +138,34 @@ unfolding verdict
 verdict-same v a b element size found done e s f d = rw (e, s, f, d)
 
 -- A byte with no bit.
-pub number-none : (f : ℕ → Bool) → ((j : ℕ) → f j ≡ false) → 0 ≡ number 8 f
+pub byte-none : (S : List Bool) (n : ℕ) → ((t : ℕ) → 8 * n ≤ t → has S t ≡ false) → byteOf S n ≡ 0
 unfolding number
-number-none f none = sym (number-cong 8 f (λ j. false) (λ j h. none j))
+byte-none S n none = number-cong 8 (λ j. has S (8 * n + j)) (λ j. false) (λ j h. none (8 * n + j) (omega arith))
+
+module _ (l : List ℕ) (start : ℕ) where
+  pub cleared-start : l ≡ cleared l start (start - start)
+  unfolding cleared
+  cleared-start = let none : start - start ≡ 0 = omega arith in rw none
+
+  pub cleared-length : (n : ℕ) → length (cleared l start n) ≡ length l
+  unfolding cleared
+  cleared-length zero = refl
+  cleared-length (suc n) = length-set (cleared l start n) (start + n) 0 ∙ cleared-length n
+
+  pub cleared-turn : (n : ℕ) (now : List ℕ) → start ≤ n → now ≡ cleared l start (n - start)
+      → set now n 0 ≡ cleared l start (n + 1 - start)
+  unfolding cleared
+  cleared-turn n now h e =
+      let next : n + 1 - start ≡ suc (n - start) = omega arith in
+      let at : start + (n - start) ≡ n = omega arith in
+      rw (next, at, e)
+
+-- Zeros over the front of a list, where the table has them.
+pub cleared-over : (f : ℕ → ℕ) (l : List ℕ) (start n : ℕ) → start + n ≤ length l → ((i : ℕ) → start ≤ i → f i ≡ 0)
+    → cleared (tableOver f start l) start n ≡ tableOver f (start + n) l
+unfolding cleared
+cleared-over f l start zero h none = ap (λ (n : ℕ). tableOver f n l) (omega arith)
+cleared-over f l start (suc n) h none =
+    over-turn f (start + n) l (cleared (tableOver f start l) start n) 0 (omega arith)
+    (cleared-over f l start n (omega arith) none) (sym (none (start + n) (omega arith)))
+    ∙ ap (λ (n : ℕ). tableOver f n l) (omega arith)

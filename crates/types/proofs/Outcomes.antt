@@ -2,7 +2,7 @@
 --   Called                                  the answer and the lent bytes are those of the comparison
 --   refused-vocabulary, refused-query       a check refuses: nothing is written
 --   decided-call                            all checks pass
---   query-passed                            what the query then tells
+--   query-passed, query-comparable          what the query then tells
 -- Assumes nothing.
 use Prim.Native.Nat.{ℕ}
 use mathlib.Core.Path.{_≡_, sym, ap, _∙_}
@@ -21,6 +21,9 @@ use Rattle.types.specs.declared.answers.Compared.{Compared}
 use Rattle.types.specs.Answers.{compared}
 use Rattle.types.proofs.Verdicts.{Answered, answered}
 use Rattle.types.specs.Compare.{formBytes}
+use Rattle.types.specs.Words.{Comparable}
+use Rattle.records.specs.Atoms.{atoms}
+use Rattle.records.proofs.Bounds.{vocabulary-count}
 
 module _ (v : List ℕ) (a b : ℕ) (lent : List ℕ) where
   abbrev outcome : Outcome Verdict
@@ -58,6 +61,16 @@ module _ (v : List ℕ) (a b : ℕ) (lent : List ℕ) where
 
       pub query-passed : Answered v a b (length lent) (verdict v a b)
       query-passed = answered v a b (length lent) (verdict v a b) answers
+
+      pub query-comparable : (k : ℕ) → k ≡ atoms v → Comparable v a b k
+      query-comparable k e =
+          record {
+            accepts = accepted-vocabulary-at ∙ ap (λ (n : ℕ). accepted n) (vocabulary-count v m accepted-vocabulary-at);
+            few = query-passed .few;
+            counts = e;
+            first = query-passed .first .within;
+            second = query-passed .second .within;
+          }
 
       pub decided-call : (answer : Compared) (after : List ℕ) → compared answer ≡ accepted (verdict v a b)
           → after ≡ form v ++ drop formBytes lent → Called answer after

@@ -1,11 +1,10 @@
 -- The profile of a type from a table of its truths.
---   place-below, filler-below        where the words look
---   fits-done, differ-done           whether the statements hold, and the terms differ
---   demand-done, offer-done          the words
---   stating                          the statements, listed from marks
---   profile-same                     the profile from its parts
+--   prepared-good, few-records, few-bits   what is prepared is small
+--   place-below, filler-below              where the words look
+--   profile-done                           the profile: whether the statements hold, whether the terms differ, the words
+--   stating                                the statements, listed from marks
 -- Assumes nothing.
-use Prim.Native.Nat.{ℕ, _<_}
+use Prim.Native.Nat.{ℕ, _≤_, _<_}
 use native.Mathlib.Omega.{arith}
 use mathlib.Core.Path.{_≡_, refl, sym, ap, ap₂, _∙_}
 use mathlib.Core.Bool.{Bool, true, false, Bool·beq, not, _||_}
@@ -19,27 +18,41 @@ use Rattle.records.proofs.Accepted.{Accepted, accepted-vocabulary}
 use Rattle.records.proofs.Ranges.{restriction-kind}
 use Rattle.records.proofs.Chains.{chain-statement}
 use Rattle.types.specs.declared.profile.Profile.{Profile}
+use Rattle.types.specs.declared.profile.Plan.{Plan}
+use Rattle.types.specs.declared.restrict.Restrictions.{Restrictions}
 use Rattle.types.specs.Below.{allBelow, number}
 use Rattle.types.specs.Types.{truth}
 use Rattle.types.specs.Survivors.{fits}
-use Rattle.types.specs.Rules.{holding}
-use Rattle.types.specs.Words.{width, restriction, signed, demand, offer, Stating, Prepared, differ, profileAt}
+use Rattle.types.specs.Compare.{atomLimit}
+use Rattle.types.specs.Rules.{holding, Truths}
+use Rattle.types.specs.Words.{width, restriction, signed, negated, demand, offer, Stating, Prepared}
+use Rattle.types.specs.Words.{wordAt, differ, profileAt}
 use Rattle.types.proofs.Tests.{implies-true, implies-rest, same-truth}
 use Rattle.types.proofs.Below.{all-intro, all-at}
 use Rattle.types.proofs.Bits.{number-cong}
 use Rattle.types.proofs.Listing.{ListedBelow}
 use Rattle.types.proofs.Truths.{some-earlier, all-earlier}
-use Rattle.types.proofs.Restrictions.{restricts, restriction-sound}
+use Rattle.types.proofs.Restrictions.{restricts, restriction-sound, width-bound}
 use Rattle.types.proofs.Signed.{says-some, says-all}
 use Rattle.records.specs.Format.{recordLimit}
 
-module _ (v rules firsts seconds statements : List ℕ) (found : ℕ) (places fillers : List ℕ) (signs : List Bool)
-    (p : Prepared v rules firsts seconds statements found places fillers signs) where
-  pub prepared-good : Accepted v
-  prepared-good = accepted-vocabulary v (count v) (p .accepts)
+module _ (v : List ℕ) (plan : Plan) (code statements : List ℕ) (p : Prepared v plan code statements) where
+  abbrev listing : Restrictions
+  listing = plan .restrictions
 
-  pub place-below : (m : ℕ) → m < width v → getD places m 0 < count v
-  place-below m h = omega (arith, p .listed m h, restriction-sound v (count v) m h .before)
+  pub prepared-good : Accepted v
+  prepared-good = accepted-vocabulary v (count v) (p .query .accepts)
+
+  pub few-records : count v ≤ recordLimit
+  few-records = omega (arith, prepared-good .sized .most)
+
+  pub few-bits : listing .count ≤ atomLimit
+  few-bits = omega (arith, p .listed .all, width-bound v, p .query .few)
+
+  pub place-below : (m : ℕ) → m < listing .count → getD (listing .places) m 0 < recordLimit
+  place-below m h =
+      let l : m < width v = omega (arith, p .listed .all) in
+      omega (arith, p .listed .place-at m l, restriction-sound v (count v) m l .before, few-records)
 
   filler-earlier : (i : ℕ) → restricts v i ≡ true → recordAt v i .b < i
   filler-earlier i h = at (restriction-kind (recordAt v i .kind) h)
@@ -48,60 +61,72 @@ module _ (v rules firsts seconds statements : List ℕ) (found : ℕ) (places fi
       at (inl e) = some-earlier v prepared-good i _ _ (says-some v i e)
       at (inr e) = all-earlier v prepared-good i _ _ (says-all v i e)
 
-  pub filler-below : (m : ℕ) → m < width v → getD fillers m 0 < count v
-  filler-below m h =
+  filler-in : (m : ℕ) → m < width v → getD (listing .fillers) m 0 < count v
+  filler-in m h =
       let sound = restriction-sound v (count v) m h in
-      omega (arith, p .fillers-at m h, sound .before, filler-earlier (restriction v m) (sound .restricts))
+      omega (arith, p .listed .filler-at m h, sound .before, filler-earlier (restriction v m) (sound .restricts))
 
-  module _ (t : ℕ) (done : List Bool) (filled : (i : ℕ) → i < count v → getD done i false ≡ truth v t i) where
-    pub fits-done : holding statements done found ≡ fits v t
+  pub filler-below : (m : ℕ) → m < listing .count → getD (listing .fillers) m 0 < recordLimit
+  filler-below m h = omega (arith, filler-in m (omega (arith, p .listed .all)), few-records)
+
+  module _ (t : ℕ) (done : List Bool) (d : Truths v t done) where
+    fits-done : holding statements done (plan .found) ≡ fits v t
     unfolding holding fits
     fits-done = same-truth _ _ onward back
       where
-        done-at : (j : ℕ) → j < found → getD done (getD statements j 0) false ≡ truth v t (getD statements j 0)
-        done-at j h = filled (getD statements j 0) (p .stated .within j h)
+        done-at : (j : ℕ) → j < plan .found → getD done (getD statements j 0) false ≡ truth v t (getD statements j 0)
+        done-at j h = d .truth-at (getD statements j 0) (p .stated .within j h)
 
-        onward : allBelow (λ j. getD done (getD statements j 0) false) found ≡ true
+        onward : allBelow (λ j. getD done (getD statements j 0) false) (plan .found) ≡ true
             → allBelow (λ i. not (chained v i) || truth v t i) (count v) ≡ true
         onward e =
             all-intro (λ i. not (chained v i) || truth v t i) (count v)
             (λ i h. implies-true (chained v i) (truth v t i) (λ c. at i (p .stated .finds i c)))
           where
-            at : (i : ℕ) → (j : ℕ) × (j < found) × (getD statements j 0 ≡ i) → truth v t i ≡ true
+            at : (i : ℕ) → (j : ℕ) × (j < plan .found) × (getD statements j 0 ≡ i) → truth v t i ≡ true
             at i f =
                 ap (truth v t) (sym (f .2)) ∙ sym (done-at (f .0) (f .1))
-                ∙ all-at (λ j. getD done (getD statements j 0) false) found e (f .0) (f .1)
+                ∙ all-at (λ j. getD done (getD statements j 0) false) (plan .found) e (f .0) (f .1)
 
         back : allBelow (λ i. not (chained v i) || truth v t i) (count v) ≡ true
-            → allBelow (λ j. getD done (getD statements j 0) false) found ≡ true
+            → allBelow (λ j. getD done (getD statements j 0) false) (plan .found) ≡ true
         back e =
-            all-intro (λ j. getD done (getD statements j 0) false) found
+            all-intro (λ j. getD done (getD statements j 0) false) (plan .found)
             (λ j h. done-at j h ∙ implies-rest (chained v (getD statements j 0)) (truth v t (getD statements j 0))
             (all-at (λ i. not (chained v i) || truth v t i) (count v) e (getD statements j 0) (p .stated .within j h))
             (p .stated .states j h))
 
-    pub differ-done : (a b : ℕ) → a < count v → b < count v
-        → not (Bool·beq (getD done a false) (getD done b false)) ≡ differ v a b t
-    differ-done a b h k = ap₂ (λ (x y : Bool). not (Bool·beq x y)) (filled a h) (filled b k)
+    differ-done : not (Bool·beq (getD done (plan .a) false) (getD done (plan .b) false)) ≡ differ v (plan .a) (plan .b) t
+    differ-done =
+        ap₂ (λ (x y : Bool). not (Bool·beq x y)) (d .truth-at (plan .a) (p .query .first))
+        (d .truth-at (plan .b) (p .query .second))
 
-    pub demand-done : (bits : ℕ) → bits ≡ width v
-        → number bits (λ m. signed (getD signs m false) (getD done (getD places m 0) false)) ≡ demand v t
-    unfolding demand
-    demand-done bits e =
-        rw e (number-cong (width v) _ _
-        (λ m h. ap₂ signed (p .signs-at m h) (filled (getD places m 0) (place-below m h) ∙ ap (truth v t) (p .listed m h))))
+    -- the word of what stands at listed places
+    word-done : (places : List ℕ) (at : ℕ → ℕ) → ((m : ℕ) → m < width v → getD places m 0 ≡ at m)
+        → ((m : ℕ) → m < width v → at m < count v)
+        → wordAt done places (listing .signs) (listing .count)
+        ≡ number (width v) (λ m. signed (negated v (restriction v m)) (truth v t (at m)))
+    word-done places at e l =
+        ap (wordAt done places (listing .signs)) (p .listed .all)
+        ∙ number-cong (width v) _ _
+        (λ m h. ap₂ signed (p .listed .sign-at m h) (ap (λ (i : ℕ). getD done i false) (e m h) ∙ d .truth-at (at m) (l m h)))
 
-    pub offer-done : (bits : ℕ) → bits ≡ width v
-        → number bits (λ m. signed (getD signs m false) (getD done (getD fillers m 0) false)) ≡ offer v t
-    unfolding offer
-    offer-done bits e =
-        rw e (number-cong (width v) _ _
-        (λ m h. ap₂ signed (p .signs-at m h) (filled (getD fillers m 0) (filler-below m h) ∙ ap (truth v t) (p .fillers-at m h))))
-
-pub profile-same : (v : List ℕ) (a b t : ℕ) (fit apart : Bool) (x y : ℕ)
-    → fit ≡ fits v t → apart ≡ differ v a b t → x ≡ demand v t → y ≡ offer v t
-    → _≡_ {A = Profile} record { fits = fit; differs = apart; demand = x; offer = y } (profileAt v a b t)
-profile-same v a b t fit apart x y e f g h = rw (e, f, g, h)
+    pub profile-done : (fit apart : Bool) (x y : ℕ) → fit ≡ holding statements done (plan .found)
+        → apart ≡ not (Bool·beq (getD done (plan .a) false) (getD done (plan .b) false))
+        → x ≡ wordAt done (listing .places) (listing .signs) (listing .count)
+        → y ≡ wordAt done (listing .fillers) (listing .signs) (listing .count)
+        → _≡_ {A = Profile} record { fits = fit; differs = apart; demand = x; offer = y } (profileAt v (plan .a) (plan .b) t)
+    unfolding demand offer
+    profile-done fit apart x y e f g h =
+        rw (
+          e ∙ fits-done,
+          f ∙ differ-done,
+          g ∙ word-done (listing .places) (restriction v) (p .listed .place-at) (λ m k. restriction-sound v (count v) m k .before),
+          h ∙ word-done (listing .fillers) (λ m. recordAt v (restriction v m) .b) (p .listed .filler-at) filler-known,
+        )
+      where
+        filler-known : (m : ℕ) → m < width v → recordAt v (restriction v m) .b < count v
+        filler-known m k = omega (arith, filler-in m k, p .listed .filler-at m k)
 
 -- The statements, from the marks along the chain.
 pub stating : (v : List ℕ) → Accepted v → (marks : List Bool) → ((i : ℕ) → getD marks i false ≡ chained v i)

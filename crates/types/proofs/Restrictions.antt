@@ -20,7 +20,8 @@ use Rattle.records.specs.Kinds.{Class, Silent, Connective, Name, Restriction, S
 use Rattle.records.proofs.Passed.{clash}
 use Rattle.records.specs.Atoms.{atoms, digit, rank}
 use Rattle.types.specs.Below.{allBelow}
-use Rattle.types.specs.Words.{isRestriction, appendIf, restrictionsBelow, width, restriction}
+use Rattle.records.specs.Kinds.{isRestriction}
+use Rattle.types.specs.Words.{appendIf, restrictionsBelow, width, restriction}
 use Rattle.types.proofs.Below.{all-intro, all-at}
 
 append-length : (b : Bool) (l : List ℕ) (n : ℕ) → length (appendIf b l n) ≡ length l + digit b

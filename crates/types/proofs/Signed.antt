@@ -23,7 +23,8 @@ use Rattle.records.proofs.Constructs.{restricting, construct-restriction, RoleB
 use Rattle.records.proofs.Ranges.{restriction-kind}
 use Rattle.types.specs.Meaning.{some, all, plain, restrictionOf, restrictionAt}
 use Rattle.types.specs.Types.{truth, allows, witnessed, met}
-use Rattle.types.specs.Words.{isRestriction, signed, negated}
+use Rattle.records.specs.Kinds.{isRestriction}
+use Rattle.types.specs.Words.{signed, negated}
 use Rattle.types.proofs.Restrictions.{restricts}
 
 abbrev pub wants : List ℕ → ℕ → ℕ → Bool

@@ -1,5 +1,6 @@
 -- One turn of the code's loops, over plain values.
 --   Filled, fill-start, fill-turn   a table filled in order
+--   RightAt, right-turn, right-kept   a part of a table filled in order
 --   zeros                           a table of nothing but zeros
 --   types-bound                     few atoms have few types
 --   Ends, ends-turn, ends-empty     a set that has nothing from there on
@@ -46,6 +47,24 @@ module _ {A : Type 0} (d : A) (n : ℕ) (l : List A) (f : ℕ → A) where
 
   pub fill-same : (i : ℕ) → Filled d n l f i → (g : ℕ → A) → ((j : ℕ) → j < i → f j ≡ g j) → Filled d n l g i
   fill-same i r g e = record { size = r .size; right = λ j k. r .right j k ∙ e j k }
+
+-- The entries at the places of the numbers below i are right.
+abbrev pub RightAt : {A : Type 0} → A → List A → (ℕ → ℕ) → (ℕ → A) → ℕ → Type 0
+RightAt d l at f i = (j : ℕ) → j < i → getD l (at j) d ≡ f j
+
+module _ {A : Type 0} (d : A) (l : List A) (at : ℕ → ℕ) (f : ℕ → A) (i : ℕ) (right : RightAt d l at f i) where
+  pub right-turn : (x : A) → at i < length l → ((j : ℕ) → j < i → at j ≡ at i → ⊥) → x ≡ f i
+      → RightAt d (set l (at i) x) at f (i + 1)
+  right-turn x h other e j k = here (ℕ-discrete j i)
+    where
+      here : Dec (j ≡ i) → getD (set l (at i) x) (at j) d ≡ f j
+      here (yes q) = rw q (getD-set-same l (at i) x d h ∙ e)
+      here (no q) =
+          let below : j < i = omega arith in
+          getD-set-other l (at i) (at j) x d (other j below) ∙ right j below
+
+  pub right-kept : (p : ℕ) (x : A) → ((j : ℕ) → j < i → at j ≡ p → ⊥) → RightAt d (set l p x) at f i
+  right-kept p x other j k = getD-set-other l p (at j) x d (other j k) ∙ right j k
 
 -- Few atoms have few types.
 pub types-bound : (v : List ℕ) → atoms v ≤ atomLimit → types v ≤ typeLimit

@@ -4,12 +4,14 @@ use Prim.Native.Nat.{ℕ, _+_, _*_, _<_}
 use mathlib.Core.Path.{_≡_}
 use mathlib.Core.Bool.{Bool, true, false, cond}
 use mathlib.Core.List.{List, [], _∷_}
-use lib.ListN.{getD}
-use Rattle.records.specs.Format.{recordAt, count}
-use Rattle.records.specs.Atoms.{digit, rank}
+use lib.ListN.{length, getD}
+use Rattle.records.specs.Format.{recordAt, count, recordLimit}
+use Rattle.records.specs.Kinds.{isAtom}
+use Rattle.records.specs.Atoms.{digit, rank, atoms}
 use Rattle.types.specs.Below.{allBelow, bit}
+use Rattle.types.specs.Types.{truth}
 
--- A kind's rule as a number of eight bits, and whether A and B are operands.
+-- A kind's rule as a number of four bits, and whether A and B are operands.
 pub record Shape : Type 0 where
   pub rule : ℕ
   pub first : Bool
@@ -22,15 +24,15 @@ shape rule first second = record { rule = rule; first = first; second = second }
 abbrev pub shapes : List Shape
 shapes =
     shape 0 false false
-    ∷ shape 255 false false
+    ∷ shape 15 false false
     ∷ shape 0 false false
-    ∷ shape 240 false false
-    ∷ shape 85 true false
-    ∷ shape 136 true true
-    ∷ shape 238 true true
-    ∷ shape 240 false true
-    ∷ shape 240 false true
-    ∷ shape 221 true true
+    ∷ shape 10 false false
+    ∷ shape 5 true false
+    ∷ shape 8 true true
+    ∷ shape 14 true true
+    ∷ shape 10 false true
+    ∷ shape 10 false true
+    ∷ shape 13 true true
     ∷ []
 
 unfoldable pub shapeOf : ℕ → Shape
@@ -39,22 +41,40 @@ shapeOf kind = getD shapes kind (shape 0 false false)
 abbrev pub ruleOf : ℕ → ℕ
 ruleOf kind = shapeOf kind .rule
 
--- A where it is an operand; else n, the number of atoms before the record, so that an atom finds its own bit.
+-- A where it is an operand; else the record's own number, where an atom finds its truth.
 abbrev pub firstOf : ℕ → ℕ → ℕ → ℕ
-firstOf kind a n = cond (shapeOf kind .first) a n
+firstOf kind a own = cond (shapeOf kind .first) a own
 
 abbrev pub secondOf : ℕ → ℕ → ℕ
 secondOf kind b = cond (shapeOf kind .second) b 0
 
--- The truth that a rule gives where A is x, B is y and the atom's own bit z.
-unfoldable pub select : ℕ → Bool → Bool → Bool → Bool
-select rule x y z = bit rule (digit x + 2 * digit y + 4 * digit z)
+-- The truth that a rule gives where its operands are x and y.
+unfoldable pub select : ℕ → Bool → Bool → Bool
+select rule x y = bit rule (digit x + 2 * digit y)
 
--- Tables that hold each record's rule and operands.
-pub record Decoded (v rules firsts seconds : List ℕ) : Type 0 where
-  pub rule-at : (i : ℕ) → i < count v → getD rules i 0 ≡ ruleOf (recordAt v i .kind)
-  pub first-at : (i : ℕ) → i < count v → getD firsts i 0 ≡ firstOf (recordAt v i .kind) (recordAt v i .a) (rank v i)
-  pub second-at : (i : ℕ) → i < count v → getD seconds i 0 ≡ secondOf (recordAt v i .kind) (recordAt v i .b)
+-- A table that holds each record's rule, then each one's first operand, then each one's second.
+abbrev pub codeLength : ℕ
+codeLength = 3 * recordLimit
+
+pub record Decoded (v code : List ℕ) : Type 0 where
+  pub rule-at : (i : ℕ) → i < count v → getD code i 0 ≡ ruleOf (recordAt v i .kind)
+  pub first-at : (i : ℕ) → i < count v → getD code (recordLimit + i) 0 ≡ firstOf (recordAt v i .kind) (recordAt v i .a) i
+  pub second-at : (i : ℕ) → i < count v → getD code (2 * recordLimit + i) 0 ≡ secondOf (recordAt v i .kind) (recordAt v i .b)
+
+-- A list of the atoms' places: that of atom j is entry j.
+pub record AtomsListed (v places : List ℕ) : Type 0 where
+  pub within : (j : ℕ) → j < atoms v → getD places j 0 < count v
+  pub ranked : (j : ℕ) → j < atoms v → rank v (getD places j 0) ≡ j
+  pub finds : (i : ℕ) → i < count v → isAtom (recordAt v i .kind) ≡ true → getD places (rank v i) 0 ≡ i
+
+-- A table that holds the truths of the atoms at type t; one that holds those of all records.
+pub record AtomsSet (v : List ℕ) (t : ℕ) (done : List Bool) : Type 0 where
+  pub size : length done ≡ recordLimit
+  pub atom-at : (i : ℕ) → i < count v → isAtom (recordAt v i .kind) ≡ true → getD done i false ≡ bit t (rank v i)
+
+pub record Truths (v : List ℕ) (t : ℕ) (done : List Bool) : Type 0 where
+  pub size : length done ≡ recordLimit
+  pub truth-at : (i : ℕ) → i < count v → getD done i false ≡ truth v t i
 
 -- Each of n listed records is done true.
 unfoldable pub holding : List ℕ → List Bool → ℕ → Bool

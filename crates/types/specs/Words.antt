@@ -1,23 +1,25 @@
 -- The words by which the code tests `served`, and the table it keeps of them. No promise to a caller speaks of them:
 -- proofs/Served.antt shows that the test is the paper's.
-use Prim.Native.Nat.{ℕ, zero, suc, _-_, _^_, _≤_, _<_}
+use Prim.Native.Nat.{ℕ, zero, suc, _+_, _-_, _^_, _≤_, _<_}
 use mathlib.Core.Path.{_≡_}
 use mathlib.Core.Bool.{Bool, true, false, Bool·beq, cond, not, _&&_, _||_}
 use mathlib.Core.List.{List, [], _∷_, _++_}
-use lib.ListN.{length, getD}
+use lib.ListN.{length, getD, set}
 use lib.Dec.{eqb}
 use lib.Bits.{bitOr}
 use Rattle.records.specs.Outcome.{accepted}
-use Rattle.records.specs.Format.{recordAt, count}
+use Rattle.records.specs.Format.{recordAt, count, recordLimit}
 use Rattle.records.specs.Check.{anyBelow, IsAccepted}
 use Rattle.records.specs.Chain.{chained}
 use Rattle.records.specs.Atoms.{atoms}
 use Rattle.types.specs.declared.profile.Profile.{Profile}
+use Rattle.types.specs.declared.profile.Plan.{Plan}
+use Rattle.types.specs.declared.restrict.Restrictions.{Restrictions}
 use Rattle.types.specs.Below.{has, bit, number}
 use Rattle.types.specs.Types.{types, truth}
-use Rattle.types.specs.Survivors.{fits}
-use Rattle.types.specs.Compare.{atomLimit}
-use Rattle.types.specs.Rules.{Decoded}
+use Rattle.types.specs.Survivors.{fits, stage, rounds, survivors}
+use Rattle.types.specs.Compare.{atomLimit, typeLimit}
+use Rattle.types.specs.Rules.{Decoded, AtomsListed}
 use Rattle.records.specs.Kinds.{isRestriction}
 
 abbrev pub appendIf : Bool → List ℕ → ℕ → List ℕ
@@ -76,18 +78,20 @@ reached v t r = bitOr (demand v t) (others v r)
 abbrev pub roleServed : List ℕ → List Bool → ℕ → ℕ → Bool
 roleServed v S t r = eqb (bitOr (cover v S (reached v t r)) (others v r)) (reached v t r)
 
--- Tables that hold the restrictions, and of each its filler, its role and whether it is negated.
-abbrev pub Listed : List ℕ → List ℕ → Type 0
-Listed v places = (m : ℕ) → m < width v → getD places m 0 ≡ restriction v m
+-- The word of the truths at listed places, signed.
+abbrev pub wordAt : List Bool → List ℕ → List Bool → ℕ → ℕ
+wordAt done places signs bits = number bits (λ m. signed (getD signs m false) (getD done (getD places m 0) false))
 
-abbrev pub Fillers : List ℕ → List ℕ → Type 0
-Fillers v fillers = (m : ℕ) → m < width v → getD fillers m 0 ≡ recordAt v (restriction v m) .b
-
+-- Tables that hold each restriction's role; the restrictions, and of each its filler, its role and whether it is negated.
 abbrev pub Roles : List ℕ → List ℕ → Type 0
 Roles v roles = (m : ℕ) → m < width v → getD roles m 0 ≡ recordAt v (restriction v m) .a
 
-abbrev pub Signs : List ℕ → List Bool → Type 0
-Signs v signs = (m : ℕ) → m < width v → getD signs m false ≡ negated v (restriction v m)
+pub record Listed (v : List ℕ) (r : Restrictions) : Type 0 where
+  pub all : r .count ≡ width v
+  pub place-at : (m : ℕ) → m < width v → getD (r .places) m 0 ≡ restriction v m
+  pub filler-at : (m : ℕ) → m < width v → getD (r .fillers) m 0 ≡ recordAt v (restriction v m) .b
+  pub role-at : Roles v (r .roles)
+  pub sign-at : (m : ℕ) → m < width v → getD (r .signs) m false ≡ negated v (restriction v m)
 
 -- A list of the chained statements.
 pub record Stating (v statements : List ℕ) (found : ℕ) : Type 0 where
@@ -96,16 +100,21 @@ pub record Stating (v statements : List ℕ) (found : ℕ) : Type 0 where
   pub states : (j : ℕ) → j < found → chained v (getD statements j 0) ≡ true
   pub finds : (i : ℕ) → chained v i ≡ true → (j : ℕ) × (j < found) × (getD statements j 0 ≡ i)
 
--- What the profile of a type is taken from: an accepted vocabulary of few enough atoms, decoded, its statements listed.
-pub record Prepared (v rules firsts seconds statements : List ℕ) (found : ℕ) (places fillers : List ℕ) (signs : List Bool)
-    : Type 0 where
+-- What a comparison may go on with after the checks: an accepted vocabulary of k atoms, few enough, and two of its records.
+pub record Comparable (v : List ℕ) (a b k : ℕ) : Type 0 where
   pub accepts : IsAccepted v
   pub few : atoms v ≤ atomLimit
-  pub decoded : Decoded v rules firsts seconds
-  pub stated : Stating v statements found
-  pub listed : Listed v places
-  pub fillers-at : Fillers v fillers
-  pub signs-at : Signs v signs
+  pub counts : k ≡ atoms v
+  pub first : a < count v
+  pub second : b < count v
+
+-- What the profile of a type is taken from: that, decoded, and its atoms, statements and restrictions listed.
+pub record Prepared (v : List ℕ) (plan : Plan) (code statements : List ℕ) : Type 0 where
+  pub query : Comparable v (plan .a) (plan .b) (plan .k)
+  pub decoded : Decoded v code
+  pub placed : AtomsListed v (plan .places)
+  pub stated : Stating v statements (plan .found)
+  pub listed : Listed v (plan .restrictions)
 
 -- Whether the terms a and b differ at t.
 abbrev pub differ : List ℕ → ℕ → ℕ → ℕ → Bool
@@ -127,3 +136,33 @@ Differs v a b differs = (t : ℕ) → t < types v → getD differs t false ≡ d
 -- Two tables hold the same set.
 abbrev pub SameSet : List Bool → List Bool → Type 0
 SameSet S R = (t : ℕ) → has S t ≡ has R t
+
+-- Tables as they are lent: for the survivors, of which there are none yet; for the profiles of all types.
+pub record Vacant (alive differs : List Bool) : Type 0 where
+  pub none : (t : ℕ) → has alive t ≡ false
+  pub alive-size : length alive ≡ typeLimit
+  pub differs-size : length differs ≡ typeLimit
+
+pub record Blank (done alive differs : List Bool) (demands offers : List ℕ) : Type 0 where
+  pub vacant : Vacant alive differs
+  pub done-size : length done ≡ recordLimit
+  pub demands-size : length demands ≡ typeLimit
+  pub offers-size : length offers ≡ typeLimit
+
+-- And as they are left: by the profiles; by the rounds after them.
+pub record Profiled (v : List ℕ) (a b : ℕ) (alive differs : List Bool) (demands offers : List ℕ) : Type 0 where
+  pub alive-at : SameSet alive (stage v 0)
+  pub alive-size : length alive ≡ typeLimit
+  pub differs-at : Differs v a b differs
+  pub demands-at : Demands v demands
+  pub offers-at : Offers v offers
+
+pub record Settled (v : List ℕ) (a b : ℕ) (alive differs : List Bool) (done : ℕ) : Type 0 where
+  pub alive-at : SameSet alive (survivors v)
+  pub differs-at : Differs v a b differs
+  pub rounds-at : done ≡ rounds v
+
+-- A list with n zeros written from `start` on.
+unfoldable pub cleared : List ℕ → ℕ → ℕ → List ℕ
+cleared l start zero = l
+cleared l start (suc n) = set (cleared l start n) (start + n) 0

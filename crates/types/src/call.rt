@@ -3,19 +3,11 @@ use crate::answers::Compared;
 use crate::answers::compare_after;
 use crate::answers::compare_after_count;
 use crate::answers::conclude;
-use crate::decode::decode;
-use crate::eliminate::eliminate;
 use crate::form::count_alive;
 use crate::form::find_first;
 use crate::form::write_form;
 use crate::profile::Profile;
-use crate::profile::Profiles;
-use crate::profile::profile_types;
-use crate::restrict::Details;
-use crate::restrict::Listing;
-use crate::restrict::describe_restrictions;
-use crate::restrict::list_restrictions;
-use crate::truth::list_statements;
+use crate::settle::settle;
 use records::answers::Checked;
 use records::answers::Counted;
 use records::answers::pass_if;
@@ -26,22 +18,19 @@ use records::kinds::is_term;
 ghost use mathlib.Core.Path.{_≡_};
 ghost use mathlib.Core.Bool.{_&&_};
 ghost use mathlib.Core.List.{_++_};
-ghost use Prim.Native.Nat.{_≤_, _<_, _%_};
+ghost use Prim.Native.Nat.{_≤_};
 ghost use lib.ListN.{length, drop};
 ghost use lib.Dec.{ltb};
 ghost use Rattle.records.specs.Outcome.{accepted};
 ghost use Rattle.records.specs.Answers.{checked};
 ghost use Rattle.records.specs.Format.{recordAt, count};
 ghost use Rattle.records.specs.Kinds.{isTerm};
-ghost use Rattle.records.specs.Check.{IsAccepted};
 ghost use Rattle.records.specs.Atoms.{atoms};
-ghost use Rattle.types.specs.Types.{types};
-ghost use Rattle.types.specs.Survivors.{stage};
 ghost use Rattle.types.specs.Compare.{termCheck, queryCheck, verdict, comparison};
 ghost use Rattle.types.specs.Form.{form, written};
 ghost use Rattle.types.specs.Answers.{compared};
-ghost use Rattle.types.specs.Words.{width, Listed, Fillers, Roles, Signs, Differs, Demands, Offers, SameSet};
-ghost use Rattle.types.specs.Compare.{atomLimit, typeLimit, formBytes};
+ghost use Rattle.types.specs.Compare.{formBytes};
+ghost use Rattle.types.specs.Words.{Comparable};
 
 // Row 10: whether a number of the query names a term.
 fn names_term(v: &[u8], number: usize) -> bool
@@ -79,79 +68,17 @@ fn check_query(v: &[u8], a: usize, b: usize, k: usize, lent: usize) -> Checked
     pass_if(Profile::BYTES <= lent, 12, 0)
 }
 
-// The restrictions and what is known of each.
-fn profile_all(
-    v: &[u8],
-    listing: Listing,
-    details: Details,
-    a: usize,
-    b: usize,
-    size: usize,
-) -> Profiles
-    requires { ⌜ IsAccepted (now v) ⌝ }
-    requires { ⌜ atoms (now v) ≤ atomLimit ⌝ }
-    requires { ⌜ a < count (now v) ⌝ }
-    requires { ⌜ b < count (now v) ⌝ }
-    requires { ⌜ size ≡ types (now v) ⌝ }
-    requires { ⌜ listing .found ≡ width (now v) ⌝ }
-    requires { ⌜ Listed (now v) (listing .places) ⌝ }
-    requires { ⌜ Fillers (now v) (details .fillers) ⌝ }
-    requires { ⌜ Signs (now v) (details .signs) ⌝ }
-    ensures { λ r. ⌜ SameSet (r .alive) (stage (now (v .entry)) 0) ⌝ }
-    ensures { λ r. ⌜ Differs (now (v .entry)) a b (r .differs) ⌝ }
-    ensures { λ r. ⌜ Demands (now (v .entry)) (r .demands) ⌝ }
-    ensures { λ r. ⌜ Offers (now (v .entry)) (r .offers) ⌝ }
-    ensures { λ r. ⌜ length (r .alive) ≡ typeLimit ⌝ }
-{
-    let decoded = decode(v);
-    let rules = decoded.rules;
-    let firsts = decoded.firsts;
-    let seconds = decoded.seconds;
-    let listed = list_statements(v);
-    let statements = listed.places;
-    let places = listing.places;
-    let fillers = details.fillers;
-    let signs = details.signs;
-    profile_types(
-        v,
-        &rules,
-        &firsts,
-        &seconds,
-        &statements,
-        listed.found,
-        &places,
-        &fillers,
-        &signs,
-        listing.found,
-        a,
-        b,
-        size,
-    )
-}
-
 // The answer for two terms of an accepted vocabulary of few enough atoms; the survivors are written.
 fn decide(v: &[u8], a: usize, b: usize, k: usize, lent: &mut [u8]) -> Compared
-    requires { ⌜ IsAccepted (now v) ⌝ }
-    requires { ⌜ atoms (now v) ≤ atomLimit ⌝ }
-    requires { ⌜ k ≡ atoms (now v) ⌝ }
-    requires { ⌜ a < count (now v) ⌝ }
-    requires { ⌜ b < count (now v) ⌝ }
+    requires { ⌜ Comparable (now v) a b k ⌝ }
     requires { ⌜ formBytes ≤ length (now lent) ⌝ }
     ensures { λ r. ⌜ compared r ≡ accepted (verdict (now (v .entry)) a b) ⌝ }
     ensures { λ _. ⌜ now (lent .exit) ≡ form (now (v .entry)) ++ drop formBytes (now (lent .entry)) ⌝ }
 {
+    let mut alive = [false; Profile::TYPES];
+    let mut differs = [false; Profile::TYPES];
+    let rounds = settle(v, a, b, k, &mut alive, &mut differs);
     let size = 1 << k;
-    let listing = list_restrictions(v);
-    let bits = listing.found;
-    let places = listing.places;
-    let details = describe_restrictions(v, &places, bits);
-    let roles = details.roles;
-    let profiles = profile_all(v, listing, details, a, b, size);
-    let mut alive = profiles.alive;
-    let differs = profiles.differs;
-    let demands = profiles.demands;
-    let offers = profiles.offers;
-    let rounds = eliminate(v, &roles, bits, &demands, &offers, size, &mut alive);
     let element = find_first(&alive, &differs, size);
     let survivors = count_alive(&alive, size);
     write_form(&alive, size, lent);

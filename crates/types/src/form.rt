@@ -4,9 +4,11 @@ use crate::truth::digit;
 ghost use mathlib.Core.Path.{_≡_};
 ghost use mathlib.Core.Bool.{false, _&&_};
 ghost use mathlib.Core.List.{_++_};
-ghost use Prim.Native.Nat.{ℕ, _+_, _*_, _≤_, _<_};
+ghost use Prim.Native.Nat.{ℕ, _-_, _≤_, _<_};
 ghost use lib.ListN.{length, getD, drop};
-ghost use Rattle.types.specs.Below.{has, least, table, number, countBelow};
+ghost use Rattle.types.specs.Below.{has, least, table, countBelow};
+ghost use Rattle.types.specs.Form.{byteOf};
+ghost use Rattle.types.specs.Words.{cleared};
 ghost use Rattle.types.specs.Compare.{typeLimit, formBytes};
 
 // How many are below `size`.
@@ -49,7 +51,7 @@ pub fn find_first(
 // Byte n of the form, built from its top bit.
 fn byte_of(alive: &[bool; Profile::TYPES], n: usize) -> u8
     requires { ⌜ n < formBytes ⌝ }
-    ensures { λ r. ⌜ r ≡ number 8 (λ j. has (now (alive .entry)) (8 * n + j)) ⌝ }
+    ensures { λ r. ⌜ r ≡ byteOf (now (alive .entry)) n ⌝ }
 {
     let start = 8 * n;
     let mut byte = 0;
@@ -61,27 +63,40 @@ fn byte_of(alive: &[bool; Profile::TYPES], n: usize) -> u8
     byte as u8
 }
 
-// The same; bytes past the types are 0.
-fn byte_below(alive: &[bool; Profile::TYPES], size: usize, n: usize) -> u8
-    requires { ⌜ n < formBytes ⌝ }
-    requires { ⌜ ((t : ℕ) → size ≤ t → has (now alive) t ≡ false) ⌝ }
-    ensures { λ r. ⌜ r ≡ number 8 (λ j. has (now (alive .entry)) (8 * n + j)) ⌝ }
-{
-    if 8 * n < size {
-        return byte_of(alive, n);
-    }
-    0
-}
-
-// Writes the form of the types below `size` into the first bytes of what is lent.
-pub fn write_form(alive: &[bool; Profile::TYPES], size: usize, lent: &mut [u8])
-    requires { ⌜ ((t : ℕ) → size ≤ t → has (now alive) t ≡ false) ⌝ }
+// Writes the bytes before `end`.
+fn write_types(alive: &[bool; Profile::TYPES], end: usize, lent: &mut [u8])
+    requires { ⌜ end ≤ formBytes ⌝ }
     requires { ⌜ formBytes ≤ length (now lent) ⌝ }
-    ensures { λ _. ⌜ now (lent .exit) ≡ table formBytes (λ n. number 8 (λ j. has (now (alive .entry)) (8 * n + j))) ++ drop formBytes (now (lent .entry)) ⌝ }
+    ensures { λ _. ⌜ now (lent .exit) ≡ table end (byteOf (now (alive .entry))) ++ drop end (now (lent .entry)) ⌝ }
 {
     let mut n = 0;
-    while n < Profile::BYTES {
-        lent[n] = byte_below(alive, size, n);
+    while n < end {
+        lent[n] = byte_of(alive, n);
         n += 1;
     }
+}
+
+// Writes zeros from `start` to the end of the form.
+fn write_zeros(start: usize, lent: &mut [u8])
+    requires { ⌜ start ≤ formBytes ⌝ }
+    requires { ⌜ formBytes ≤ length (now lent) ⌝ }
+    ensures { λ _. ⌜ now (lent .exit) ≡ cleared (now (lent .entry)) start (formBytes - start) ⌝ }
+{
+    let mut n = start;
+    while n < Profile::BYTES {
+        lent[n] = 0;
+        n += 1;
+    }
+}
+
+// Writes the form of the types below `size` into the first bytes of what is lent: the bytes that hold types, then zeros.
+pub fn write_form(alive: &[bool; Profile::TYPES], size: usize, lent: &mut [u8])
+    requires { ⌜ size ≤ typeLimit ⌝ }
+    requires { ⌜ ((t : ℕ) → size ≤ t → has (now alive) t ≡ false) ⌝ }
+    requires { ⌜ formBytes ≤ length (now lent) ⌝ }
+    ensures { λ _. ⌜ now (lent .exit) ≡ table formBytes (byteOf (now (alive .entry))) ++ drop formBytes (now (lent .entry)) ⌝ }
+{
+    let end = (size + 7) / 8;
+    write_types(alive, end, lent);
+    write_zeros(end, lent);
 }

@@ -6,6 +6,7 @@ mod eliminate;
 mod form;
 mod profile;
 mod restrict;
+mod settle;
 mod truth;
 mod words;
 

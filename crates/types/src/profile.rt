@@ -1,16 +1,13 @@
 // What the comparison needs to know of each type, taken from one table of truths.
+use crate::restrict::Restrictions;
 use crate::restrict::word_of;
 use crate::truth::statements_hold;
 use crate::truth::truths;
 use records::fields::Record;
 ghost use mathlib.Core.Path.{_≡_};
-ghost use Prim.Native.Nat.{_<_};
 ghost use lib.ListN.{length};
-ghost use Rattle.records.specs.Format.{count};
-ghost use Rattle.types.specs.Types.{types};
-ghost use Rattle.types.specs.Survivors.{stage};
-ghost use Rattle.types.specs.Words.{width, Prepared, profileAt, Demands, Offers, Differs, SameSet};
-ghost use Rattle.types.specs.Compare.{typeLimit};
+ghost use Rattle.records.specs.Format.{recordLimit};
+ghost use Rattle.types.specs.Words.{Prepared, Blank, Profiled, profileAt};
 
 // At one type: whether every chained statement holds, whether the two terms differ, and the words of what it demands and
 // offers.
@@ -28,104 +25,76 @@ impl Profile {
     pub const TYPES: usize = 4096;
 
     pub const BYTES: usize = 512;
+
+    // Three numbers for each record.
+    pub const CODE: usize = 3 * Record::LIMIT;
 }
 
-// The profile of type t.
+// What profiles are taken from, beside the lent tables: the terms a and b, the k atoms and their places, how many
+// statements are listed, and the restrictions.
+pub struct Plan {
+    pub a: usize,
+    pub b: usize,
+    pub k: usize,
+    pub places: [u16; Profile::ATOMS],
+    pub found: usize,
+    pub restrictions: Restrictions,
+}
+
+// The profile of type t; `done` then holds its truths.
 fn profile_of(
     v: &[u8],
-    rules: &[u8; Record::LIMIT],
-    firsts: &[u16; Record::LIMIT],
-    seconds: &[u16; Record::LIMIT],
+    plan: Plan,
+    code: &[u16; Profile::CODE],
     statements: &[u16; Record::LIMIT],
-    found: usize,
-    places: &[u16; Profile::ATOMS],
-    fillers: &[u16; Profile::ATOMS],
-    signs: &[bool; Profile::ATOMS],
-    bits: usize,
-    a: usize,
-    b: usize,
     t: usize,
+    done: &mut [bool; Record::LIMIT],
 ) -> Profile
-    requires { ⌜ Prepared (now v) (now rules) (now firsts) (now seconds) (now statements) found (now places) (now fillers) (now signs) ⌝ }
-    requires { ⌜ bits ≡ width (now v) ⌝ }
-    requires { ⌜ a < count (now v) ⌝ }
-    requires { ⌜ b < count (now v) ⌝ }
-    ensures { λ r. ⌜ r ≡ profileAt (now (v .entry)) a b t ⌝ }
+    requires { ⌜ Prepared (now v) plan (now code) (now statements) ⌝ }
+    requires { ⌜ length (now done) ≡ recordLimit ⌝ }
+    ensures { λ r. ⌜ r ≡ profileAt (now (v .entry)) (plan .a) (plan .b) t ⌝ }
+    ensures { λ _. ⌜ length (now (done .exit)) ≡ recordLimit ⌝ }
 {
-    let done = truths(v, rules, firsts, seconds, t);
+    let a = plan.a;
+    let b = plan.b;
+    let atoms = plan.places;
+    let places = plan.restrictions.places;
+    let fillers = plan.restrictions.fillers;
+    let signs = plan.restrictions.signs;
+    let bits = plan.restrictions.count;
+    truths(v, code, plan.k, &atoms, t, done);
     Profile {
-        fits: statements_hold(&done, statements, found),
+        fits: statements_hold(done, statements, plan.found),
         differs: done[a] != done[b],
-        demand: word_of(&done, places, signs, bits),
-        offer: word_of(&done, fillers, signs, bits),
+        demand: word_of(done, &places, &signs, bits),
+        offer: word_of(done, &fillers, &signs, bits),
     }
 }
 
 // The profiles of all types, in tables of their own; `alive` has those that fit.
-pub struct Profiles {
-    pub alive: [bool; Profile::TYPES],
-    pub differs: [bool; Profile::TYPES],
-    pub demands: [u16; Profile::TYPES],
-    pub offers: [u16; Profile::TYPES],
-}
-
 pub fn profile_types(
     v: &[u8],
-    rules: &[u8; Record::LIMIT],
-    firsts: &[u16; Record::LIMIT],
-    seconds: &[u16; Record::LIMIT],
+    plan: Plan,
+    code: &[u16; Profile::CODE],
     statements: &[u16; Record::LIMIT],
-    found: usize,
-    places: &[u16; Profile::ATOMS],
-    fillers: &[u16; Profile::ATOMS],
-    signs: &[bool; Profile::ATOMS],
-    bits: usize,
-    a: usize,
-    b: usize,
-    size: usize,
-) -> Profiles
-    requires { ⌜ Prepared (now v) (now rules) (now firsts) (now seconds) (now statements) found (now places) (now fillers) (now signs) ⌝ }
-    requires { ⌜ bits ≡ width (now v) ⌝ }
-    requires { ⌜ a < count (now v) ⌝ }
-    requires { ⌜ b < count (now v) ⌝ }
-    requires { ⌜ size ≡ types (now v) ⌝ }
-    ensures { λ r. ⌜ SameSet (r .alive) (stage (now (v .entry)) 0) ⌝ }
-    ensures { λ r. ⌜ Differs (now (v .entry)) a b (r .differs) ⌝ }
-    ensures { λ r. ⌜ Demands (now (v .entry)) (r .demands) ⌝ }
-    ensures { λ r. ⌜ Offers (now (v .entry)) (r .offers) ⌝ }
-    ensures { λ r. ⌜ length (r .alive) ≡ typeLimit ⌝ }
+    done: &mut [bool; Record::LIMIT],
+    alive: &mut [bool; Profile::TYPES],
+    differs: &mut [bool; Profile::TYPES],
+    demands: &mut [u16; Profile::TYPES],
+    offers: &mut [u16; Profile::TYPES],
+)
+    requires { ⌜ Prepared (now v) plan (now code) (now statements) ⌝ }
+    requires { ⌜ Blank (now done) (now alive) (now differs) (now demands) (now offers) ⌝ }
+    ensures { λ _. ⌜ Profiled (now (v .entry)) (plan .a) (plan .b) (now (alive .exit)) (now (differs .exit)) (now (demands .exit)) (now (offers .exit)) ⌝ }
 {
-    let mut alive = [false; Profile::TYPES];
-    let mut differs = [false; Profile::TYPES];
-    let mut demands = [0; Profile::TYPES];
-    let mut offers = [0; Profile::TYPES];
+    let size = 1 << plan.k;
     let mut t = 0;
     while t < size {
-        let profile = profile_of(
-            v,
-            rules,
-            firsts,
-            seconds,
-            statements,
-            found,
-            places,
-            fillers,
-            signs,
-            bits,
-            a,
-            b,
-            t,
-        );
+        let profile = profile_of(v, plan, code, statements, t, done);
         alive[t] = profile.fits;
         differs[t] = profile.differs;
         demands[t] = profile.demand;
         offers[t] = profile.offer;
         t += 1;
-    }
-    Profiles {
-        alive,
-        differs,
-        demands,
-        offers,
     }
 }

@@ -6,70 +6,51 @@ use records::fields::read_at;
 use records::kinds::is_restriction;
 ghost use mathlib.Core.Path.{_≡_};
 ghost use Prim.Native.Nat.{ℕ, _<_, _≤_};
-ghost use mathlib.Core.Bool.{false, not};
+ghost use mathlib.Core.Bool.{not};
 ghost use lib.ListN.{getD};
 ghost use lib.Dec.{eqb};
 ghost use Rattle.records.specs.Check.{IsAccepted};
 ghost use Rattle.types.specs.Below.{number};
-ghost use Rattle.types.specs.Words.{width, signed, Listed, Fillers, Roles, Signs};
+ghost use Rattle.types.specs.Words.{signed, Listed, wordAt};
 ghost use Rattle.records.specs.Format.{recordLimit};
 ghost use Rattle.records.specs.Atoms.{atoms};
 ghost use Rattle.types.specs.Compare.{atomLimit};
 
-// The restrictions in record order, and how many there are.
-pub struct Listing {
-    pub found: usize,
+// The restrictions in record order: how many, and each one's place, filler, role, and whether it is of kind 8.
+pub struct Restrictions {
+    pub count: usize,
     pub places: [u16; Profile::ATOMS],
-}
-
-pub fn list_restrictions(v: &[u8]) -> Listing
-    requires { ⌜ IsAccepted (now v) ⌝ }
-    requires { ⌜ atoms (now v) ≤ atomLimit ⌝ }
-    ensures { λ r. ⌜ r .found ≡ width (now (v .entry)) ⌝ }
-    ensures { λ r. ⌜ Listed (now (v .entry)) (r .places) ⌝ }
-{
-    let records = v.len() / Record::SIZE;
-    let mut places = [0; Profile::ATOMS];
-    let mut found = 0;
-    let mut i = 0;
-    while i < records {
-        if is_restriction(read_at(v, i).kind) {
-            places[found] = i as u16;
-            found += 1;
-        }
-        i += 1;
-    }
-    Listing { found, places }
-}
-
-// Each restriction's filler, role, and whether it is of kind 8.
-pub struct Details {
     pub fillers: [u16; Profile::ATOMS],
     pub roles: [u16; Profile::ATOMS],
     pub signs: [bool; Profile::ATOMS],
 }
 
-pub fn describe_restrictions(v: &[u8], places: &[u16; Profile::ATOMS], bits: usize) -> Details
+pub fn list_restrictions(v: &[u8]) -> Restrictions
     requires { ⌜ IsAccepted (now v) ⌝ }
     requires { ⌜ atoms (now v) ≤ atomLimit ⌝ }
-    requires { ⌜ bits ≡ width (now v) ⌝ }
-    requires { ⌜ Listed (now v) (now places) ⌝ }
-    ensures { λ r. ⌜ Fillers (now (v .entry)) (r .fillers) ⌝ }
-    ensures { λ r. ⌜ Roles (now (v .entry)) (r .roles) ⌝ }
-    ensures { λ r. ⌜ Signs (now (v .entry)) (r .signs) ⌝ }
+    ensures { λ r. ⌜ Listed (now (v .entry)) r ⌝ }
 {
+    let records = v.len() / Record::SIZE;
+    let mut places = [0; Profile::ATOMS];
     let mut fillers = [0; Profile::ATOMS];
     let mut roles = [0; Profile::ATOMS];
     let mut signs = [false; Profile::ATOMS];
-    let mut m = 0;
-    while m < bits {
-        let fields = read_at(v, places[m] as usize);
-        fillers[m] = fields.b;
-        roles[m] = fields.a;
-        signs[m] = fields.kind == 8;
-        m += 1;
+    let mut count = 0;
+    let mut i = 0;
+    while i < records {
+        let fields = read_at(v, i);
+        if is_restriction(fields.kind) {
+            places[count] = i as u16;
+            fillers[count] = fields.b;
+            roles[count] = fields.a;
+            signs[count] = fields.kind == 8;
+            count += 1;
+        }
+        i += 1;
     }
-    Details {
+    Restrictions {
+        count,
+        places,
         fillers,
         roles,
         signs,
@@ -92,7 +73,7 @@ pub fn word_of(
 ) -> u16
     requires { ⌜ bits ≤ atomLimit ⌝ }
     requires { ⌜ ((m : ℕ) → m < bits → getD (now places) m 0 < recordLimit) ⌝ }
-    ensures { λ r. ⌜ r ≡ number bits (λ m. signed (getD (now (signs .entry)) m false) (getD (now (done .entry)) (getD (now (places .entry)) m 0) false)) ⌝ }
+    ensures { λ r. ⌜ r ≡ wordAt (now (done .entry)) (now (places .entry)) (now (signs .entry)) bits ⌝ }
 {
     let mut word = 0;
     let mut m = bits;

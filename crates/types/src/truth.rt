@@ -1,16 +1,15 @@
 // Truth at a type.
+use crate::profile::Profile;
 use records::chain::mark_chain;
 use records::fields::Record;
 use records::fields::read_at;
 use records::kinds::is_atom;
 ghost use mathlib.Core.Path.{_≡_};
 ghost use Prim.Native.Nat.{ℕ, _≤_, _<_};
-ghost use mathlib.Core.Bool.{false};
-ghost use lib.ListN.{getD};
-ghost use Rattle.records.specs.Format.{count};
+ghost use lib.ListN.{length, getD};
 ghost use Rattle.records.specs.Check.{IsAccepted};
-ghost use Rattle.types.specs.Types.{truth};
-ghost use Rattle.types.specs.Rules.{select, Decoded, holding};
+ghost use Rattle.types.specs.Compare.{atomLimit};
+ghost use Rattle.types.specs.Rules.{select, Decoded, holding, AtomsListed, AtomsSet, Truths};
 ghost use Rattle.types.specs.Words.{Stating};
 ghost use Rattle.records.specs.Format.{recordLimit};
 ghost use Rattle.records.specs.Atoms.{atoms, digit};
@@ -22,64 +21,103 @@ pub fn digit(b: bool) -> u16
     if b { 1 } else { 0 }
 }
 
-// The truth that a rule gives, from the truths of A and B and the atom's bit.
-fn apply(rule: u8, x: bool, y: bool, z: bool) -> bool
-    ensures { λ r. ⌜ r ≡ select rule x y z ⌝ }
+// The truth that a rule gives, from the truths of its operands.
+fn apply(rule: u16, x: bool, y: bool) -> bool
+    ensures { λ r. ⌜ r ≡ select rule x y ⌝ }
 {
-    let index = digit(x) + 2 * digit(y) + 4 * digit(z);
-    (rule as u16 >> index) % 2 == 1
+    let index = digit(x) + 2 * digit(y);
+    (rule >> index) % 2 == 1
 }
 
-// Each record's truth at type t, filled in record order. An atom's first number is the place of its bit; the bit of another
-// record does not matter, so that no record waits for the one before.
-pub fn truths(
-    v: &[u8],
-    rules: &[u8; Record::LIMIT],
-    firsts: &[u16; Record::LIMIT],
-    seconds: &[u16; Record::LIMIT],
-    t: usize,
-) -> [bool; Record::LIMIT]
+// The atoms' places, in record order.
+pub fn list_atoms(v: &[u8]) -> [u16; Profile::ATOMS]
     requires { ⌜ IsAccepted (now v) ⌝ }
-    requires { ⌜ Decoded (now v) (now rules) (now firsts) (now seconds) ⌝ }
-    requires { ⌜ atoms (now v) ≤ 16 ⌝ }
-    ensures { λ r. ⌜ ((i : ℕ) → i < count (now (v .entry)) → getD r i false ≡ truth (now (v .entry)) t i) ⌝ }
+    requires { ⌜ atoms (now v) ≤ atomLimit ⌝ }
+    ensures { λ r. ⌜ AtomsListed (now (v .entry)) r ⌝ }
 {
     let records = v.len() / Record::SIZE;
-    let mut done = [false; Record::LIMIT];
-    let mut i = 0;
-    while i < records {
-        let first = firsts[i] as usize;
-        let second = seconds[i] as usize;
-        let bit = (t >> (first % 16)) % 2 == 1;
-        done[i] = apply(rules[i], done[first], done[second], bit);
-        i += 1;
-    }
-    done
-}
-
-// The chained statements, in record order.
-pub struct Statements {
-    pub found: usize,
-    pub places: [u16; Record::LIMIT],
-}
-
-pub fn list_statements(v: &[u8]) -> Statements
-    requires { ⌜ IsAccepted (now v) ⌝ }
-    ensures { λ r. ⌜ Stating (now (v .entry)) (r .places) (r .found) ⌝ }
-{
-    let records = v.len() / Record::SIZE;
-    let marks = mark_chain(v);
-    let mut places = [0; Record::LIMIT];
+    let mut places = [0; Profile::ATOMS];
     let mut found = 0;
     let mut i = 0;
     while i < records {
-        if marks[i] {
+        if is_atom(read_at(v, i).kind) {
             places[found] = i as u16;
             found += 1;
         }
         i += 1;
     }
-    Statements { found, places }
+    places
+}
+
+// Sets each atom's truth at type t: that of atom j is bit j.
+fn set_atoms(
+    v: &[u8],
+    k: usize,
+    places: &[u16; Profile::ATOMS],
+    t: usize,
+    done: &mut [bool; Record::LIMIT],
+)
+    requires { ⌜ IsAccepted (now v) ⌝ }
+    requires { ⌜ atoms (now v) ≤ atomLimit ⌝ }
+    requires { ⌜ k ≡ atoms (now v) ⌝ }
+    requires { ⌜ AtomsListed (now v) (now places) ⌝ }
+    requires { ⌜ length (now done) ≡ recordLimit ⌝ }
+    ensures { λ _. ⌜ AtomsSet (now (v .entry)) t (now (done .exit)) ⌝ }
+{
+    let mut j = 0;
+    while j < k {
+        let at = places[j] as usize;
+        done[at] = (t >> j) % 2 == 1;
+        j += 1;
+    }
+}
+
+// Each record's truth at type t, filled in record order; the atoms' are set first.
+pub fn truths(
+    v: &[u8],
+    code: &[u16; Profile::CODE],
+    k: usize,
+    places: &[u16; Profile::ATOMS],
+    t: usize,
+    done: &mut [bool; Record::LIMIT],
+)
+    requires { ⌜ IsAccepted (now v) ⌝ }
+    requires { ⌜ atoms (now v) ≤ atomLimit ⌝ }
+    requires { ⌜ k ≡ atoms (now v) ⌝ }
+    requires { ⌜ Decoded (now v) (now code) ⌝ }
+    requires { ⌜ AtomsListed (now v) (now places) ⌝ }
+    requires { ⌜ length (now done) ≡ recordLimit ⌝ }
+    ensures { λ _. ⌜ Truths (now (v .entry)) t (now (done .exit)) ⌝ }
+{
+    set_atoms(v, k, places, t, done);
+    let records = v.len() / Record::SIZE;
+    let mut i = 0;
+    while i < records {
+        let first = code[Record::LIMIT + i] as usize;
+        let second = code[2 * Record::LIMIT + i] as usize;
+        done[i] = apply(code[i], done[first], done[second]);
+        i += 1;
+    }
+}
+
+// Lists the chained statements in record order; how many there are.
+pub fn list_statements(v: &[u8], statements: &mut [u16; Record::LIMIT]) -> usize
+    requires { ⌜ IsAccepted (now v) ⌝ }
+    requires { ⌜ length (now statements) ≡ recordLimit ⌝ }
+    ensures { λ r. ⌜ Stating (now (v .entry)) (now (statements .exit)) r ⌝ }
+{
+    let records = v.len() / Record::SIZE;
+    let marks = mark_chain(v);
+    let mut found = 0;
+    let mut i = 0;
+    while i < records {
+        if marks[i] {
+            statements[found] = i as u16;
+            found += 1;
+        }
+        i += 1;
+    }
+    found
 }
 
 // Whether every listed statement holds.

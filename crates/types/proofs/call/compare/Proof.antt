@@ -1,16 +1,22 @@
 -- `types::call::compare` meets its contract. Each check that passed hands on to the next; one that refused leaves the
 -- lent bytes as they were.
 -- Assumes nothing.
-use Prim.Native.Nat.{ℕ, _-_}
-use mathlib.Core.Path.{ap, _∙_}
+use Prim.Native.Nat.{_-_}
 use borrow.Author.Needs.{needs}
 use denote.Ref.{now}
-use Rattle.records.proofs.Bounds.{vocabulary-count}
-use Rattle.records.specs.Outcome.{accepted}
-use Rattle.types.proofs.Outcomes.{accepted-vocabulary-at, query-passed, decided-call}
-use Rattle.types.proofs.Outcomes.{refused-vocabulary, refused-query}
+use Rattle.types.proofs.Outcomes.{refused-vocabulary, refused-query, query-passed, query-comparable, decided-call}
 use Rattle.types.proofs.call.compare.Statement.{statement}
 use Rattle.types.proofs.call.compare.Tie as tie
+
+-- the places of the checks, backwards
+abbrev start : tie.After-check-vocabulary → tie.Start
+start c = c .before .before .before
+
+abbrev told : tie.After-check-query → tie.After-enum-told
+told c = c .before .before
+
+abbrev asked : tie.After-enum-told3 → tie.After-check-query
+asked c = c .before .before
 
 check-vocabulary-requires : tie.Need-check-vocabulary-requires
 check-vocabulary-requires c κs = search needs
@@ -26,9 +32,10 @@ compare-after-count-requires c κs = search needs
 
 returns : tie.Need-returns
 returns c =
-    let a = c .before .before .before .before .before .before .args in refused-vocabulary (now (a .v)) (a .a) (a .b)
-    (now (a .lent)) (c .compare-after-count .result) _ _ _ _ (c .before .before .before .check-vocabulary .ensures)
-    (c .before .enum-told2 .given .1) (c .compare-after-count .ensures)
+    let first = c .before .before .before in
+    let a = start first .args in
+    refused-vocabulary (now (a .v)) (a .a) (a .b) (now (a .lent)) (c .compare-after-count .result) _ _ _ _
+    (first .check-vocabulary .ensures) (c .before .enum-told2 .given .1) (c .compare-after-count .ensures)
 
 count-atoms-requires : tie.Need-count-atoms-requires
 count-atoms-requires c κs = search needs
@@ -47,47 +54,23 @@ compare-after-requires c κs = search needs
 
 returns-2 : tie.Need-returns-2
 returns-2 c =
-    let a = c .before .before .before .before .before .before .before .before .before .before .args in refused-query
-    (now (a .v)) (a .a) (a .b) (now (a .lent)) _ _
-    (c .before .before .before .before .before .before .before .check-vocabulary .ensures)
-    (c .before .before .before .before .before .enum-told .given .1) (c .compare-after .result) _ _ _ _
-    (c .before .before .before .check-query .ensures) (c .before .enum-told4 .given .1) (c .compare-after .ensures)
+    let query = c .before .before .before in
+    let first = told query .before .before in
+    let a = start first .args in
+    refused-query (now (a .v)) (a .a) (a .b) (now (a .lent)) _ _ (first .check-vocabulary .ensures)
+    (told query .enum-told .given .1) (c .compare-after .result) _ _ _ _ (query .check-query .ensures)
+    (c .before .enum-told4 .given .1) (c .compare-after .ensures)
 
 decide-requires : tie.Need-decide-requires
 decide-requires c κs =
-    let a = c .before .before .before .before .before .before .before .before .before .before .args in (
-      let e = accepted-vocabulary-at (now (a .v)) (a .a) (a .b) (now (a .lent)) _ _
-          (c .before .before .before .before .before .before .before .check-vocabulary .ensures)
-          (c .before .before .before .before .before .enum-told .given .1) in e ∙ ap (λ (n : ℕ). accepted n)
-          (vocabulary-count (now (a .v)) _ e),
-      (
-        (query-passed (now (a .v)) (a .a) (a .b) (now (a .lent)) _ _
-            (c .before .before .before .before .before .before .before .check-vocabulary .ensures)
-            (c .before .before .before .before .before .enum-told .given .1) _ (c .before .before .before .check-query .ensures)
-            (c .before .enum-told3 .given .1)) .few,
-        (
-          c .before .before .before .before .count-atoms .ensures,
-          (
-            (query-passed (now (a .v)) (a .a) (a .b) (now (a .lent)) _ _
-                (c .before .before .before .before .before .before .before .check-vocabulary .ensures)
-                (c .before .before .before .before .before .enum-told .given .1) _
-                (c .before .before .before .check-query .ensures)
-                (c .before .enum-told3 .given .1)) .first .within,
-            (
-              (query-passed (now (a .v)) (a .a) (a .b) (now (a .lent)) _ _
-                  (c .before .before .before .before .before .before .before .check-vocabulary .ensures)
-                  (c .before .before .before .before .before .enum-told .given .1) _
-                  (c .before .before .before .check-query .ensures)
-                  (c .before .enum-told3 .given .1)) .second .within,
-              (query-passed (now (a .v)) (a .a) (a .b) (now (a .lent)) _ _
-                  (c .before .before .before .before .before .before .before .check-vocabulary .ensures)
-                  (c .before .before .before .before .before .enum-told .given .1) _
-                  (c .before .before .before .check-query .ensures)
-                  (c .before .enum-told3 .given .1)) .room,
-            ),
-          ),
-        ),
-      ),
+    let query = asked (c .before) in
+    let first = told query .before .before in
+    let a = start first .args in (
+      query-comparable (now (a .v)) (a .a) (a .b) (now (a .lent)) _ _ (first .check-vocabulary .ensures)
+          (told query .enum-told .given .1) _ (query .check-query .ensures) (c .before .enum-told3 .given .1) _
+          (query .before .count-atoms .ensures),
+      query-passed (now (a .v)) (a .a) (a .b) (now (a .lent)) _ _ (first .check-vocabulary .ensures)
+          (told query .enum-told .given .1) _ (query .check-query .ensures) (c .before .enum-told3 .given .1) .room,
     )
 
 same-length : tie.Need-same-length
@@ -95,13 +78,14 @@ same-length c = search needs
 
 returns-3 : tie.Need-returns-3
 returns-3 c =
-    let a = c .before .before .before .before .before .before .before .before .before .before .before .before .before .args
-    in decided-call (now (a .v)) (a .a) (a .b) (now (a .lent)) _ _
-    (c .before .before .before .before .before .before .before .before .before .before .check-vocabulary .ensures)
-    (c .before .before .before .before .before .before .before .before .enum-told .given .1) _
-    (c .before .before .before .before .before .before .check-query .ensures)
-    (c .before .before .before .before .enum-told3 .given .1) (c .before .before .decide .result) _
-    (c .before .before .decide .ensures .0) (c .before .before .decide .ensures .1)
+    let decided = c .before .before in
+    let passed = decided .before .before in
+    let query = asked passed in
+    let first = told query .before .before in
+    let a = start first .args in
+    decided-call (now (a .v)) (a .a) (a .b) (now (a .lent)) _ _ (first .check-vocabulary .ensures)
+    (told query .enum-told .given .1) _ (query .check-query .ensures) (passed .enum-told3 .given .1) (decided .decide .result) _
+    (decided .decide .ensures .0) (decided .decide .ensures .1)
 
 pub compare-spec : {M : Type 1} → statement M
 compare-spec =

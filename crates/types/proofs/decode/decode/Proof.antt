@@ -1,54 +1,98 @@
--- `types::decode::decode` meets its contract. The loop's invariant: the three tables are right below `i`, before which there are `found` atoms.
+-- `types::decode::decode` meets its contract. The loop's invariant: the three parts of the table are right below `i`.
 -- Assumes nothing.
-use Prim.Native.Nat.{ℕ, _+_, _-_, _≤_, _<_}
+use Prim.Native.Nat.{ℕ, _+_, _-_, _*_, _≤_, _<_}
 use native.Mathlib.Omega.{arith}
 use mathlib.Core.List.{List}
-use mathlib.Core.Path.{_≡_, refl, sym, ap, _∙_}
+use mathlib.Core.Path.{_≡_, ap, _∙_}
+use lib.ListN.{length, set, length-set}
 use borrow.Author.Needs.{needs}
 use denote.Ref.{now}
 use Rattle.records.proofs.Accepted.{accepted-vocabulary}
-use Rattle.records.specs.Format.{count, recordAt}
+use Rattle.records.specs.Format.{count, recordAt, recordLimit}
 use Rattle.records.specs.declared.fields.Record.{Record}
-use Rattle.records.specs.Kinds.{isAtom}
-use Rattle.types.specs.Rules.{ruleOf, firstOf, secondOf}
-use Rattle.types.proofs.Turns.{Filled, fill-start, fill-turn}
+use Rattle.types.specs.Rules.{ruleOf, firstOf, secondOf, codeLength}
+use Rattle.types.proofs.Turns.{RightAt, right-turn, right-kept}
 use Rattle.types.proofs.decode.decode.Statement.{statement}
 use Rattle.types.proofs.decode.decode.Tie as tie
-use Rattle.records.specs.Format.{recordLimit}
-use Rattle.records.specs.Atoms.{rank}
-use Rattle.records.proofs.Ranks.{digit-small, rank-bound, rank-turn}
 
-record Decoding (v rules firsts seconds : List ℕ) (found i : ℕ) : Type 0 where
+-- where each part of a record's code stands, and what it is
+abbrev second-place : ℕ → ℕ
+second-place i = recordLimit + i
+
+abbrev third-place : ℕ → ℕ
+third-place i = 2 * recordLimit + i
+
+abbrev rule-of : List ℕ → ℕ → ℕ
+rule-of v i = ruleOf (recordAt v i .kind)
+
+abbrev first-of : List ℕ → ℕ → ℕ
+first-of v i = firstOf (recordAt v i .kind) (recordAt v i .a) i
+
+abbrev second-of : List ℕ → ℕ → ℕ
+second-of v i = secondOf (recordAt v i .kind) (recordAt v i .b)
+
+record Decoding (v code : List ℕ) (i : ℕ) : Type 0 where
   within : i ≤ count v
-  found-at : found ≡ rank v i
-  rules-filled : Filled 0 recordLimit rules (λ j. ruleOf (recordAt v j .kind)) i
-  firsts-filled : Filled 0 recordLimit firsts (λ j. firstOf (recordAt v j .kind) (recordAt v j .a) (rank v j)) i
-  seconds-filled : Filled 0 recordLimit seconds (λ j. secondOf (recordAt v j .kind) (recordAt v j .b)) i
+  size : length code ≡ codeLength
+  rules : RightAt 0 code (λ j. j) (rule-of v) i
+  firsts : RightAt 0 code second-place (first-of v) i
+  seconds : RightAt 0 code third-place (second-of v) i
+
+module _ (v code : List ℕ) (i : ℕ) (d : Decoding v code i) (h : i < recordLimit) (k : i < count v) (x y z : ℕ) where
+  abbrev with-rule : List ℕ
+  with-rule = set code i x
+
+  abbrev with-first : List ℕ
+  with-first = set with-rule (second-place i) y
+
+  next : x ≡ rule-of v i → y ≡ first-of v i → z ≡ second-of v i → Decoding v (set with-first (third-place i) z) (i + 1)
+  next p q r =
+      record {
+        within = omega arith;
+        size = length-set with-first (third-place i) z ∙ long;
+        rules =
+            right-kept 0 with-first (λ j. j) (rule-of v) (i + 1)
+            (right-kept 0 with-rule (λ j. j) (rule-of v) (i + 1)
+            (right-turn 0 code (λ j. j) (rule-of v) i (d .rules) x (omega (arith, d .size)) (λ j l e. omega arith) p)
+            (second-place i) y (λ j l e. omega arith)) (third-place i) z (λ j l e. omega arith);
+        firsts =
+            right-kept 0 with-first second-place (first-of v) (i + 1)
+            (right-turn 0 with-rule second-place (first-of v) i
+            (right-kept 0 code second-place (first-of v) i (d .firsts) i x (λ j l e. omega arith))
+            y (omega (arith, long-rule)) (λ j l e. omega arith) q) (third-place i) z (λ j l e. omega arith);
+        seconds =
+            right-turn 0 with-first third-place (second-of v) i
+            (right-kept 0 with-rule third-place (second-of v) i
+            (right-kept 0 code third-place (second-of v) i (d .seconds) i x (λ j l e. omega arith))
+            (second-place i) y (λ j l e. omega arith)) z (omega (arith, long)) (λ j l e. omega arith) r;
+      }
+    where
+      long-rule : length with-rule ≡ codeLength
+      long-rule = length-set code i x ∙ d .size
+
+      long : length with-first ≡ codeLength
+      long = length-set with-rule (second-place i) y ∙ long-rule
 
 abbrev Inv-loop : tie.InvT-loop
-Inv-loop v records rules₀ firsts₀ seconds₀ found₀ i₀ rules firsts seconds found i = Decoding v rules firsts seconds found i
+Inv-loop v code₀ records i₀ code i = Decoding v code i
 
 abbrev μ-loop : tie.MeasureT-loop
-μ-loop v records rules₀ firsts₀ seconds₀ found₀ i₀ rules firsts seconds found i = count v - i
+μ-loop v code₀ records i₀ code i = count v - i
 
--- the record is in the tables
+-- the record is in the table
 inside : (c : tie.In-loop Inv-loop μ-loop) → c .before .loop .i < recordLimit
 inside c =
-    omega (
-      arith,
-      c .before .loop .inv .within,
-      accepted-vocabulary (now (c .before .before .before .args .v)) _ (c .before .before .before .pre) .sized .most,
-    )
+    let start = c .before .before .before in
+    omega (arith, c .before .loop .inv .within, accepted-vocabulary (now (start .args .v)) _ (start .pre .0) .sized .most)
 
 loop-holds : tie.Need-loop-holds Inv-loop μ-loop
-unfolding rank
 loop-holds c =
     record {
       within = omega arith;
-      found-at = refl;
-      rules-filled = fill-start _ _ _ _ refl;
-      firsts-filled = fill-start _ _ _ _ refl;
-      seconds-filled = fill-start _ _ _ _ refl;
+      size = c .before .pre .1;
+      rules = λ j k. absurd (omega arith);
+      firsts = λ j k. absurd (omega arith);
+      seconds = λ j k. absurd (omega arith);
     }
 
 read-at-requires : tie.Need-read-at-requires Inv-loop μ-loop
@@ -57,74 +101,65 @@ read-at-requires c κs = omega arith
 rule-requires : tie.Need-rule-requires Inv-loop μ-loop
 rule-requires c κs = search needs
 
-array-write-rules : tie.Need-array-write-rules Inv-loop μ-loop
-array-write-rules c = inside (c .before .before)
+mul-code : tie.Need-mul-code Inv-loop μ-loop
+mul-code c = omega (arith, inside (c .before .before))
+
+element-write-code : tie.Need-element-write-code Inv-loop μ-loop
+element-write-code c = omega (arith, inside (c .before .before))
+
+cast-first-operand : tie.Need-cast-first-operand Inv-loop μ-loop
+cast-first-operand c = omega (arith, inside (c .before .before))
 
 first-operand-requires : tie.Need-first-operand-requires Inv-loop μ-loop
 first-operand-requires c κs = search needs
 
-mul-firsts : tie.Need-mul-firsts Inv-loop μ-loop
-mul-firsts c = omega (arith, inside (c .before .before .before))
+add-code : tie.Need-add-code Inv-loop μ-loop
+add-code c = omega (arith, inside (c .before .before .before))
 
-array-write-firsts : tie.Need-array-write-firsts Inv-loop μ-loop
-array-write-firsts c = inside (c .before .before .before)
+mul-code-2 : tie.Need-mul-code-2 Inv-loop μ-loop
+mul-code-2 c = omega (arith, inside (c .before .before .before))
+
+element-write-code-2 : tie.Need-element-write-code-2 Inv-loop μ-loop
+element-write-code-2 c = omega (arith, inside (c .before .before .before))
 
 second-operand-requires : tie.Need-second-operand-requires Inv-loop μ-loop
 second-operand-requires c κs = search needs
 
-mul-seconds : tie.Need-mul-seconds Inv-loop μ-loop
-mul-seconds c = omega (arith, inside (c .before .before .before .before))
+mul-code-3 : tie.Need-mul-code-3 Inv-loop μ-loop
+mul-code-3 c = omega arith
 
-array-write-seconds : tie.Need-array-write-seconds Inv-loop μ-loop
-array-write-seconds c = inside (c .before .before .before .before)
+add-code-2 : tie.Need-add-code-2 Inv-loop μ-loop
+add-code-2 c = omega (arith, inside (c .before .before .before .before))
 
-is-atom-requires : tie.Need-is-atom-requires Inv-loop μ-loop
-is-atom-requires c κs = search needs
+mul-code-4 : tie.Need-mul-code-4 Inv-loop μ-loop
+mul-code-4 c = omega (arith, inside (c .before .before .before .before))
 
-digit-requires : tie.Need-digit-requires Inv-loop μ-loop
-digit-requires c κs = search needs
-
-add-found : tie.Need-add-found Inv-loop μ-loop
-add-found c =
-    let w = c .before .before .before .before .before .before in
-    let l = w .before .loop in
-    let v = now (w .before .before .before .args .v) in
-    omega (arith, inside w, l .inv .found-at, rank-bound v (l .i), digit-small (c .before .is-atom .result), c .digit .ensures)
+element-write-code-3 : tie.Need-element-write-code-3 Inv-loop μ-loop
+element-write-code-3 c = omega (arith, inside (c .before .before .before .before))
 
 add-i : tie.Need-add-i Inv-loop μ-loop
-add-i c = omega (arith, inside (c .before .before .before .before .before .before))
+add-i c = omega (arith, inside (c .before .before .before .before))
 
 loop-less : tie.Need-loop-less Inv-loop μ-loop
 loop-less c = omega arith
 
 loop-again : tie.Need-loop-again Inv-loop μ-loop
 loop-again c =
-    let r = c .before .before .before .before .before in
-    let l = r .before .before .loop in
-    let b = r .before .before .before .before in
-    let v = now (b .args .v) in
-    let w = l .inv in
-    let at : l .i < recordLimit = omega (arith, w .within, accepted-vocabulary v _ (b .pre) .sized .most) in
-    let read = r .read-at .ensures in record {
-      within = omega arith;
-      found-at = ap (λ (n : ℕ). l .found + n) (c .digit .ensures) ∙ rank-turn v (l .i) (l .found) _ (w .found-at)
-          (sym (c .before .is-atom .ensures ∙ ap (λ (r : Record). isAtom (r .kind)) read));
-      rules-filled = fill-turn _ _ _ _ _ _ at (w .rules-filled)
-          (c .before .before .before .before .rule .ensures ∙ ap (λ (r : Record). ruleOf (r .kind)) read);
-      firsts-filled = fill-turn _ _ _ _ _ _ at (w .firsts-filled)
-          (c .before .before .before .first-operand .ensures ∙ ap (λ (r : Record). firstOf (r .kind) (r .a) (l .found)) read
-          ∙ ap (firstOf (recordAt v (l .i) .kind) (recordAt v (l .i) .a)) (w .found-at));
-      seconds-filled = fill-turn _ _ _ _ _ _ at (w .seconds-filled)
-          (c .before .before .second-operand .ensures ∙ ap (λ (r : Record). secondOf (r .kind) (r .b)) read);
-    }
+    let in-loop = c .before .before .before .before in
+    let l = in-loop .before .loop in
+    let read = c .before .before .before .read-at .ensures in
+    next (now (in-loop .before .before .before .args .v)) (l .code) (l .i) (l .inv) (inside in-loop) (in-loop .loop-test .taken) _ _ _
+    (c .before .before .rule .ensures ∙ ap (λ (r : Record). ruleOf (r .kind)) read)
+    (c .before .first-operand .ensures ∙ ap (λ (r : Record). firstOf (r .kind) (r .a) (l .i)) read)
+    (c .second-operand .ensures ∙ ap (λ (r : Record). secondOf (r .kind) (r .b)) read)
 
 returns : tie.Need-returns Inv-loop μ-loop
 returns c =
     let w = c .before .loop .inv in
     let e : c .before .loop .i ≡ count (now (c .before .before .before .args .v)) = omega (arith, w .within) in record {
-      rule-at = λ j h. w .rules-filled .right j (omega arith);
-      first-at = λ j h. w .firsts-filled .right j (omega arith);
-      second-at = λ j h. w .seconds-filled .right j (omega arith);
+      rule-at = λ j h. w .rules j (omega arith);
+      first-at = λ j h. w .firsts j (omega arith);
+      second-at = λ j h. w .seconds j (omega arith);
     }
 
 pub decode-spec : {M : Type 1} → statement M
@@ -136,16 +171,18 @@ decode-spec =
     loop-holds
     read-at-requires
     rule-requires
-    array-write-rules
+    mul-code
+    element-write-code
+    cast-first-operand
     first-operand-requires
-    mul-firsts
-    array-write-firsts
+    add-code
+    mul-code-2
+    element-write-code-2
     second-operand-requires
-    mul-seconds
-    array-write-seconds
-    is-atom-requires
-    digit-requires
-    add-found
+    mul-code-3
+    add-code-2
+    mul-code-4
+    element-write-code-3
     add-i
     loop-less
     loop-again

@@ -1,72 +1,43 @@
--- `types::form::write_form` meets its contract. The loop's invariant: the first `n` bytes of the form stand over what was lent.
+-- `types::form::write_form` meets its contract. The bytes past the types, which are cleared, have no bit.
 -- Assumes nothing.
-use Prim.Native.Nat.{ℕ, _-_, _≤_}
+use Prim.Native.Nat.{ℕ, _+_, _-_, _/_}
 use native.Mathlib.Omega.{arith}
-use mathlib.Core.Path.{_≡_, _∙_, ap}
-use lib.ListN.{length}
+use mathlib.Core.List.{List}
+use mathlib.Core.Path.{_∙_, ap}
 use denote.Ref.{now}
+use borrow.Author.Needs.{needs}
+use Rattle.types.specs.Compare.{formBytes}
 use Rattle.types.specs.Form.{byteOf}
-use Rattle.types.proofs.Counted.{tableOver, over-start, over-turn, over-length}
+use Rattle.types.specs.Words.{cleared}
+use Rattle.types.proofs.Counted.{tableOver, byte-none, cleared-over}
 use Rattle.types.proofs.form.write_form.Statement.{statement}
 use Rattle.types.proofs.form.write_form.Tie as tie
-use Rattle.types.specs.Compare.{formBytes}
 
-abbrev Inv-loop : tie.InvT-loop
-Inv-loop alive size lent₀ n₀ lent n = (n ≤ formBytes) × (lent ≡ tableOver (byteOf alive) n lent₀)
+add-end : tie.Need-add-end
+add-end c = omega arith
 
-abbrev μ-loop : tie.MeasureT-loop
-μ-loop alive size lent₀ n₀ lent n = formBytes - n
+write-types-requires : tie.Need-write-types-requires
+write-types-requires c κs = (omega arith, omega arith)
 
-loop-holds : tie.Need-loop-holds Inv-loop μ-loop
-loop-holds c = (omega arith, over-start (byteOf (now (c .before .args .alive))) (now (c .before .args .lent)))
+write-zeros-requires : tie.Need-write-zeros-requires
+write-zeros-requires c κs = search needs
 
-byte-below-requires : tie.Need-byte-below-requires Inv-loop μ-loop
-byte-below-requires c κs = (omega arith, c .before .before .before .pre .0)
+same-length : tie.Need-same-length
+same-length c = search needs
 
--- as long as what was lent
-long : (c : tie.At-loop Inv-loop μ-loop) → length (c .loop .lent) ≡ length (now (c .before .before .args .lent))
-long c =
-    let a = c .before .before .args in
-    over-length (byteOf (now (a .alive))) (c .loop .n) (now (a .lent)) (c .loop .lent) (omega arith) (c .loop .inv .1)
-
-slice-write-lent : tie.Need-slice-write-lent Inv-loop μ-loop
-slice-write-lent c = omega (arith, long (c .before .before))
-
-add-n : tie.Need-add-n Inv-loop μ-loop
-add-n c = omega arith
-
-loop-less : tie.Need-loop-less Inv-loop μ-loop
-loop-less c = omega arith
-
-loop-again : tie.Need-loop-again Inv-loop μ-loop
-loop-again c =
-    let w = c .before .before in
-    let a = w .before .before .args in (
-      omega arith,
-      over-turn (byteOf (now (a .alive))) (w .loop .n) (now (a .lent)) (w .loop .lent) (c .byte-below .result) (omega arith)
-          (w .loop .inv .1) (c .byte-below .ensures),
-    )
-
-same-length : tie.Need-same-length Inv-loop μ-loop
-same-length c = long (c .before)
-
-returns : tie.Need-returns Inv-loop μ-loop
+returns : tie.Need-returns
 returns c =
-    let a = c .before .before .before .args in
-    let e : c .before .loop .n ≡ formBytes = omega arith in
-    c .before .loop .inv .1 ∙ ap (λ (n : ℕ). tableOver (byteOf (now (a .alive))) n (now (a .lent))) e
+    let zeros = c .before .before in
+    let types = zeros .before .before .before .before in
+    let start = types .before .before .before in
+    let a = start .args in
+    let end = (a .size + 7) / 8 in
+    zeros .write-zeros .ensures
+    ∙ ap (λ (l : List ℕ). cleared l end (formBytes - end)) (types .write-types .ensures)
+    ∙ cleared-over (byteOf (now (a .alive))) (now (a .lent)) end (formBytes - end) (omega arith)
+    (λ n h. byte-none (now (a .alive)) n (λ t k. start .pre .1 .0 t (omega arith)))
+    ∙ ap (λ (n : ℕ). tableOver (byteOf (now (a .alive))) n (now (a .lent))) (omega arith)
 
 pub write-form-spec : {M : Type 1} → statement M
 write-form-spec =
-    tie.close
-    (tie.spec
-    Inv-loop
-    μ-loop
-    loop-holds
-    byte-below-requires
-    slice-write-lent
-    add-n
-    loop-less
-    loop-again
-    same-length
-    returns)
+    tie.close (tie.spec add-end write-types-requires write-zeros-requires same-length returns)

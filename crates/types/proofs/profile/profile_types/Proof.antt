@@ -6,7 +6,8 @@ use native.Mathlib.Decide.{decLt}
 use native.Mathlib.Omega.{arith}
 use mathlib.Core.Bool.{Bool, false}
 use mathlib.Core.List.{List}
-use mathlib.Core.Path.{_≡_, refl, sym, ap, _∙_, subst}
+use mathlib.Core.Path.{_≡_, sym, ap, _∙_, subst}
+use lib.ListN.{length}
 use denote.Ref.{now}
 use Rattle.types.specs.Below.{has, table}
 use Rattle.types.specs.Survivors.{fits, stage}
@@ -14,13 +15,16 @@ use Rattle.types.specs.Types.{types}
 use Rattle.types.specs.Words.{demand, offer, differ}
 use Rattle.types.specs.declared.profile.Profile.{Profile}
 use Rattle.types.proofs.Sets.{table-at, table-past}
-use Rattle.types.proofs.Turns.{Filled, fill-start, fill-turn, Ends, ends-turn, ends-empty, types-bound}
+use Rattle.types.proofs.Counted.{size-word}
+use Rattle.types.proofs.Turns.{Filled, fill-start, fill-turn, Ends, ends-turn, types-bound}
 use Rattle.types.proofs.profile.profile_types.Statement.{statement}
 use Rattle.types.proofs.profile.profile_types.Tie as tie
+use Rattle.records.specs.Format.{recordLimit}
 use Rattle.types.specs.Compare.{typeLimit}
 
-record Profiling (v : List ℕ) (a b : ℕ) (alive differs : List Bool) (demands offers : List ℕ) (t : ℕ) : Type 0 where
+record Profiling (v : List ℕ) (a b : ℕ) (done alive differs : List Bool) (demands offers : List ℕ) (t : ℕ) : Type 0 where
   within : t ≤ types v
+  done-size : length done ≡ recordLimit
   alive-filled : Filled false typeLimit alive (fits v) t
   ends : Ends alive t
   differs-filled : Filled false typeLimit differs (differ v a b) t
@@ -37,100 +41,99 @@ alive-at v alive f e t = at (decLt t (types v))
     at (no h) = e t (omega arith) ∙ sym (table-past (types v) (fits v) false t (omega arith))
 
 abbrev Inv-loop : tie.InvT-loop
-Inv-loop v rules firsts seconds statements found places fillers signs bits a b size alive₀ differs₀ demands₀ offers₀ t₀ alive
-    differs demands offers t =
-    Profiling v a b alive differs demands offers t
+Inv-loop v plan code statements done₀ alive₀ differs₀ demands₀ offers₀ size t₀ done alive differs demands offers t =
+    Profiling v (plan .a) (plan .b) done alive differs demands offers t
 
 abbrev μ-loop : tie.MeasureT-loop
-μ-loop v rules firsts seconds statements found places fillers signs bits a b size alive₀ differs₀ demands₀ offers₀ t₀ alive
-    differs demands offers t =
-    size - t
+μ-loop v plan code statements done₀ alive₀ differs₀ demands₀ offers₀ size t₀ done alive differs demands offers t = size - t
 
--- the type is in the tables
-inside : (c : tie.In-loop Inv-loop μ-loop) → c .before .loop .t < typeLimit
+shl-size : tie.Need-shl-size Inv-loop μ-loop
+shl-size c = let q = c .before .before .pre .0 .query in omega (arith, q .few, q .counts)
+
+-- the size is the number of types, and the type is in the tables
+inside : (c : tie.In-loop Inv-loop μ-loop) → c .before .loop .t < types (now (c .before .before .before .before .args .v))
 inside c =
-    let p = c .before .before .before .pre in
-    omega (arith, c .before .loop .inv .within, p .1 .1 .1 .1, types-bound (now (c .before .before .before .args .v)) (p .0 .few))
+    let start = c .before .before .before .before in
+    let q = start .pre .0 .query in
+    omega (arith, size-word (now (start .args .v)) (start .args .plan .k) (q .few) (q .counts))
+
+in-tables : (c : tie.In-loop Inv-loop μ-loop) → c .before .loop .t < typeLimit
+in-tables c =
+    let start = c .before .before .before .before in
+    omega (arith, inside c, types-bound (now (start .args .v)) (start .pre .0 .query .few))
 
 loop-holds : tie.Need-loop-holds Inv-loop μ-loop
 loop-holds c =
-    record {
+    let blank = c .before .before .pre .1 in record {
       within = omega arith;
-      alive-filled = fill-start _ _ _ _ refl;
-      ends = ends-empty typeLimit 0;
-      differs-filled =
-          fill-start _ _ _ _ refl;
-      demands-filled = fill-start _ _ _ _ refl;
-      offers-filled = fill-start _ _ _ _ refl;
+      done-size = blank .done-size;
+      alive-filled = fill-start _ _ _ _ (blank .vacant .alive-size);
+      ends = λ u h. blank .vacant .none u;
+      differs-filled = fill-start _ _ _ _ (blank .vacant .differs-size);
+      demands-filled = fill-start _ _ _ _ (blank .demands-size);
+      offers-filled = fill-start _ _ _ _ (blank .offers-size);
     }
 
 profile-of-requires : tie.Need-profile-of-requires Inv-loop μ-loop
-profile-of-requires c κs = let p = c .before .before .before .pre in (p .0, (p .1 .0, (p .1 .1 .0, p .1 .1 .1 .0)))
+profile-of-requires c κs =
+    let at = c .before .before in
+    (at .before .before .before .pre .0, at .loop .inv .done-size)
 
-array-write-alive : tie.Need-array-write-alive Inv-loop μ-loop
-array-write-alive c = inside (c .before)
+element-write-alive : tie.Need-element-write-alive Inv-loop μ-loop
+element-write-alive c = in-tables (c .before .before)
 
-array-write-differs : tie.Need-array-write-differs Inv-loop μ-loop
-array-write-differs c = inside (c .before)
+element-write-differs : tie.Need-element-write-differs Inv-loop μ-loop
+element-write-differs c = in-tables (c .before .before)
 
 mul-demands : tie.Need-mul-demands Inv-loop μ-loop
-mul-demands c = omega (arith, inside (c .before))
+mul-demands c = omega (arith, in-tables (c .before .before))
 
-array-write-demands : tie.Need-array-write-demands Inv-loop μ-loop
-array-write-demands c = inside (c .before)
+element-write-demands : tie.Need-element-write-demands Inv-loop μ-loop
+element-write-demands c = in-tables (c .before .before)
 
 mul-offers : tie.Need-mul-offers Inv-loop μ-loop
-mul-offers c = omega (arith, inside (c .before))
+mul-offers c = omega (arith, in-tables (c .before .before))
 
-array-write-offers : tie.Need-array-write-offers Inv-loop μ-loop
-array-write-offers c = inside (c .before)
+element-write-offers : tie.Need-element-write-offers Inv-loop μ-loop
+element-write-offers c = in-tables (c .before .before)
 
 add-t : tie.Need-add-t Inv-loop μ-loop
-add-t c = omega (arith, inside (c .before))
+add-t c = omega (arith, in-tables (c .before .before))
 
 loop-less : tie.Need-loop-less Inv-loop μ-loop
 loop-less c = omega arith
 
 loop-again : tie.Need-loop-again Inv-loop μ-loop
 loop-again c =
-    let l = c .before .before .loop in
-    let p = c .before .before .before .before .pre in
+    let in-loop = c .before .before in
+    let l = in-loop .before .loop in
     let w = l .inv in
-    let at : l .t < typeLimit = omega (
-      arith,
-      l .inv .within,
-      p .1 .1 .1 .1,
-      types-bound
-          (now (c .before .before .before .before .args .v)) (p .0 .few),
-    ) in record {
-      within = omega (arith, p .1 .1 .1 .1);
-      alive-filled = fill-turn _ _ _ _ _ _ at (w .alive-filled)
-          (ap (λ (p : Profile). p .fits) (c .profile-of .ensures));
-      ends = ends-turn (l .alive) (l .t)
-          (c .profile-of .result .fits) (w .ends);
-      differs-filled = fill-turn _ _ _ _ _ _ at (w .differs-filled)
-          (ap (λ (p : Profile). p .differs) (c .profile-of .ensures));
-      demands-filled = fill-turn _ _ _ _ _ _ at
-          (w .demands-filled) (ap (λ (p : Profile). p .demand) (c .profile-of .ensures));
-      offers-filled = fill-turn _ _ _ _ _ _
-          at (w .offers-filled) (ap (λ (p : Profile). p .offer) (c .profile-of .ensures));
+    let at = in-tables in-loop in
+    let e = c .profile-of .ensures .0 in record {
+      within = omega (arith, inside in-loop);
+      done-size = c .profile-of .ensures .1;
+      alive-filled = fill-turn _ _ _ _ _ _ at (w .alive-filled) (ap (λ (p : Profile). p .fits) e);
+      ends = ends-turn (l .alive) (l .t) (c .profile-of .result .fits) (w .ends);
+      differs-filled = fill-turn _ _ _ _ _ _ at (w .differs-filled) (ap (λ (p : Profile). p .differs) e);
+      demands-filled = fill-turn _ _ _ _ _ _ at (w .demands-filled) (ap (λ (p : Profile). p .demand) e);
+      offers-filled = fill-turn _ _ _ _ _ _ at (w .offers-filled) (ap (λ (p : Profile). p .offer) e);
     }
 
 returns : tie.Need-returns Inv-loop μ-loop
 returns c =
-    let w = c .before .loop .inv in
-    let v = now (c .before .before .before .args .v) in
-    let e : c .before .loop .t ≡ types v = omega (arith, w .within, c .before .before .before .pre .1 .1 .1 .1) in (
-      alive-at v (c .before .loop .alive) (subst (Filled false typeLimit (c .before .loop .alive) (fits v)) e
-          (w .alive-filled)) (subst (Ends (c .before .loop .alive)) e (w .ends)),
-      (
-        λ t h. w .differs-filled .right t (omega arith),
-        (
-          λ t h. w .demands-filled .right t (omega arith),
-          (λ t h. w .offers-filled .right t (omega arith), w .alive-filled .size),
-        ),
-      ),
-    )
+    let l = c .before .loop in
+    let w = l .inv in
+    let start = c .before .before .before .before in
+    let v = now (start .args .v) in
+    let q = start .pre .0 .query in
+    let e : l .t ≡ types v = omega (arith, w .within, size-word v (start .args .plan .k) (q .few) (q .counts)) in record {
+      alive-at = alive-at v (l .alive) (subst (Filled false typeLimit (l .alive) (fits v)) e (w .alive-filled))
+          (subst (Ends (l .alive)) e (w .ends));
+      alive-size = w .alive-filled .size;
+      differs-at = λ t h. w .differs-filled .right t (omega arith);
+      demands-at = λ t h. w .demands-filled .right t (omega arith);
+      offers-at = λ t h. w .offers-filled .right t (omega arith);
+    }
 
 pub profile-types-spec : {M : Type 1} → statement M
 profile-types-spec =
@@ -138,14 +141,15 @@ profile-types-spec =
     (tie.spec
     Inv-loop
     μ-loop
+    shl-size
     loop-holds
     profile-of-requires
-    array-write-alive
-    array-write-differs
+    element-write-alive
+    element-write-differs
     mul-demands
-    array-write-demands
+    element-write-demands
     mul-offers
-    array-write-offers
+    element-write-offers
     add-t
     loop-less
     loop-again

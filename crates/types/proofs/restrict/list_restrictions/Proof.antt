@@ -1,76 +1,85 @@
--- `types::restrict::list_restrictions` meets its contract. The loop's invariant: the restrictions below `i` are listed.
--- There is room, since each is an atom.
+-- `types::restrict::list_restrictions` meets its contract. The loop's invariant: the restrictions below `i` are listed,
+-- with what is asked of each. There is room, since each is an atom.
 -- Assumes nothing.
 use Prim.Native.Nat.{ℕ, suc, _+_, _-_, _≤_, _<_}
 use native.Mathlib.Numerals.{add-one}
 use native.Mathlib.Omega.{arith}
-use mathlib.Core.Bool.{true, false}
+use mathlib.Core.Bool.{Bool, true, false}
 use mathlib.Core.List.{List}
 use mathlib.Core.Logic.{⊎-elim}
 use mathlib.Core.Path.{_≡_, refl, sym, ap, _∙_}
+use lib.Dec.{eqb}
 use lib.ListN.{set}
 use borrow.Author.Needs.{needs}
 use denote.Ref.{now}
 use Rattle.records.proofs.Accepted.{accepted-vocabulary}
-use Rattle.records.specs.Format.{count}
-use Rattle.records.specs.declared.fields.Record.{Record}
-use Rattle.records.specs.Atoms.{atoms, digit}
 use Rattle.records.proofs.Ranks.{rank-mono}
-use Rattle.types.specs.Words.{isRestriction, width}
+use Rattle.records.specs.Atoms.{atoms, digit}
+use Rattle.records.specs.Format.{count, recordAt, recordLimit}
+use Rattle.records.specs.declared.fields.Record.{Record}
+use Rattle.types.specs.Compare.{atomLimit}
+use Rattle.records.specs.Kinds.{isRestriction}
+use Rattle.types.specs.Words.{width, negated}
 use Rattle.types.proofs.Restrictions.{entries, entry, restricts, restrictions-none}
 use Rattle.types.proofs.Restrictions.{restrictions-length, restrictions-kept, restrictions-last, restrictions-few}
 use Rattle.types.proofs.Turns.{Filled, fill-start, fill-turn, fill-same}
 use Rattle.types.proofs.restrict.list_restrictions.Statement.{statement}
 use Rattle.types.proofs.restrict.list_restrictions.Tie as tie
-use Rattle.types.specs.Compare.{atomLimit}
 
-record Listing (v places : List ℕ) (found i : ℕ) : Type 0 where
+-- A table of what is asked of each restriction below i, of which there are n.
+abbrev Has : {A : Type 0} → A → List ℕ → (ℕ → A) → ℕ → ℕ → List A → Type 0
+Has d v asked i n l = Filled d atomLimit l (λ m. asked (entry v i m)) n
+
+record Listing (v places fillers roles : List ℕ) (signs : List Bool) (n i : ℕ) : Type 0 where
   within : i ≤ count v
-  total : found ≡ entries v i
-  filled : Filled 0 atomLimit places (entry v i) found
+  total : n ≡ entries v i
+  has-places : Has 0 v (λ j. j) i n places
+  has-fillers : Has 0 v (λ j. recordAt v j .b) i n fillers
+  has-roles : Has 0 v (λ j. recordAt v j .a) i n roles
+  has-signs : Has false v (negated v) i n signs
 
-module _ (v places : List ℕ) (found i : ℕ) (few : atoms v ≤ atomLimit) (l : Listing v places found i) (h : i < count v) where
+module _ (v : List ℕ) (n i : ℕ) (total : n ≡ entries v i) where
   -- there is room for one more
-  room : restricts v i ≡ true → found < atomLimit
-  room e =
+  room : atoms v ≤ atomLimit → i < count v → restricts v i ≡ true → n < atomLimit
+  room few h e =
       omega (
         arith,
-        l .total,
         restrictions-length v i,
         ap digit e,
         restrictions-few v (suc i),
-        rank-mono v (suc i) (count v)
-            (omega arith),
+        rank-mono v (suc i) (count v) (omega arith),
       )
 
-  more : restricts v i ≡ true → Listing v (set places found i) (found + 1) (i + 1)
-  more e =
-      record {
-        within = omega arith;
-        total = rw (add-one i) (omega (arith, l .total, restrictions-length v i, ap digit e));
-        filled = rw (add-one i) (fill-turn 0 atomLimit places (entry v (suc i)) found i (room e)
-            (fill-same 0 atomLimit places (entry v i) found (l .filled) (entry v (suc i))
-            (λ m k. sym (restrictions-kept v i m (omega (arith, l .total)))))
-            (sym (restrictions-last v i e) ∙ ap (entry v (suc i)) (sym (l .total))));
-      }
+  total-turn : (b : Bool) → restricts v i ≡ b → n + digit b ≡ entries v (i + 1)
+  total-turn b e = rw (add-one i) (omega (arith, restrictions-length v i, ap digit e))
 
-  same : restricts v i ≡ false → Listing v places found (i + 1)
-  same e =
-      record {
-        within = omega arith;
-        total = rw (add-one i) (omega (arith, l .total, restrictions-length v i, ap digit e));
-        filled = rw (add-one i) (fill-same 0 atomLimit places (entry v i) found (l .filled) (entry v (suc i))
-            (λ m k. sym (restrictions-kept v i m (omega (arith, l .total)))));
-      }
+  module _ {A : Type 0} (d : A) (asked : ℕ → A) (l : List A) (f : Has d v asked i n l) where
+    kept : Has d v asked (i + 1) n l
+    kept =
+        rw (add-one i) (fill-same d atomLimit l (λ m. asked (entry v i m)) n f (λ m. asked (entry v (suc i) m))
+        (λ m k. ap asked (sym (restrictions-kept v i m (omega arith)))))
+
+    more : (x : A) → n < atomLimit → restricts v i ≡ true → x ≡ asked i → Has d v asked (i + 1) (n + 1) (set l n x)
+    more x free e q =
+        fill-turn d atomLimit l (λ m. asked (entry v (i + 1) m)) n x free kept
+        (q ∙ ap asked (sym (rw (add-one i) (ap (entry v (suc i)) total ∙ restrictions-last v i e))))
 
 abbrev Inv-loop : tie.InvT-loop
-Inv-loop v records places₀ found₀ i₀ places found i = Listing v places found i
+Inv-loop v records places₀ fillers₀ roles₀ signs₀ n₀ i₀ places fillers roles signs n i = Listing v places fillers roles signs n i
 
 abbrev μ-loop : tie.MeasureT-loop
-μ-loop v records places₀ found₀ i₀ places found i = count v - i
+μ-loop v records places₀ fillers₀ roles₀ signs₀ n₀ i₀ places fillers roles signs n i = count v - i
 
 loop-holds : tie.Need-loop-holds Inv-loop μ-loop
-loop-holds c = record { within = omega arith; total = sym (restrictions-none _); filled = fill-start _ _ _ _ refl }
+loop-holds c =
+    record {
+      within = omega arith;
+      total = sym (restrictions-none _);
+      has-places = fill-start _ _ _ _ refl;
+      has-fillers = fill-start _ _ _ _ refl;
+      has-roles = fill-start _ _ _ _ refl;
+      has-signs = fill-start _ _ _ _ refl;
+    }
 
 read-at-requires : tie.Need-read-at-requires Inv-loop μ-loop
 read-at-requires c κs = omega arith
@@ -78,72 +87,100 @@ read-at-requires c κs = omega arith
 is-restriction-requires : tie.Need-is-restriction-requires Inv-loop μ-loop
 is-restriction-requires c κs = search needs
 
+-- the record is in the vocabulary, and what the test tells of it
+inside : (c : tie.In-loop Inv-loop μ-loop) → c .before .loop .i < recordLimit
+inside c =
+    let start = c .before .before .before in
+    omega (arith, c .before .loop .inv .within, accepted-vocabulary (now (start .args .v)) _ (start .pre .0) .sized .most)
+
+tested : (c : tie.After-is-restriction Inv-loop μ-loop)
+    → c .is-restriction .result ≡ restricts (now (c .before .before .before .before .before .args .v)) (c .before .before .before .loop .i)
+tested c = c .is-restriction .ensures ∙ ap (λ (r : Record). isRestriction (r .kind)) (c .before .read-at .ensures)
+
+free : (c : tie.Then1 Inv-loop μ-loop) → c .before .before .before .before .loop .count < atomLimit
+free c =
+    let l = c .before .before .before .before in
+    room _ _ _ (l .loop .inv .total) (l .before .before .pre .1) (c .before .before .before .loop-test .taken)
+    (sym (tested (c .before)) ∙ c .if1 .taken)
+
 cast-places : tie.Need-cast-places Inv-loop μ-loop
-cast-places c =
-    omega (
-      arith,
-      c .before .before .before .before .loop .inv .within,
-      (accepted-vocabulary (now (c .before .before .before .before .before .before .args .v)) _
-          (c .before .before .before .before .before .before .pre .0)) .sized .most,
-    )
+cast-places c = omega (arith, inside (c .before .before .before))
 
 mul-places : tie.Need-mul-places Inv-loop μ-loop
-mul-places c =
-    omega (
-      arith,
-      room _ _ _ _ (c .before .before .before .before .before .before .pre .1)
-          (c .before .before .before .before .loop .inv) (c .before .before .before .loop-test .taken)
-          (sym (c .before .is-restriction .ensures ∙ ap (λ (r : Record). isRestriction (r .kind))
-          (c .before .before .read-at .ensures)) ∙ c .if1 .taken),
-    )
+mul-places c = omega (arith, free c)
 
 array-write-places : tie.Need-array-write-places Inv-loop μ-loop
-array-write-places c =
-    room _ _ _ _ (c .before .before .before .before .before .before .pre .1)
-    (c .before .before .before .before .loop .inv) (c .before .before .before .loop-test .taken)
-    (sym (c .before .is-restriction .ensures ∙ ap (λ (r : Record). isRestriction (r .kind))
-    (c .before .before .read-at .ensures)) ∙ c .if1 .taken)
+array-write-places c = free c
 
-add-found : tie.Need-add-found Inv-loop μ-loop
-add-found c =
-    omega (
-      arith,
-      room _ _ _ _ (c .before .before .before .before .before .before .pre .1)
-          (c .before .before .before .before .loop .inv) (c .before .before .before .loop-test .taken)
-          (sym (c .before .is-restriction .ensures ∙ ap (λ (r : Record). isRestriction (r .kind))
-          (c .before .before .read-at .ensures)) ∙ c .if1 .taken),
-    )
+mul-fillers : tie.Need-mul-fillers Inv-loop μ-loop
+mul-fillers c = omega (arith, free c)
+
+array-write-fillers : tie.Need-array-write-fillers Inv-loop μ-loop
+array-write-fillers c = free c
+
+mul-roles : tie.Need-mul-roles Inv-loop μ-loop
+mul-roles c = omega (arith, free c)
+
+array-write-roles : tie.Need-array-write-roles Inv-loop μ-loop
+array-write-roles c = free c
+
+array-write-signs : tie.Need-array-write-signs Inv-loop μ-loop
+array-write-signs c = free (c .before)
+
+add-count : tie.Need-add-count Inv-loop μ-loop
+add-count c = omega (arith, free (c .before))
 
 add-i : tie.Need-add-i Inv-loop μ-loop
-add-i c =
-    omega (
-      arith,
-      c .before .before .before .before .loop .inv .within,
-      (accepted-vocabulary (now (c .before .before .before .before .before .before .args .v)) _
-          (c .before .before .before .before .before .before .pre .0)) .sized .most,
-    )
+add-i c = omega (arith, inside (c .before .before .before))
 
 loop-less : tie.Need-loop-less Inv-loop μ-loop
-loop-less c = omega (arith, c .before .before .before .before .loop .inv .within)
+loop-less c = omega arith
 
 loop-again : tie.Need-loop-again Inv-loop μ-loop
 loop-again c =
-    let l = c .before .before .before .before .loop in
-    let p = c .before .before .before .before .before .before .pre in ⊎-elim
-    (λ w. rw (w .1, w .2) (more _ _ _ _ (p .1) (l .inv) (c .before .before .before .loop-test .taken)
-    (sym (c .before .is-restriction .ensures ∙ ap (λ (r : Record). isRestriction (r .kind))
-    (c .before .before .read-at .ensures)) ∙ w .0 .taken)))
-    (λ w. rw (w .1, w .2) (same _ _ _ _ (p .1) (l .inv) (c .before .before .before .loop-test .taken)
-    (sym (c .before .is-restriction .ensures ∙ ap (λ (r : Record). isRestriction (r .kind))
-    (c .before .before .read-at .ensures)) ∙ w .0 .left))) (c .if1 .came)
+    let in-loop = c .before .before .before in
+    let l = in-loop .before .loop in
+    let w = l .inv in
+    let v = now (in-loop .before .before .before .args .v) in
+    let read = c .before .before .read-at .ensures in
+    let h : l .i + 1 ≤ count v = omega arith in
+    ⊎-elim
+    (λ s. let e : restricts v (l .i) ≡ true = sym (tested (c .before)) ∙ s .0 .taken in
+    let r : l .count < atomLimit = room v (l .count) (l .i) (w .total) (in-loop .before .before .before .pre .1) (omega arith) e in
+    rw (s .2, s .3, s .4, s .5, s .6) record {
+      within = h;
+      total = total-turn v (l .count) (l .i) (w .total) true e;
+      has-places = more v (l .count) (l .i) (w .total) 0 (λ j. j) (l .places) (w .has-places) _ r e refl;
+      has-fillers = more v (l .count) (l .i) (w .total) 0 (λ j. recordAt v j .b) (l .fillers) (w .has-fillers) _ r e
+          (ap (λ (r : Record). r .b) read);
+      has-roles = more v (l .count) (l .i) (w .total) 0 (λ j. recordAt v j .a) (l .roles) (w .has-roles) _ r e
+          (ap (λ (r : Record). r .a) read);
+      has-signs = more v (l .count) (l .i) (w .total) false (negated v) (l .signs) (w .has-signs) _ r e
+          (ap (λ (r : Record). eqb (r .kind) 8) read);
+    })
+    (λ s. let e : restricts v (l .i) ≡ false = sym (tested (c .before)) ∙ s .0 .left in
+    rw (s .1, s .2, s .3, s .4, s .5) record {
+      within = h;
+      total = omega (arith, total-turn v (l .count) (l .i) (w .total) false e);
+      has-places = kept v (l .count) (l .i) (w .total) 0 (λ j. j) (l .places) (w .has-places);
+      has-fillers = kept v (l .count) (l .i) (w .total) 0 (λ j. recordAt v j .b) (l .fillers) (w .has-fillers);
+      has-roles = kept v (l .count) (l .i) (w .total) 0 (λ j. recordAt v j .a) (l .roles) (w .has-roles);
+      has-signs = kept v (l .count) (l .i) (w .total) false (negated v) (l .signs) (w .has-signs);
+    }) (c .if1 .came)
 
 returns : tie.Need-returns Inv-loop μ-loop
 returns c =
-    let a = c .before .before .before .args in
-    let w = c .before .loop .inv in
-    let e : c .before .loop .i ≡ count (now (a .v)) = omega (arith, w .within) in
-    let all : c .before .loop .found ≡ width (now (a .v)) = w .total ∙ ap (entries (now (a .v))) e in
-    (all, λ m h. w .filled .right m (omega arith) ∙ ap (λ (n : ℕ). entry (now (a .v)) n m) e)
+    let v = now (c .before .before .before .args .v) in
+    let l = c .before .loop in
+    let w = l .inv in
+    let e : l .i ≡ count v = omega (arith, w .within) in
+    let all : l .count ≡ width v = w .total ∙ ap (entries v) e in record {
+      all = all;
+      place-at = λ m h. w .has-places .right m (omega arith) ∙ ap (λ (n : ℕ). entry v n m) e;
+      filler-at = λ m h. w .has-fillers .right m (omega arith) ∙ ap (λ (n : ℕ). recordAt v (entry v n m) .b) e;
+      role-at = λ m h. w .has-roles .right m (omega arith) ∙ ap (λ (n : ℕ). recordAt v (entry v n m) .a) e;
+      sign-at = λ m h. w .has-signs .right m (omega arith) ∙ ap (λ (n : ℕ). negated v (entry v n m)) e;
+    }
 
 pub list-restrictions-spec : {M : Type 1} → statement M
 list-restrictions-spec =
@@ -157,7 +194,12 @@ list-restrictions-spec =
     cast-places
     mul-places
     array-write-places
-    add-found
+    mul-fillers
+    array-write-fillers
+    mul-roles
+    array-write-roles
+    array-write-signs
+    add-count
     add-i
     loop-less
     loop-again

@@ -3,7 +3,7 @@
 use Prim.Native.Nat.{_-_, _≤_, _<_}
 use native.Mathlib.Omega.{arith}
 use mathlib.Core.Logic.{⊎-elim}
-use mathlib.Core.Path.{_≡_, refl, subst}
+use mathlib.Core.Path.{_≡_, subst}
 use denote.Ref.{now}
 use Rattle.records.proofs.Accepted.{accepted-well-formed, accepted-vocabulary}
 use Rattle.records.specs.Format.{count}
@@ -14,33 +14,35 @@ use Rattle.types.proofs.truth.list_statements.Tie as tie
 use Rattle.records.specs.Format.{recordLimit}
 
 abbrev Inv-loop : tie.InvT-loop
-Inv-loop v records marks places₀ found₀ i₀ places found i = (i ≤ count v) × ListedBelow recordLimit marks places found i
+Inv-loop v statements₀ records marks found₀ i₀ statements found i =
+    (i ≤ count v) × ListedBelow recordLimit marks statements found i
 
 abbrev μ-loop : tie.MeasureT-loop
-μ-loop v records marks places₀ found₀ i₀ places found i = count v - i
+μ-loop v statements₀ records marks found₀ i₀ statements found i = count v - i
 
 mark-chain-requires : tie.Need-mark-chain-requires Inv-loop μ-loop
-mark-chain-requires c κs = accepted-well-formed (now (c .before .args .v)) _ (c .before .pre)
+mark-chain-requires c κs = accepted-well-formed (now (c .before .args .v)) _ (c .before .pre .0)
 
 -- the record is in the tables
 inside : (c : tie.In-loop Inv-loop μ-loop) → c .before .loop .i < recordLimit
 inside c =
-    omega (arith, accepted-vocabulary (now (c .before .before .before .before .args .v)) _ (c .before .before .before .before .pre) .sized .most)
+    let start = c .before .before .before .before in
+    omega (arith, accepted-vocabulary (now (start .args .v)) _ (start .pre .0) .sized .most)
 
 loop-holds : tie.Need-loop-holds Inv-loop μ-loop
-loop-holds c = (omega arith, list-start _ _ _ refl)
+loop-holds c = (omega arith, list-start _ _ _ (c .before .before .pre .1))
 
 array-read-if1 : tie.Need-array-read-if1 Inv-loop μ-loop
 array-read-if1 c = inside c
 
-cast-places : tie.Need-cast-places Inv-loop μ-loop
-cast-places c = omega (arith, inside (c .before))
+cast-statements : tie.Need-cast-statements Inv-loop μ-loop
+cast-statements c = omega (arith, inside (c .before))
 
-mul-places : tie.Need-mul-places Inv-loop μ-loop
-mul-places c = omega (arith, inside (c .before), c .before .before .loop .inv .1 .few)
+mul-statements : tie.Need-mul-statements Inv-loop μ-loop
+mul-statements c = omega (arith, inside (c .before), c .before .before .loop .inv .1 .few)
 
-array-write-places : tie.Need-array-write-places Inv-loop μ-loop
-array-write-places c = omega (arith, inside (c .before), c .before .before .loop .inv .1 .few)
+element-write-statements : tie.Need-element-write-statements Inv-loop μ-loop
+element-write-statements c = omega (arith, inside (c .before), c .before .before .loop .inv .1 .few)
 
 add-found : tie.Need-add-found Inv-loop μ-loop
 add-found c = omega (arith, inside (c .before), c .before .before .loop .inv .1 .few)
@@ -56,21 +58,19 @@ loop-again c =
     let l = c .before .before .loop .inv .1 in (
       omega arith,
       ⊎-elim
-          (λ w. rw (w .1, w .2) (list-more _ _ _ _ _ l (omega (
-            arith,
-            (accepted-vocabulary (now (c .before .before .before .before .before .args .v)) _
-                (c .before .before .before .before .before .pre)) .sized .most,
-          )) (w .0 .taken)))
+          (λ w. rw (w .1, w .2) (list-more _ _ _ _ _ l (inside (c .before)) (w .0 .taken)))
           (λ w. rw (w .1, w .2) (list-same _ _ _ _ _ l (w .0 .left))) (c .if1 .came),
     )
 
 returns : tie.Need-returns Inv-loop μ-loop
 returns c =
-    let a = c .before .before .before .before .args in
-    let e : c .before .loop .i ≡ count (now (a .v)) = omega arith in stating (now (a .v))
-    (accepted-vocabulary (now (a .v)) _ (c .before .before .before .before .pre)) _
-    (c .before .before .mark-chain .ensures) _ _ (subst
-    (ListedBelow recordLimit _ (c .before .loop .places) (c .before .loop .found)) e (c .before .loop .inv .1))
+    let marked = c .before .before in
+    let start = marked .before .before in
+    let v = now (start .args .v) in
+    let l = c .before .loop in
+    let e : l .i ≡ count v = omega arith in
+    stating v (accepted-vocabulary v _ (start .pre .0)) _ (marked .mark-chain .ensures) _ _
+    (subst (ListedBelow recordLimit _ (l .statements) (l .found)) e (l .inv .1))
 
 pub list-statements-spec : {M : Type 1} → statement M
 list-statements-spec =
@@ -81,9 +81,9 @@ list-statements-spec =
     mark-chain-requires
     loop-holds
     array-read-if1
-    cast-places
-    mul-places
-    array-write-places
+    cast-statements
+    mul-statements
+    element-write-statements
     add-found
     add-i
     loop-less

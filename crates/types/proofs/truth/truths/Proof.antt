@@ -1,147 +1,169 @@
--- `types::truth::truths` meets its contract. The loop's invariant: the truths are right below `i`.
+-- `types::truth::truths` meets its contract. The loop's invariant: the truths are right below `i`, and those of the atoms
+-- from there on.
 -- Assumes nothing.
-use Prim.Native.Nat.{ℕ, _-_, _%_, _≤_, _<_}
+use Prim.Native.Nat.{ℕ, _+_, _-_, _*_, _≤_, _<_}
 use native.Mathlib.Omega.{arith}
 use mathlib.Core.Bool.{Bool, true, false}
 use mathlib.Core.List.{List}
 use mathlib.Core.Path.{_≡_, refl, sym, ap, ap₂, _∙_}
-use lib.ListN.{getD}
+use lib.ListN.{getD, set}
+use lib.Seq.{getD-set-other}
 use borrow.Author.Needs.{needs}
 use denote.Ref.{now}
 use Rattle.records.proofs.Accepted.{Accepted, accepted-vocabulary}
 use Rattle.records.proofs.Constructs.{construct-earlier, construct-atom}
-use Rattle.records.specs.Format.{count, recordAt}
+use Rattle.records.specs.Atoms.{rank}
+use Rattle.records.specs.Format.{count, recordAt, recordLimit}
 use Rattle.records.specs.Kinds.{constructOf, isAtom}
 use Rattle.types.specs.Below.{bit}
-use Rattle.types.specs.Rules.{Decoded, select, ruleOf, secondOf}
+use Rattle.types.specs.Rules.{Decoded, select, ruleOf, firstOf, secondOf}
 use Rattle.types.specs.Types.{truth}
-use Rattle.types.proofs.Connects.{rule-connects, operands-earlier, first-atom}
+use Rattle.types.proofs.Connects.{rule-connects, operands-earlier}
 use Rattle.types.proofs.Truths.{truth-eq, connect-cong}
 use Rattle.types.proofs.Turns.{Filled, fill-start, fill-turn}
 use Rattle.types.proofs.truth.truths.Statement.{statement}
 use Rattle.types.proofs.truth.truths.Tie as tie
-use Rattle.records.specs.Format.{recordLimit}
-use Rattle.records.specs.Atoms.{atoms, rank}
-use Rattle.records.proofs.Ranks.{rank-below, rank-bound}
 
 record Filling (v : List ℕ) (t : ℕ) (done : List Bool) (i : ℕ) : Type 0 where
   within : i ≤ count v
   filled : Filled false recordLimit done (truth v t) i
+  waiting : (j : ℕ) → i ≤ j → j < count v → isAtom (recordAt v j .kind) ≡ true → getD done j false ≡ bit t (rank v j)
 
-module _ (v rules firsts seconds : List ℕ) (good : Accepted v) (d : Decoded v rules firsts seconds) (few : atoms v ≤ 16)
-    (t : ℕ) where
-  -- an atom's first number is the place of its bit
-  place : (i : ℕ) → i < count v → isAtom (recordAt v i .kind) ≡ true → getD firsts i 0 % 16 ≡ rank v i
-  place i h e =
-      ap (λ (n : ℕ). n % 16) (d .first-at i h ∙ first-atom (recordAt v i .a) (rank v i) (recordAt v i .kind) e)
-      ∙ small (rank v i) (omega (arith, rank-below v i h e))
-    where
-      small : (n : ℕ) → n < 16 → n % 16 ≡ n
-      small n l = omega arith
+module _ (v code : List ℕ) (good : Accepted v) (d : Decoded v code) (i : ℕ) (h : i < count v) where
+  abbrev first : ℕ
+  first = getD code (recordLimit + i) 0
 
-  -- the rule gives the truth
-  next : (done : List Bool) (i : ℕ) → Filling v t done i → i < count v
-      → select (getD rules i 0) (getD done (getD firsts i 0) false) (getD done (getD seconds i 0) false)
-      (bit t (getD firsts i 0 % 16)) ≡ truth v t i
-  next done i f h =
-      ap₂ (λ (r s : ℕ). select r (getD done (getD firsts i 0) false) (getD done s false) (bit t (getD firsts i 0 % 16)))
-      (d .rule-at i h) (d .second-at i h)
-      ∙ ap (λ (n : ℕ). select (ruleOf (recordAt v i .kind)) (getD done n false)
-      (getD done (secondOf (recordAt v i .kind) (recordAt v i .b)) false) (bit t (getD firsts i 0 % 16))) (d .first-at i h)
-      ∙ rule-connects (recordAt v i) (rank v i) (bit t (getD firsts i 0 % 16)) (λ j. getD done j false)
-      ∙ connect-cong i (constructOf (recordAt v i)) (bit t (getD firsts i 0 % 16)) (bit t (rank v i))
-      (λ j. getD done j false) (truth v t)
-      (λ a. ap (bit t) (place i h (construct-atom (recordAt v i) ∙ a))) (construct-earlier v good i) (f .filled .right)
-      ∙ sym (truth-eq v good t i)
+  abbrev second : ℕ
+  second = getD code (2 * recordLimit + i) 0
+
+  -- the operands are in the table
+  operands : (first < recordLimit) × (second < recordLimit)
+  operands =
+      let early = operands-earlier (recordAt v i) i i (omega arith) (construct-earlier v good i) in (
+        omega (arith, d .first-at i h, early .0, good .sized .most),
+        omega (arith, d .second-at i h, early .1, good .sized .most),
+      )
+
+  module _ (t : ℕ) (done : List Bool) (f : Filling v t done i) where
+    -- the rule gives the truth
+    given : select (getD code i 0) (getD done first false) (getD done second false) ≡ truth v t i
+    given =
+        ap (λ (r : ℕ). select r (getD done first false) (getD done second false)) (d .rule-at i h)
+        ∙ ap₂ (λ (m n : ℕ). select (ruleOf (recordAt v i .kind)) (getD done m false) (getD done n false))
+        (d .first-at i h) (d .second-at i h)
+        ∙ rule-connects (recordAt v i) i (λ j. getD done j false)
+        ∙ connect-cong i (constructOf (recordAt v i)) (getD done i false) (bit t (rank v i)) (λ j. getD done j false) (truth v t)
+        (λ a. f .waiting i (omega arith) h (construct-atom (recordAt v i) ∙ a)) (construct-earlier v good i) (f .filled .right)
+        ∙ sym (truth-eq v good t i)
+
+    next : (x : Bool) → x ≡ select (getD code i 0) (getD done first false) (getD done second false)
+        → Filling v t (set done i x) (i + 1)
+    next x e =
+        record {
+          within = omega arith;
+          filled = fill-turn false recordLimit done (truth v t) i x (omega (arith, good .sized .most)) (f .filled) (e ∙ given);
+          waiting = λ j l k a. getD-set-other done i j x false (λ q. omega arith) ∙ f .waiting j (omega arith) k a;
+        }
 
 abbrev Inv-loop : tie.InvT-loop
-Inv-loop v rules firsts seconds t records done₀ i₀ done i = Filling v t done i
+Inv-loop v code k places t done₀ records i₀ done i = Filling v t done i
 
 abbrev μ-loop : tie.MeasureT-loop
-μ-loop v rules firsts seconds t records done₀ i₀ done i = count v - i
+μ-loop v code k places t done₀ records i₀ done i = count v - i
 
--- the record is in the tables, and its operands no later
-inside : (c : tie.In-loop Inv-loop μ-loop) → c .before .loop .i < recordLimit
-inside c =
-    omega (
-      arith,
-      c .before .loop .inv .within,
-      accepted-vocabulary (now (c .before .before .before .args .v)) _ (c .before .before .before .pre .0) .sized .most,
-    )
-
-operands : (c : tie.In-loop Inv-loop μ-loop)
-    → (getD (now (c .before .before .before .args .firsts)) (c .before .loop .i) 0 < recordLimit)
-    × (getD (now (c .before .before .before .args .seconds)) (c .before .loop .i) 0 < recordLimit)
-operands c =
-    let p = c .before .before .before .pre in
-    let v = now (c .before .before .before .args .v) in
-    let i = c .before .loop .i in
-    let early = operands-earlier (recordAt v i) i (rank v i) (rank-bound v i) (construct-earlier v (accepted-vocabulary v _ (p .0)) i) in (
-      omega (arith, inside c, p .1 .0 .first-at i (c .loop-test .taken), early .0),
-      omega (arith, inside c, p .1 .0 .second-at i (c .loop-test .taken), early .1),
-    )
+set-atoms-requires : tie.Need-set-atoms-requires Inv-loop μ-loop
+set-atoms-requires c κs =
+    let p = c .before .before .pre in
+    (p .0, (p .1 .0, (p .1 .1 .0, (p .1 .1 .1 .1 .0, p .1 .1 .1 .1 .1))))
 
 loop-holds : tie.Need-loop-holds Inv-loop μ-loop
-loop-holds c = record { within = omega arith; filled = fill-start _ _ _ _ refl }
+loop-holds c =
+    let set = c .set-atoms .ensures in record {
+      within = omega arith;
+      filled = fill-start _ _ _ _ (set .size);
+      waiting = λ j l k a. set .atom-at j k a;
+    }
+
+-- the record is in the tables, and its operands no later
+good : (c : tie.In-loop Inv-loop μ-loop) → Accepted (now (c .before .before .before .before .before .args .v))
+good c = accepted-vocabulary _ _ (c .before .before .before .before .before .pre .0)
+
+inside : (c : tie.In-loop Inv-loop μ-loop) → c .before .loop .i < recordLimit
+inside c = omega (arith, c .before .loop .inv .within, good c .sized .most)
+
+first-inside : (c : tie.In-loop Inv-loop μ-loop)
+    → getD (now (c .before .before .before .before .before .args .code)) (recordLimit + c .before .loop .i) 0 < recordLimit
+first-inside c =
+    operands _ _ (good c) (c .before .before .before .before .before .pre .1 .1 .1 .0) (c .before .loop .i) (c .loop-test .taken) .0
+
+second-inside : (c : tie.In-loop Inv-loop μ-loop)
+    → getD (now (c .before .before .before .before .before .args .code)) (2 * recordLimit + c .before .loop .i) 0 < recordLimit
+second-inside c =
+    operands _ _ (good c) (c .before .before .before .before .before .pre .1 .1 .1 .0) (c .before .loop .i) (c .loop-test .taken) .1
+
+add-first : tie.Need-add-first Inv-loop μ-loop
+add-first c = omega (arith, inside c)
 
 mul-first : tie.Need-mul-first Inv-loop μ-loop
 mul-first c = omega (arith, inside c)
 
 element-copy-out-first : tie.Need-element-copy-out-first Inv-loop μ-loop
-element-copy-out-first c = inside c
+element-copy-out-first c = omega (arith, inside c)
 
 cast-first : tie.Need-cast-first Inv-loop μ-loop
-cast-first c = omega (arith, operands (c .before) .0)
+cast-first c = omega (arith, first-inside (c .before))
 
 mul-second : tie.Need-mul-second Inv-loop μ-loop
-mul-second c = omega (arith, inside (c .before))
+mul-second c = omega arith
+
+add-second : tie.Need-add-second Inv-loop μ-loop
+add-second c = omega (arith, inside (c .before))
+
+mul-second-2 : tie.Need-mul-second-2 Inv-loop μ-loop
+mul-second-2 c = omega (arith, inside (c .before))
 
 element-copy-out-second : tie.Need-element-copy-out-second Inv-loop μ-loop
-element-copy-out-second c = inside (c .before)
+element-copy-out-second c = omega (arith, inside (c .before))
 
 cast-second : tie.Need-cast-second Inv-loop μ-loop
-cast-second c = omega (arith, operands (c .before .before) .1)
+cast-second c = omega (arith, second-inside (c .before .before))
 
-shr-bit : tie.Need-shr-bit Inv-loop μ-loop
-shr-bit c = omega arith
+mul-apply : tie.Need-mul-apply Inv-loop μ-loop
+mul-apply c = omega (arith, inside (c .before .before))
 
 element-copy-out-apply : tie.Need-element-copy-out-apply Inv-loop μ-loop
-element-copy-out-apply c = inside (c .before .before)
+element-copy-out-apply c = omega (arith, inside (c .before .before))
 
-array-read-apply : tie.Need-array-read-apply Inv-loop μ-loop
-array-read-apply c = operands (c .before .before .before) .0
+element-copy-out-apply-2 : tie.Need-element-copy-out-apply-2 Inv-loop μ-loop
+element-copy-out-apply-2 c = first-inside (c .before .before .before)
 
-array-read-apply-2 : tie.Need-array-read-apply-2 Inv-loop μ-loop
-array-read-apply-2 c = operands (c .before .before .before) .1
+element-copy-out-apply-3 : tie.Need-element-copy-out-apply-3 Inv-loop μ-loop
+element-copy-out-apply-3 c = second-inside (c .before .before .before .before)
 
 apply-requires : tie.Need-apply-requires Inv-loop μ-loop
 apply-requires c κs = search needs
 
-array-write-done : tie.Need-array-write-done Inv-loop μ-loop
-array-write-done c = inside (c .before .before .before .before)
+element-write-done : tie.Need-element-write-done Inv-loop μ-loop
+element-write-done c = inside (c .before .before .before .before .before .before)
 
 add-i : tie.Need-add-i Inv-loop μ-loop
-add-i c = omega (arith, inside (c .before .before .before .before))
+add-i c = omega (arith, inside (c .before .before .before .before .before .before))
 
 loop-less : tie.Need-loop-less Inv-loop μ-loop
-loop-less c = omega (arith, c .before .before .before .before .before .loop .inv .within)
+loop-less c = omega arith
 
 loop-again : tie.Need-loop-again Inv-loop μ-loop
-unfolding bit
 loop-again c =
-    let w = c .before .before .before .before in
-    let l = w .before .loop in
-    let a = w .before .before .before .args in
-    let p = w .before .before .before .pre in
-    let good = accepted-vocabulary (now (a .v)) _ (p .0) in record {
-      within = omega (arith, l .inv .within);
-      filled = fill-turn _ _ _ _ _ _ (omega (arith, l .inv .within, good .sized .most)) (l .inv .filled)
-          (c .apply .ensures ∙ next (now (a .v)) (now (a .rules)) (now (a .firsts)) (now (a .seconds)) good (p .1 .0) (p .1 .1)
-          (a .t) _ (l .i) (l .inv) (w .loop-test .taken));
-    }
+    let in-loop = c .before .before .before .before .before .before in
+    let l = in-loop .before .loop in
+    let start = in-loop .before .before .before .before .before in
+    next (now (start .args .v)) (now (start .args .code)) (good in-loop) (start .pre .1 .1 .1 .0) (l .i) (in-loop .loop-test .taken)
+    (start .args .t) (l .done) (l .inv) _ (c .apply .ensures)
 
 returns : tie.Need-returns Inv-loop μ-loop
-returns c = λ i h. c .before .loop .inv .filled .right i (omega (arith, c .before .loop .inv .within))
+returns c =
+    let w = c .before .loop .inv in
+    record { size = w .filled .size; truth-at = λ i h. w .filled .right i (omega (arith, w .within)) }
 
 pub truths-spec : {M : Type 1} → statement M
 truths-spec =
@@ -149,19 +171,23 @@ truths-spec =
     (tie.spec
     Inv-loop
     μ-loop
+    set-atoms-requires
     loop-holds
+    add-first
     mul-first
     element-copy-out-first
     cast-first
     mul-second
+    add-second
+    mul-second-2
     element-copy-out-second
     cast-second
-    shr-bit
+    mul-apply
     element-copy-out-apply
-    array-read-apply
-    array-read-apply-2
+    element-copy-out-apply-2
+    element-copy-out-apply-3
     apply-requires
-    array-write-done
+    element-write-done
     add-i
     loop-less
     loop-again
