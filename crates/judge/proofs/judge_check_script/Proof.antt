@@ -14,12 +14,6 @@ use Rattle.scripts.proofs.Bounds.{mostPlace, script-small, query-below}
 use Rattle.judge.proofs.judge_check_script.Statement.{statement}
 use Rattle.judge.proofs.judge_check_script.Tie as tie
 
-check-script-requires : tie.Need-check-script-requires
-check-script-requires c κs = search needs
-
-enum-known-answer : tie.Need-enum-known-answer
-enum-known-answer c = search needs
-
 -- the answer fits its bits
 small : (c : tie.After-check-script) (o : Judged) → c .check-script .result ≡ o
     → Small (mostPlace (now (c .before .before .before .args .script))) (judged o)
@@ -37,9 +31,6 @@ pack-requires c κs =
     let k = c .before .before .before in
     omega (arith, query k .0, query k .1, small k _ (c .before .answer .given .1))
 
-enum-known-answer-2 : tie.Need-enum-known-answer-2
-enum-known-answer-2 c = search needs
-
 pack-requires-2 : tie.Need-pack-requires-2
 pack-requires-2 c κs =
     let k = c .before .before .before in
@@ -56,10 +47,10 @@ pub judge-check-script-spec : {M : Type 1} → statement M
 judge-check-script-spec =
     tie.close
     (tie.spec
-    check-script-requires
-    enum-known-answer
+    (λ c κs. search needs)
+    (λ c. search needs)
     pack-requires
-    enum-known-answer-2
+    (λ c. search needs)
     pack-requires-2
     returns
     returns-2)

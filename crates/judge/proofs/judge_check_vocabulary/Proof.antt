@@ -11,12 +11,6 @@ use Rattle.records.proofs.Bounds.{Small, vocabulary-small}
 use Rattle.judge.proofs.judge_check_vocabulary.Statement.{statement}
 use Rattle.judge.proofs.judge_check_vocabulary.Tie as tie
 
-check-vocabulary-requires : tie.Need-check-vocabulary-requires
-check-vocabulary-requires c κs = search needs
-
-enum-known-answer : tie.Need-enum-known-answer
-enum-known-answer c = search needs
-
 -- the answer fits its bits
 small : (c : tie.After-check-vocabulary) (o : Counted) → c .check-vocabulary .result ≡ o → Small recordLimit (counted o)
 small c o e =
@@ -25,9 +19,6 @@ small c o e =
 
 pack-requires : tie.Need-pack-requires
 pack-requires c κs = omega (arith, small (c .before .before .before) _ (c .before .answer .given .1))
-
-enum-known-answer-2 : tie.Need-enum-known-answer-2
-enum-known-answer-2 c = search needs
 
 pack-requires-2 : tie.Need-pack-requires-2
 pack-requires-2 c κs = omega (arith, small (c .before .before .before) _ (c .before .answer2 .given .1))
@@ -43,10 +34,10 @@ pub judge-check-vocabulary-spec : {M : Type 1} → statement M
 judge-check-vocabulary-spec =
     tie.close
     (tie.spec
-    check-vocabulary-requires
-    enum-known-answer
+    (λ c κs. search needs)
+    (λ c. search needs)
     pack-requires
-    enum-known-answer-2
+    (λ c. search needs)
     pack-requires-2
     returns
     returns-2)

@@ -14,12 +14,6 @@ use Rattle.judge.specs.Packed.{packedVerdict}
 use Rattle.judge.proofs.judge_compare.Statement.{statement}
 use Rattle.judge.proofs.judge_compare.Tie as tie
 
-compare-requires : tie.Need-compare-requires
-compare-requires c κs = search needs
-
-enum-known-answer : tie.Need-enum-known-answer
-enum-known-answer c = search needs
-
 -- the answer fits its bits
 small : (c : tie.After-compare) (o : Compared) → c .compare .result ≡ o
     → let a = c .before .before .before .before .args in
@@ -34,24 +28,15 @@ pack-verdict-requires c κs =
     let s = small (c .before .before .before .before .before) _ (c .before .answer .given .1) in
     (omega arith, (omega (arith, s .0), omega (arith, s .1)))
 
-enum-known-answer-2 : tie.Need-enum-known-answer-2
-enum-known-answer-2 c = search needs
-
 pack-verdict-requires-2 : tie.Need-pack-verdict-requires-2
 pack-verdict-requires-2 c κs =
     let s = small (c .before .before .before .before .before) _ (c .before .answer2 .given .1) in
     (omega (arith, s .0), (omega (arith, s .1), omega (arith, s .2)))
 
-enum-known-answer-3 : tie.Need-enum-known-answer-3
-enum-known-answer-3 c = search needs
-
 pack-requires : tie.Need-pack-requires
 pack-requires c κs =
     let a = c .before .before .before .before .before .before .before .before .before .args in
     omega (arith, small (c .before .before .before .before .before) _ (c .before .answer3 .given .1))
-
-same-length : tie.Need-same-length
-same-length c = search needs
 
 -- the answer's number is the definition's, and the bytes are those that the comparison left
 packed-answer : (c : tie.After-compare) (o : Compared) (n : ℕ) → c .compare .result ≡ o → n ≡ packedVerdict (compared o)
@@ -64,16 +49,10 @@ returns c =
     let k = c .before .before .before .before .before .before in
     (packed-answer k _ _ (c .before .before .answer .given .1) (c .pack-verdict .ensures), k .compare .ensures .1)
 
-same-length-2 : tie.Need-same-length-2
-same-length-2 c = search needs
-
 returns-2 : tie.Need-returns-2
 returns-2 c =
     let k = c .before .before .before .before .before .before in
     (packed-answer k _ _ (c .before .before .answer2 .given .1) (c .pack-verdict2 .ensures), k .compare .ensures .1)
-
-same-length-3 : tie.Need-same-length-3
-same-length-3 c = search needs
 
 returns-3 : tie.Need-returns-3
 returns-3 c =
@@ -84,16 +63,16 @@ pub judge-compare-spec : {M : Type 1} → statement M
 judge-compare-spec =
     tie.close
     (tie.spec
-    compare-requires
-    enum-known-answer
+    (λ c κs. search needs)
+    (λ c. search needs)
     pack-verdict-requires
-    enum-known-answer-2
+    (λ c. search needs)
     pack-verdict-requires-2
-    enum-known-answer-3
+    (λ c. search needs)
     pack-requires
-    same-length
+    (λ c. search needs)
     returns
-    same-length-2
+    (λ c. search needs)
     returns-2
-    same-length-3
+    (λ c. search needs)
     returns-3)

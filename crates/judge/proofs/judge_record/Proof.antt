@@ -12,12 +12,6 @@ use Rattle.records.proofs.Bounds.{Small, record-small}
 use Rattle.judge.proofs.judge_record.Statement.{statement}
 use Rattle.judge.proofs.judge_record.Tie as tie
 
-find-record-requires : tie.Need-find-record-requires
-find-record-requires c κs = search needs
-
-enum-known-answer : tie.Need-enum-known-answer
-enum-known-answer c = search needs
-
 -- the answer fits its bits
 small : (c : tie.After-find-record) (o : Located) → c .find-record .result ≡ o
     → Small (max (8 * recordLimit) (c .before .before .args .number)) (located o)
@@ -27,9 +21,6 @@ small c o e =
 
 pack-requires : tie.Need-pack-requires
 pack-requires c κs = omega (arith, small (c .before .before .before) _ (c .before .answer .given .1))
-
-enum-known-answer-2 : tie.Need-enum-known-answer-2
-enum-known-answer-2 c = search needs
 
 pack-requires-2 : tie.Need-pack-requires-2
 pack-requires-2 c κs = omega (arith, small (c .before .before .before) _ (c .before .answer2 .given .1))
@@ -45,10 +36,10 @@ pub judge-record-spec : {M : Type 1} → statement M
 judge-record-spec =
     tie.close
     (tie.spec
-    find-record-requires
-    enum-known-answer
+    (λ c κs. search needs)
+    (λ c. search needs)
     pack-requires
-    enum-known-answer-2
+    (λ c. search needs)
     pack-requires-2
     returns
     returns-2)

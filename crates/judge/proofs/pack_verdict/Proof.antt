@@ -12,26 +12,14 @@ flag-small : (b : Bool) → flag b ≤ 1
 flag-small true = omega arith
 flag-small false = omega arith
 
-flag-requires : tie.Need-flag-requires
-flag-requires c κs = search needs
-
 mul-result : tie.Need-mul-result
 mul-result c = omega (arith, flag-small (c .before .args .differs), c .flag .ensures)
-
-mul-result-2 : tie.Need-mul-result-2
-mul-result-2 c = omega arith
 
 add-result : tie.Need-add-result
 add-result c = omega (arith, flag-small (c .before .args .differs), c .flag .ensures)
 
-mul-result-3 : tie.Need-mul-result-3
-mul-result-3 c = omega arith
-
 add-result-2 : tie.Need-add-result-2
 add-result-2 c = omega (arith, flag-small (c .before .args .differs), c .flag .ensures)
-
-mul-result-4 : tie.Need-mul-result-4
-mul-result-4 c = omega arith
 
 add-result-3 : tie.Need-add-result-3
 add-result-3 c = omega (arith, flag-small (c .before .args .differs), c .flag .ensures)
@@ -43,12 +31,12 @@ pub pack-verdict-spec : {M : Type 1} → statement M
 pack-verdict-spec =
     tie.close
     (tie.spec
-    flag-requires
+    (λ c κs. search needs)
     mul-result
-    mul-result-2
+    (λ c. omega arith)
     add-result
-    mul-result-3
+    (λ c. omega arith)
     add-result-2
-    mul-result-4
+    (λ c. omega arith)
     add-result-3
     returns)
