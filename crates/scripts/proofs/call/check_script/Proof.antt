@@ -86,7 +86,7 @@ sized : (c : tie.After-enum-told3) → lengthCheck (now (start (taken (long c)) 
 sized c = passed _ _ (measured (long c)) (c .enum-told3 .given .1)
 
 mark-chain-requires : tie.Need-mark-chain-requires
-mark-chain-requires c κs = accepts (taken (long c))
+mark-chain-requires c κs = accepted-well-formed _ _ (accepts (taken (long c)))
 
 read-entry-requires : tie.Need-read-entry-requires
 read-entry-requires c κs =
