@@ -2,16 +2,17 @@
 --   group-constant, group-junction, group-restriction   kinds that differ in signs alone, in one form
 --   group-negation, group-inclusion, group-low, group-name, group-high   the other kinds
 --   past-at, none-at                                    a column that does not exist
+--   two-sizes, size-past, sizes-at, size-constant, size-negation, size-triple, size-inclusion, size-none   how many literals a column has
 --   NoY, no-y                                           columns without a y
 --   restriction-takes-y, plain-takes-none               y stands in the third column of kinds 7 and 8 alone
 -- Assumes nothing.
 use Prim.Native.Nat.{ℕ, zero, suc, _≤_, _<_}
 use native.Mathlib.Omega.{arith}
 use native.Mathlib.Decide.{ℕ-discrete, decLt}
-use mathlib.Core.Path.{_≡_, refl, sym, ap}
+use mathlib.Core.Path.{_≡_, refl, sym, ap, _∙_}
 use mathlib.Core.Bool.{false}
-use mathlib.Core.List.{List, [], _∷_}
-use lib.ListN.{length, getD, List·getD-eq-default}
+use mathlib.Core.List.{List, [], _∷_, map}
+use lib.ListN.{length, getD, List·getD-eq-default, List·getD-map}
 use lib.Dec.{eqb}
 use borrow.Author.Tests.{ne-eqb}
 use Rattle.records.specs.Kinds.{Construct, negation}
@@ -77,6 +78,52 @@ pub negation-at : (i j nx ny nf n : ℕ) → n < 2
 negation-at i j nx ny nf zero h = refl
 negation-at i j nx ny nf (suc zero) h = refl
 negation-at i j nx ny nf (suc (suc n)) h = absurd (omega arith)
+
+-- How many literals column n has; a number past the columns has none.
+one-size : (a n : ℕ) → getD (a ∷ 0 ∷ 0 ∷ []) n 0 ≡ getD (a ∷ []) n 0
+one-size a zero = refl
+one-size a (suc zero) = refl
+one-size a (suc (suc zero)) = refl
+one-size a (suc (suc (suc n))) = refl
+
+pub two-sizes : (a b n : ℕ) → getD (a ∷ b ∷ 0 ∷ []) n 0 ≡ getD (a ∷ b ∷ []) n 0
+two-sizes a b zero = refl
+two-sizes a b (suc zero) = refl
+two-sizes a b (suc (suc zero)) = refl
+two-sizes a b (suc (suc (suc n))) = refl
+
+pub size-past : (a b c n : ℕ) → 3 ≤ n → 0 ≡ getD (a ∷ b ∷ c ∷ []) n 0
+size-past a b c n h = sym (List·getD-eq-default (a ∷ b ∷ c ∷ []) 0 h)
+
+pub sizes-at : (cs : List Column) (n : ℕ) → getD (map length cs) n 0 ≡ length (getD cs n [])
+sizes-at cs n = List·getD-map length cs n []
+
+module _ (r : Record) (i n : ℕ) where
+  abbrev sizeOf : ℕ → ℕ
+  sizeOf k = length (getD (columnsOf i (saying r k)) n [])
+
+  sizes : (k : ℕ) → getD (map length (columnsOf i (saying r k))) n 0 ≡ sizeOf k
+  sizes k = sizes-at (columnsOf i (saying r k)) n
+
+  pub size-constant : (k : ℕ) → 1 ≤ k → k < 3 → getD (1 ∷ 0 ∷ 0 ∷ []) n 0 ≡ sizeOf k
+  unfolding kindOf
+  size-constant k l h =
+      one-size 1 n ∙ between (λ k. getD (1 ∷ []) n 0 ≡ sizeOf k) 2 1 (sizes 1, (sizes 2, tt)) k l h
+
+  pub size-negation : (k : ℕ) → k ≡ 4 → getD (2 ∷ 2 ∷ 0 ∷ []) n 0 ≡ sizeOf k
+  unfolding kindOf
+  size-negation k e = two-sizes 2 2 n ∙ rw e (sizes 4)
+
+  pub size-triple : (k : ℕ) → 5 ≤ k → k < 9 → getD (2 ∷ 2 ∷ 3 ∷ []) n 0 ≡ sizeOf k
+  unfolding kindOf
+  size-triple = between (λ k. getD (2 ∷ 2 ∷ 3 ∷ []) n 0 ≡ sizeOf k) 4 5 (sizes 5, (sizes 6, (sizes 7, (sizes 8, tt))))
+
+  pub size-inclusion : (k : ℕ) → k ≡ 9 → getD (2 ∷ 0 ∷ 0 ∷ []) n 0 ≡ sizeOf k
+  unfolding kindOf
+  size-inclusion k e = one-size 2 n ∙ rw e (sizes 9)
+
+  pub size-none : (k : ℕ) → columnsOf i (saying r k) ≡ [] → 0 ≡ sizeOf k
+  size-none k e = rw e
 
 -- No column of the list has a y.
 abbrev pub NoY : List Column → Type 0

@@ -1,25 +1,23 @@
 -- The columns of an owner, by the tests that find them.
 --   columns-record, columns-silent, columns-past   a record that states something, one that does not, none
 --   states-marked, states-term                     which records state something
---   owner-takes-y                                  a y stands where the record's kind says so
+--   query-shape, none-shape, record-shape          the shape of a column: of the query, of none, of a record
 -- Assumes nothing.
 use Prim.Native.Nat.{ℕ, zero, suc, _≤_}
-use native.Mathlib.Omega.{arith}
-use mathlib.Core.Path.{_≡_, refl, sym, ap, _∙_}
+use mathlib.Core.Path.{_≡_, refl, sym, _∙_}
 use mathlib.Core.Bool.{Bool, true, false}
-use mathlib.Core.List.{List, []}
-use lib.ListN.{getD}
-use borrow.Author.Tests.{not-false}
+use mathlib.Core.List.{List, [], _∷_}
+use lib.ListN.{length, getD}
 use Rattle.records.specs.Format.{recordAt, count}
-use Rattle.records.specs.Kinds.{none, Kind, kindOf, constructOf, isStatement}
+use Rattle.records.specs.Kinds.{kindOf, constructOf, isStatement}
 use Rattle.records.specs.Chain.{chained}
 use Rattle.records.specs.declared.fields.Record.{Record}
-use Rattle.records.proofs.Passed.{either-left}
 use Rattle.records.proofs.Accepted.{Accepted}
-use Rattle.records.proofs.Ranges.{statement-kind}
-use Rattle.records.proofs.Constructs.{record-past, kind-past}
+use Rattle.records.proofs.Constructs.{record-past}
 use Rattle.columns.specs.Columns.{Query, queryColumns, columnsOf, states, columnsAt, columnAt, takesY}
-use Rattle.columns.proofs.Groups.{no-y, plain-takes-none}
+use Rattle.columns.specs.Packed.{HasShape}
+use Rattle.columns.specs.declared.column.Shape.{Shape}
+use Rattle.columns.proofs.Groups.{two-sizes, sizes-at, no-y}
 
 module _ (v : List ℕ) (q : Query) where
   pub columns-record : (i : ℕ) → (i ≡ 0 → ⊥) → states v i ≡ true → columnsAt v q i ≡ columnsOf i (constructOf (recordAt v i))
@@ -45,29 +43,21 @@ module _ (r : Record) (v : List ℕ) (i : ℕ) (same : r ≡ recordAt v i) where
   pub states-term : isStatement (r .kind) ≡ false → true ≡ states v i
   states-term e = rw (← same, e)
 
-module _ (v : List ℕ) (good : Accepted v) (q : Query) (n : ℕ) where
-  -- what the record's kind says, whether or not the record states anything
-  abbrev kindTakesY : ℕ → Bool
-  kindTakesY i = takesY (getD (columnsOf i (constructOf (recordAt v i))) n [])
-
-  header-silent : constructOf (recordAt v 0) ≡ none
-  header-silent = ap (λ (k : Kind). k .says (recordAt v 0)) (kind-past (recordAt v 0 .kind) (omega (arith, good .header)))
-
-  pub owner-takes-y : (i : ℕ) → kindTakesY i ≡ takesY (columnAt v q i n)
+-- The shape of column n of an owner.
+module _ (v : List ℕ) (q : Query) (n : ℕ) (s : Shape) where
+  pub query-shape : s .size ≡ getD (1 ∷ 1 ∷ 0 ∷ []) n 0 → s .y ≡ false → HasShape s (columnAt v q 0 n)
   unfolding columnsAt takesY
-  owner-takes-y zero = rw header-silent (sym (no-y (queryColumns q) (refl, (refl, tt)) n))
-  owner-takes-y (suc i) = at (states v (suc i)) refl
-    where
-      at : (b : Bool) → states v (suc i) ≡ b → kindTakesY (suc i) ≡ takesY (columnAt v q (suc i) n)
-      at true e = rw (columns-record v q (suc i) (λ z. absurd (omega arith)) e)
-      at false e =
-          let statement = not-false (isStatement (recordAt v (suc i) .kind)) (either-left _ (chained v (suc i)) e) in
-          let kind : recordAt v (suc i) .kind ≡ 9 = statement-kind (recordAt v (suc i) .kind) statement in
-          sym (plain-takes-none (recordAt v (suc i)) (suc i) n (recordAt v (suc i) .kind) (λ l h. absurd (omega arith)))
-          ∙ rw (columns-silent v q (suc i) (λ z. absurd (omega arith)) e)
+  query-shape e t =
+      record {
+        size = e ∙ (two-sizes 1 1 n ∙ sizes-at (queryColumns q) n);
+        takes = t ∙ sym (no-y (queryColumns q) (refl, (refl, tt)) n);
+      }
 
-  -- past the end there is no column
-  pub past-takes-none : (i : ℕ) → count v ≤ i → false ≡ takesY (columnAt v q i n)
-  unfolding columnsAt takesY
-  past-takes-none i h =
-      rw (columns-past v q good i (λ z. absurd (omega (arith, good .sized .least))) h)
+  pub none-shape : (i : ℕ) → columnsAt v q i ≡ [] → s .size ≡ 0 → s .y ≡ false → HasShape s (columnAt v q i n)
+  unfolding takesY
+  none-shape i e z t = rw e record { size = z; takes = t }
+
+  pub record-shape : (i : ℕ) → columnsAt v q i ≡ columnsOf i (constructOf (recordAt v i))
+      → s .size ≡ length (getD (columnsOf i (constructOf (recordAt v i))) n [])
+      → s .y ≡ takesY (getD (columnsOf i (constructOf (recordAt v i))) n []) → HasShape s (columnAt v q i n)
+  record-shape i e z t = rw e record { size = z; takes = t }

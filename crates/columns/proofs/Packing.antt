@@ -1,13 +1,11 @@
 -- Literals as numbers, and up to three of them as a list.
 --   packed-positive                    a literal's number is not 0
 --   lists-one, lists-two, lists-three  literals that are listed
---   size-one, size-two, size-three     how many there are
 -- Assumes nothing.
 use Prim.Native.Nat.{ℕ, zero, suc, _<_}
 use native.Mathlib.Omega.{arith}
 use mathlib.Core.Path.{_≡_, refl}
 use mathlib.Core.List.{[], _∷_}
-use lib.ListN.{length}
 use Rattle.columns.specs.Literals.{Literal, concept, role}
 use Rattle.columns.specs.Packed.{packed, listed}
 
@@ -40,19 +38,3 @@ pub lists-three : (l m n : Literal ℕ) (a b c : ℕ) → a ≡ packed l → b �
     → listed a b c ≡ packed l ∷ packed m ∷ packed n ∷ []
 lists-three l m n a b c e f g =
     rw (e, f, g) (three (packed l) (packed m) (packed n) (packed-positive l) (packed-positive m) (packed-positive n))
-
--- How many numbers are listed, by the tests of the first, the second and the third.
-pub size-one : (a b c : ℕ) → (a ≡ 0 → ⊥) → b ≡ 0 → 1 ≡ length (listed a b c)
-size-one zero b c h k = absurd (h refl)
-size-one (suc a) b c h k = rw k
-
-pub size-two : (a b c : ℕ) → (a ≡ 0 → ⊥) → (b ≡ 0 → ⊥) → c ≡ 0 → 2 ≡ length (listed a b c)
-size-two zero b c h k l = absurd (h refl)
-size-two (suc a) zero c h k l = absurd (k refl)
-size-two (suc a) (suc b) c h k l = rw l
-
-pub size-three : (a b c : ℕ) → (a ≡ 0 → ⊥) → (b ≡ 0 → ⊥) → (c ≡ 0 → ⊥) → 3 ≡ length (listed a b c)
-size-three zero b c h k l = absurd (h refl)
-size-three (suc a) zero c h k l = absurd (k refl)
-size-three (suc a) (suc b) zero h k l = absurd (l refl)
-size-three (suc a) (suc b) (suc c) h k l = refl

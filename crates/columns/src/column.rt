@@ -1,8 +1,7 @@
-// A column with its terms put in, and the terms.
+// A column with its terms put in, and the terms; the shape of a column.
 ghost use mathlib.Core.Path.{_≡_};
 ghost use mathlib.Core.List.{[]};
-ghost use lib.ListN.{length};
-ghost use Rattle.columns.specs.Packed.{listed};
+ghost use Rattle.columns.specs.Packed.{literals};
 
 // Up to three literals; 0 stands for none.
 pub struct Column {
@@ -18,31 +17,21 @@ pub struct Terms {
     pub fx: u32,
 }
 
+// How many literals a column has, and whether y stands in it.
+pub struct Shape {
+    pub size: usize,
+    pub y: bool,
+}
+
 impl Column {
     // A column that does not exist.
     pub fn none() -> Self
-        ensures { λ r. ⌜ listed (r .first) (r .second) (r .third) ≡ [] ⌝ }
+        ensures { λ r. ⌜ literals r ≡ [] ⌝ }
     {
         Column {
             first: 0,
             second: 0,
             third: 0,
         }
-    }
-
-    // How many literals it has.
-    pub fn size(self) -> usize
-        ensures { λ r. ⌜ r ≡ length (listed (self .first) (self .second) (self .third)) ⌝ }
-    {
-        if self.first == 0 {
-            return 0;
-        }
-        if self.second == 0 {
-            return 1;
-        }
-        if self.third == 0 {
-            return 2;
-        }
-        3
     }
 }

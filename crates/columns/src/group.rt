@@ -5,16 +5,16 @@ use crate::literal::pack_concept;
 use crate::literal::pack_role;
 use records::fields::Record;
 ghost use mathlib.Core.Path.{_≡_};
-ghost use mathlib.Core.List.{[]};
-ghost use Prim.Native.Nat.{ℕ, _<_, _^_};
-ghost use lib.ListN.{getD};
+ghost use mathlib.Core.List.{[], _∷_};
+ghost use Prim.Native.Nat.{ℕ};
+ghost use lib.ListN.{length, getD};
 ghost use Rattle.records.specs.Kinds.{constructOf, negation, inclusion};
 ghost use Rattle.columns.specs.Columns.{columnsOf, takesY};
-ghost use Rattle.columns.specs.Packed.{packedAt, listed, constantGroup, junctionGroup, restrictionGroup};
+ghost use Rattle.columns.specs.Packed.{Fitting, packedBy, literals, constantGroup, junctionGroup, restrictionGroup};
 
 // Top and bottom.
 fn constant_column(sign: bool, i: u16, n: u16, at: Terms) -> Column
-    ensures { λ r. ⌜ listed (r .first) (r .second) (r .third) ≡ packedAt (at .x) (at .y) (at .fx) (getD (constantGroup sign i) n []) ⌝ }
+    ensures { λ r. ⌜ literals r ≡ packedBy at (getD (constantGroup sign i) n []) ⌝ }
 {
     if n == 0 {
         return Column {
@@ -27,7 +27,7 @@ fn constant_column(sign: bool, i: u16, n: u16, at: Terms) -> Column
 }
 
 fn negation_column(i: u16, j: u16, n: u16, at: Terms) -> Column
-    ensures { λ r. ⌜ listed (r .first) (r .second) (r .third) ≡ packedAt (at .x) (at .y) (at .fx) (getD (columnsOf i (negation j)) n []) ⌝ }
+    ensures { λ r. ⌜ literals r ≡ packedBy at (getD (columnsOf i (negation j)) n []) ⌝ }
 {
     if n < 2 {
         let sign = n == 0;
@@ -42,7 +42,7 @@ fn negation_column(i: u16, j: u16, n: u16, at: Terms) -> Column
 
 // And, or.
 fn junction_column(sign: bool, i: u16, j: u16, k: u16, n: u16, at: Terms) -> Column
-    ensures { λ r. ⌜ listed (r .first) (r .second) (r .third) ≡ packedAt (at .x) (at .y) (at .fx) (getD (junctionGroup sign i j k) n []) ⌝ }
+    ensures { λ r. ⌜ literals r ≡ packedBy at (getD (junctionGroup sign i j k) n []) ⌝ }
 {
     match n {
         0 => Column {
@@ -66,10 +66,8 @@ fn junction_column(sign: bool, i: u16, j: u16, k: u16, n: u16, at: Terms) -> Col
 
 // Some, all.
 fn restriction_column(sign: bool, i: u16, r: u16, j: u16, n: u16, at: Terms) -> Column
-    requires { ⌜ at .x < 2 ^ 20 ⌝ }
-    requires { ⌜ at .y < 2 ^ 20 ⌝ }
-    requires { ⌜ at .fx < 2 ^ 20 ⌝ }
-    ensures { λ c. ⌜ listed (c .first) (c .second) (c .third) ≡ packedAt (at .x) (at .y) (at .fx) (getD (restrictionGroup sign i r j) n []) ⌝ }
+    requires { ⌜ Fitting at ⌝ }
+    ensures { λ c. ⌜ literals c ≡ packedBy at (getD (restrictionGroup sign i r j) n []) ⌝ }
 {
     match n {
         0 => Column {
@@ -92,7 +90,7 @@ fn restriction_column(sign: bool, i: u16, r: u16, j: u16, n: u16, at: Terms) -> 
 }
 
 fn inclusion_column(j: u16, k: u16, n: u16, at: Terms) -> Column
-    ensures { λ r. ⌜ listed (r .first) (r .second) (r .third) ≡ packedAt (at .x) (at .y) (at .fx) (getD (columnsOf 0 (inclusion j k)) n []) ⌝ }
+    ensures { λ r. ⌜ literals r ≡ packedBy at (getD (columnsOf 0 (inclusion j k)) n []) ⌝ }
 {
     if n == 0 {
         return Column {
@@ -106,10 +104,8 @@ fn inclusion_column(j: u16, k: u16, n: u16, at: Terms) -> Column
 
 // Column n of record i, which is of these fields: the kind selects the group.
 pub fn group_column(fields: Record, i: u16, n: u16, at: Terms) -> Column
-    requires { ⌜ at .x < 2 ^ 20 ⌝ }
-    requires { ⌜ at .y < 2 ^ 20 ⌝ }
-    requires { ⌜ at .fx < 2 ^ 20 ⌝ }
-    ensures { λ r. ⌜ listed (r .first) (r .second) (r .third) ≡ packedAt (at .x) (at .y) (at .fx) (getD (columnsOf i (constructOf fields)) n []) ⌝ }
+    requires { ⌜ Fitting at ⌝ }
+    ensures { λ r. ⌜ literals r ≡ packedBy at (getD (columnsOf i (constructOf fields)) n []) ⌝ }
 {
     let kind = fields.kind;
     match kind {
@@ -119,6 +115,32 @@ pub fn group_column(fields: Record, i: u16, n: u16, at: Terms) -> Column
         7..=8 => restriction_column(kind == 7, i, fields.a, fields.b, n, at),
         9 => inclusion_column(fields.a, fields.b, n, at),
         _ => Column::none(),
+    }
+}
+
+// The size of column n of at most three, which have these; 0 past them.
+pub fn size_at(n: u16, first: usize, second: usize, third: usize) -> usize
+    ensures { λ r. ⌜ r ≡ getD (first ∷ second ∷ third ∷ []) n 0 ⌝ }
+{
+    match n {
+        0 => first,
+        1 => second,
+        2 => third,
+        _ => 0,
+    }
+}
+
+// How many literals column n of a record of this kind has.
+pub fn group_size(fields: Record, n: u16) -> usize
+    ensures { λ r. ⌜ ((i : ℕ) → r ≡ length (getD (columnsOf i (constructOf fields)) n [])) ⌝ }
+{
+    let kind = fields.kind;
+    match kind {
+        1..=2 => size_at(n, 1, 0, 0),
+        4 => size_at(n, 2, 2, 0),
+        5..=8 => size_at(n, 2, 2, 3),
+        9 => size_at(n, 2, 0, 0),
+        _ => 0,
     }
 }
 

@@ -4,6 +4,6 @@ mod group;
 mod literal;
 mod owner;
 
+pub use owner::column_shape;
 pub use owner::find_column;
 pub use owner::query_column;
-pub use owner::takes_y;

@@ -1,10 +1,10 @@
 // Literals as numbers (specs/Packed.antt).
 ghost use mathlib.Core.Path.{_≡_};
 ghost use mathlib.Core.Bool.{not};
-ghost use Prim.Native.Nat.{_<_, _^_};
-ghost use Rattle.columns.specs.Literals.{concept, role};
-ghost use Rattle.columns.specs.Packed.{packed};
+ghost use Prim.Native.Nat.{_<_};
 ghost use Rattle.records.specs.Atoms.{digit};
+ghost use Rattle.columns.specs.Literals.{concept, role};
+ghost use Rattle.columns.specs.Packed.{packed, termLimit};
 
 fn digit(b: bool) -> u64
     ensures { λ r. ⌜ r ≡ digit b ⌝ }
@@ -21,8 +21,8 @@ pub fn pack_concept(positive: bool, number: u16, term: u32) -> u64
 
 // Whether the elements of two terms are joined by a role.
 pub fn pack_role(positive: bool, number: u16, from: u32, to: u32) -> u64
-    requires { ⌜ from < 2 ^ 20 ⌝ }
-    requires { ⌜ to < 2 ^ 20 ⌝ }
+    requires { ⌜ from < termLimit ⌝ }
+    requires { ⌜ to < termLimit ⌝ }
     ensures { λ r. ⌜ r ≡ packed (role positive number from to) ⌝ }
 {
     digit(positive)

@@ -1,27 +1,27 @@
 // The columns of an owner: 0 is the query, others are records of the vocabulary.
 use crate::column::Column;
+use crate::column::Shape;
 use crate::column::Terms;
 use crate::group::group_column;
+use crate::group::group_size;
 use crate::group::group_takes_y;
+use crate::group::size_at;
 use crate::literal::pack_concept;
 use records::fields::Record;
 use records::fields::read_at;
 use records::kinds::is_statement;
 ghost use mathlib.Core.Path.{_≡_};
-ghost use mathlib.Core.Bool.{false, not, _&&_};
 ghost use mathlib.Core.List.{List, []};
-ghost use Prim.Native.Nat.{ℕ, _+_, _*_, _≤_, _<_, _^_};
-ghost use lib.ListN.{length, getD};
-ghost use Rattle.records.specs.Outcome.{accepted};
-ghost use Rattle.records.specs.Format.{recordAt, count};
-ghost use Rattle.records.specs.Check.{vocabularyCheck};
+ghost use Prim.Native.Nat.{ℕ};
+ghost use lib.ListN.{getD};
+ghost use Rattle.records.specs.Format.{recordAt};
 ghost use Rattle.records.specs.Chain.{chained};
-ghost use Rattle.columns.specs.Columns.{Query, queryColumns, states, columnAt, takesY};
-ghost use Rattle.columns.specs.Packed.{packedAt, listed};
+ghost use Rattle.columns.specs.Columns.{Query, queryColumns, states, columnAt};
+ghost use Rattle.columns.specs.Packed.{Marked, Fitting, HasShape, packedAt, packedBy, literals};
 
 // Column n of the query "a within b": it speaks of the constant, whatever x and y are.
 pub fn query_column(a: u16, b: u16, n: u16) -> Column
-    ensures { λ r. ⌜ ((nx ny nf : ℕ) → listed (r .first) (r .second) (r .third) ≡ packedAt nx ny nf (getD (queryColumns record { a = a; b = b }) n [])) ⌝ }
+    ensures { λ r. ⌜ ((nx ny nf : ℕ) → literals r ≡ packedAt nx ny nf (getD (queryColumns record { a = a; b = b }) n [])) ⌝ }
 {
     match n {
         0 => Column {
@@ -58,12 +58,9 @@ pub fn find_column(
     n: u16,
     at: Terms,
 ) -> Column
-    requires { ⌜ vocabularyCheck (now v) ≡ accepted (count (now v)) ⌝ }
-    requires { ⌜ ((i : ℕ) → getD (now marks) i false ≡ chained (now v) i) ⌝ }
-    requires { ⌜ at .x < 2 ^ 20 ⌝ }
-    requires { ⌜ at .y < 2 ^ 20 ⌝ }
-    requires { ⌜ at .fx < 2 ^ 20 ⌝ }
-    ensures { λ r. ⌜ listed (r .first) (r .second) (r .third) ≡ packedAt (at .x) (at .y) (at .fx) (columnAt (now (v .entry)) record { a = a; b = b } owner n) ⌝ }
+    requires { ⌜ Marked (now v) (now marks) ⌝ }
+    requires { ⌜ Fitting at ⌝ }
+    ensures { λ r. ⌜ literals r ≡ packedBy at (columnAt (now (v .entry)) record { a = a; b = b } owner n) ⌝ }
 {
     if owner == 0 {
         return query_column(a, b, n);
@@ -79,14 +76,27 @@ pub fn find_column(
     group_column(fields, owner, n, at)
 }
 
-// Whether y stands in column n of an owner.
-pub fn takes_y(v: &[u8], owner: u16, n: u16) -> bool
-    requires { ⌜ vocabularyCheck (now v) ≡ accepted (count (now v)) ⌝ }
-    ensures { λ r. ⌜ ((q : Query) → r ≡ takesY (columnAt (now (v .entry)) q owner n)) ⌝ }
+// The shape of column n of an owner, whatever the query's terms are; nothing stands in one that it does not have.
+pub fn column_shape(v: &[u8], marks: &[bool; Record::LIMIT], owner: u16, n: u16) -> Shape
+    requires { ⌜ Marked (now v) (now marks) ⌝ }
+    ensures { λ r. ⌜ ((q : Query) → HasShape r (columnAt (now (v .entry)) q owner n)) ⌝ }
 {
-    let i = owner as usize;
-    if i < v.len() / Record::SIZE {
-        return group_takes_y(read_at(v, i), n);
+    if owner == 0 {
+        return Shape {
+            size: size_at(n, 1, 1, 0),
+            y: false,
+        };
     }
-    false
+    let i = owner as usize;
+    if i >= v.len() / Record::SIZE {
+        return Shape { size: 0, y: false };
+    }
+    let fields = read_at(v, i);
+    if !has_columns(fields, marks[i]) {
+        return Shape { size: 0, y: false };
+    }
+    Shape {
+        size: group_size(fields, n),
+        y: group_takes_y(fields, n),
+    }
 }

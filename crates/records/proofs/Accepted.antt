@@ -10,7 +10,7 @@
 use Prim.Native.Nat.{ℕ, zero, suc, _-_, _≤_, _<_}
 use native.Mathlib.Omega.{arith}
 use mathlib.Core.Path.{_≡_, refl, sym, subst, _∙_}
-use mathlib.Core.Bool.{Bool, true, false, cond, not, _&&_, _||_}
+use mathlib.Core.Bool.{Bool, true, false, not, _&&_, _||_}
 use mathlib.Core.List.{List, [], _∷_}
 use lib.ListN.{length, getD}
 use mathlib.Core.Logic.{inl, inr}
@@ -23,7 +23,7 @@ use Rattle.records.specs.Kinds.{universal, inclusion, constructOf, holds
 use Rattle.records.specs.Kinds.{Class, Silent, Connective, Name, Restriction, Statement, Kind, noKind, kinds, kindOf}
 use Rattle.records.specs.Kinds.{sortsOf, isTerm, isStatement}
 use Rattle.records.specs.Check.{headCheck, lengthCheck, headerFits, headerCheck, kindCheck, named, labelled, termFits}
-use Rattle.records.specs.Check.{linkFits, fits, noFault, fault, firstFault, rowsCheck, recordCheck, nextFits, linkCheck}
+use Rattle.records.specs.Check.{linkFits, fieldFits, rowsCheck, recordCheck, nextFits, linkCheck}
 use Rattle.records.specs.Check.{linksCheck, IsWellFormed, recordsCheck, vocabularyCheck}
 use Rattle.records.specs.declared.fields.Record.{Record}
 use Rattle.records.specs.declared.kinds.Sort.{Sort}
@@ -33,7 +33,7 @@ use Rattle.records.proofs.Passed.{clash, Sized, length-passed, both-lef
 use Rattle.records.proofs.Passed.{turn-at, any-at}
 use Rattle.records.proofs.Following.{Ahead, Onward}
 use Rattle.records.proofs.Ranges.{statement-range, statement-kind}
-use Rattle.records.proofs.Rows.{fault-known, rows-first}
+use Rattle.records.proofs.Rows.{rows-passed}
 
 -- What holds of every entry of a list holds of the entry at an index, and so does what follows from it.
 abbrev pub All : {A : Type 0} → (A → Type 0) → List A → Type 0
@@ -131,11 +131,6 @@ pub record Accepted (v : List ℕ) : Type 0 where
   pub first : Linked v 0 (firstStatement v)
   pub rises : (i : ℕ) → 0 < i → i < count v → recordAt v i .kind ≡ 9 → Linked v i (recordAt v i .next)
 
--- a field that no row refuses
-unfaulted : (ok : Bool) (m : ℕ) → m < noFault → cond ok noFault m ≡ noFault → ok ≡ true
-unfaulted true m h e = refl
-unfaulted false m h e = absurd (omega arith)
-
 module _ (v : List ℕ) (i : ℕ) where
   operand : (x : ℕ) → termFits v i x ≡ true → Operand v i x
   operand x e =
@@ -160,25 +155,21 @@ module _ (v : List ℕ) (i : ℕ) where
             target = statement-kind (recordAt v x .kind) is;
           }
 
-  field-held : (sort : Sort) (x : ℕ) → 7 < fault v i sort x → Held v i sort x
-  field-held sort x h = at sort (fault-known v i sort x .1 h)
-    where
-      at : (sort : Sort) → fault v i sort x ≡ noFault → Held v i sort x
-      at Spare e = eqb-true x 0 (unfaulted (fits v i Spare x) 4 (omega arith) e)
-      at Term e = operand x (unfaulted (fits v i Term x) 5 (omega arith) e)
-      at Role e = ltb-true x (roleCount v) (unfaulted (fits v i Role x) 6 (omega arith) e)
-      at Label e = not-true (labelled v i x) (unfaulted (fits v i Label x) 7 (omega arith) e)
-      at Link e = tt
+  field-held : (sort : Sort) (x : ℕ) → fieldFits v i sort x ≡ true → Held v i sort x
+  field-held Spare x e = eqb-true x 0 e
+  field-held Term x e = operand x e
+  field-held Role x e = ltb-true x (roleCount v) e
+  field-held Label x e = not-true (labelled v i x) e
+  field-held Link x e = tt
 
   -- rows 4 to 7 passed
   rows-held : (s : Sorts) (r : Record) → rowsCheck v i s r ≡ pass → Fields v i s r
   rows-held s r e =
-      let least = firstFault v i s r in
-      let none : least ≡ noFault = eqb-true least noFault (require-passed (eqb least noFault) least i (rows-first v i s r ∙ e)) in
+      let fit = rows-passed v i s r e in
       record {
-        a = field-held (s .a) (r .a) (omega arith);
-        b = field-held (s .b) (r .b) (omega arith);
-        next = field-held (s .next) (r .next) (omega arith);
+        a = field-held (s .a) (r .a) (fit .0);
+        b = field-held (s .b) (r .b) (fit .1);
+        next = field-held (s .next) (r .next) (fit .2);
       }
 
   record-held : recordCheck v i ≡ pass → Fields v i (sortsOf (recordAt v i .kind)) (recordAt v i)

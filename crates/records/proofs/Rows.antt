@@ -1,7 +1,8 @@
 -- Rows 4 to 7 at a record, by the faults of its three fields.
---   fault-known   a fault is one of the rows 4 to 7, or there is none
---   rows-first    the smallest of the three faults is the first row that applies
---   rows-at       the same, put together from what the callees answered
+--   rows-fit      where all three fields fit, the rows pass
+--   rows-unfit    where not all do, the smallest row of those that do not is the first that applies
+--   rows-passed   where the rows pass, all three fit
+--   rows-at       the rows of a record, where its sorts were told by its kind
 --   head-at       row 8 at the header, put together from what the callees answered
 -- Assumes nothing.
 use Prim.Native.Nat.{ℕ, min, _<_, _≤_}
@@ -11,14 +12,16 @@ use mathlib.Core.Path.{_≡_, refl, sym, _∙_}
 use mathlib.Core.Bool.{Bool, true, false, cond, not, _&&_, _||_, or-true, or-false}
 use mathlib.Core.List.{List}
 use lib.Dec.{eqb}
-use borrow.Author.Tests.{eq-eqb, ne-eqb}
+use borrow.Author.Tests.{eq-eqb, ne-eqb, eqb-true}
 use Rattle.records.specs.Outcome.{Check, accepted, refused, pass, _then_, require}
 use Rattle.records.specs.Format.{recordAt}
-use Rattle.records.specs.Check.{fits, row, clear, rowFits, rowsCheck, noFault, fault, firstFault, linkFits, headCheck}
+use Rattle.records.specs.Kinds.{sortsOf}
+use Rattle.records.specs.Check.{fits, row, clear, rowFits, rowsCheck, fieldFits, noFault, firstOf, linkFits, headCheck}
 use Rattle.records.specs.declared.fields.Record.{Record}
 use Rattle.records.specs.declared.kinds.Sort.{Sort}
 use Rattle.records.specs.declared.kinds.Sort.the-variants.{Spare, Term, Role, Label, Link}
 use Rattle.records.specs.declared.kinds.Sorts.{Sorts}
+use Rattle.records.proofs.Passed.{clash, require-passed}
 
 then-pass : (a : Check) → (a then pass) ≡ a
 then-pass (accepted u) = refl
@@ -68,41 +71,112 @@ own-row : (m n : ℕ) (ok : Bool) → n < noFault → (not (eqb m n) || ok) ≡ 
 own-row m n true h = or-true (not (eqb m n)) ∙ rw (ne-eqb noFault n (λ e. omega arith))
 own-row m n false h = or-false (not (eqb m n))
 
+either-row : (ok : Bool) (m : ℕ) → 4 ≤ m → m < 8 → (4 ≤ cond ok noFault m) × (7 < cond ok noFault m → cond ok noFault m ≡ noFault)
+either-row true m l h = (omega arith, λ z. refl)
+either-row false m l h = (l, λ z. absurd (omega arith))
+
+row-small : (sort : Sort) → row sort < noFault
+row-small Spare = omega arith
+row-small Term = omega arith
+row-small Role = omega arith
+row-small Label = omega arith
+row-small Link = omega arith
+
 module _ (v : List ℕ) (i : ℕ) where
-  clear-fault : (n : ℕ) (sort : Sort) (x : ℕ) → n < 8 → clear v i n sort x ≡ not (eqb (fault v i sort x) n)
+  -- the row that refuses x, if one of the rows 4 to 7 does
+  abbrev fault : Sort → ℕ → ℕ
+  fault sort x = cond (fieldFits v i sort x) noFault (row sort)
+
+  clear-fault : (n : ℕ) (sort : Sort) (x : ℕ) → n < 8 → clear v i n sort x ≡ not (eqb (fault sort x) n)
   clear-fault n Spare x h = own-row 4 n _ (omega arith)
   clear-fault n Term x h = own-row 5 n _ (omega arith)
   clear-fault n Role x h = own-row 6 n _ (omega arith)
   clear-fault n Label x h = own-row 7 n _ (omega arith)
   clear-fault n Link x h = rw (ne-eqb 8 n (λ e. omega arith), ne-eqb noFault n (λ e. omega arith))
 
-  either-row : (ok : Bool) (m : ℕ) → 4 ≤ m → m < 8 → (4 ≤ cond ok noFault m) × (7 < cond ok noFault m → cond ok noFault m ≡ noFault)
-  either-row true m l h = (omega arith, λ z. refl)
-  either-row false m l h = (l, λ z. absurd (omega arith))
-
-  pub fault-known : (sort : Sort) (x : ℕ) → (4 ≤ fault v i sort x) × (7 < fault v i sort x → fault v i sort x ≡ noFault)
+  fault-known : (sort : Sort) (x : ℕ) → (4 ≤ fault sort x) × (7 < fault sort x → fault sort x ≡ noFault)
   fault-known Spare x = either-row (fits v i Spare x) 4 (omega arith) (omega arith)
   fault-known Term x = either-row (fits v i Term x) 5 (omega arith) (omega arith)
   fault-known Role x = either-row (fits v i Role x) 6 (omega arith) (omega arith)
   fault-known Label x = either-row (fits v i Label x) 7 (omega arith) (omega arith)
   fault-known Link x = (omega arith, λ z. refl)
 
-  pub rows-first : (s : Sorts) (r : Record) → require (eqb (firstFault v i s r) noFault) (firstFault v i s r) i ≡ rowsCheck v i s r
-  rows-first s r =
-      let a = fault-known (s .a) (r .a) in
-      let b = fault-known (s .b) (r .b) in
-      let c = fault-known (s .next) (r .next) in
-      let free-row : (n : ℕ) → n < 8 → free i (fault v i (s .a) (r .a)) (fault v i (s .b) (r .b)) (fault v i (s .next) (r .next)) n ≡ rowFits v i n s r
-      = λ n h. rw (clear-fault n (s .a) (r .a) h, clear-fault n (s .b) (r .b) h, clear-fault n (s .next) (r .next) h) in
-      first-row i (fault v i (s .a) (r .a)) (fault v i (s .b) (r .b)) (fault v i (s .next) (r .next))
+module _ (v : List ℕ) (i : ℕ) (s : Sorts) (r : Record) where
+  -- the faults of A, B and next
+  abbrev inA : ℕ
+  inA = fault v i (s .a) (r .a)
+
+  abbrev inB : ℕ
+  inB = fault v i (s .b) (r .b)
+
+  abbrev inNext : ℕ
+  inNext = fault v i (s .next) (r .next)
+
+  rows-first : answer i inA inB inNext ≡ rowsCheck v i s r
+  rows-first =
+      let a = fault-known v i (s .a) (r .a) in
+      let b = fault-known v i (s .b) (r .b) in
+      let c = fault-known v i (s .next) (r .next) in
+      let free-row : (n : ℕ) → n < 8 → free i inA inB inNext n ≡ rowFits v i n s r
+      = λ n h. rw (clear-fault v i n (s .a) (r .a) h, clear-fault v i n (s .b) (r .b) h, clear-fault v i n (s .next) (r .next) h) in
+      first-row i inA inB inNext
       (omega (arith, a .0, b .0, c .0))
       (λ h. omega (arith, a .1 (omega arith), b .1 (omega arith), c .1 (omega arith)))
       ∙ rw (free-row 4 (omega arith), free-row 5 (omega arith), free-row 6 (omega arith), free-row 7 (omega arith))
 
-  -- the same, put together from what the callees answered
-  pub rows-at : (s : Sorts) (r : Record) (o : Check) (a b c d m : ℕ) → a ≡ fault v i (s .a) (r .a) → b ≡ fault v i (s .b) (r .b)
-      → c ≡ fault v i (s .next) (r .next) → d ≡ min b c → m ≡ min a d → o ≡ require (eqb m noFault) m i → o ≡ rowsCheck v i s r
-  rows-at s r o a b c d m fa fb fc least first h = h ∙ rw (first, least, fa, fb, fc) (rows-first s r)
+-- Where all fit, or not all, and the smallest row is of the first that applies.
+module _ (v : List ℕ) (i : ℕ) (s : Sorts) (r : Record) (a b c : Bool) (fa : a ≡ fieldFits v i (s .a) (r .a))
+    (fb : b ≡ fieldFits v i (s .b) (r .b)) (fc : c ≡ fieldFits v i (s .next) (r .next)) where
+  abbrev said : Check
+  said = require (eqb (firstOf s a b c) noFault) (firstOf s a b c) i
+
+  told : said ≡ rowsCheck v i s r
+  told = rw (fa, fb, fc) (rows-first v i s r)
+
+  pub rows-fit : (o : Bool) → o ≡ (a && (b && c)) → o ≡ true → pass ≡ rowsCheck v i s r
+  rows-fit o e t = at a b c (sym e ∙ t) ∙ told
+    where
+      at : (a b c : Bool) → (a && (b && c)) ≡ true → pass ≡ require (eqb (firstOf s a b c) noFault) (firstOf s a b c) i
+      at true true true e = refl
+      at true true false e = absurd (clash (cc))
+      at true false c e = absurd (clash (cc))
+      at false b c e = absurd (clash (cc))
+
+  pub rows-unfit : (o : Bool) (m : ℕ) → o ≡ (a && (b && c)) → o ≡ false → m ≡ firstOf s a b c → refused m i ≡ rowsCheck v i s r
+  rows-unfit o m e t q = rw q (at a b c (sym e ∙ t)) ∙ told
+    where
+      under : (n : ℕ) → n < noFault → refused n i ≡ require (eqb n noFault) n i
+      under n h = rw (ne-eqb n noFault (λ z. omega arith))
+
+      at : (a b c : Bool) → (a && (b && c)) ≡ false
+          → refused (firstOf s a b c) i ≡ require (eqb (firstOf s a b c) noFault) (firstOf s a b c) i
+      at true true true e = absurd (clash (cc))
+      at true true false e = under (firstOf s true true false) (omega (arith, row-small (s .next)))
+      at true false c e = under (firstOf s true false c) (omega (arith, row-small (s .b)))
+      at false b c e = under (firstOf s false b c) (omega (arith, row-small (s .a)))
+
+-- What passed rows tell.
+module _ (v : List ℕ) (i : ℕ) (s : Sorts) (r : Record) (e : rowsCheck v i s r ≡ pass) where
+  none : min (inA v i s r) (min (inB v i s r) (inNext v i s r)) ≡ noFault
+  none =
+      eqb-true _ noFault
+      (require-passed (eqb (first i (inA v i s r) (inB v i s r) (inNext v i s r)) noFault) _ i (rows-first v i s r ∙ e))
+
+  unfaulted : (sort : Sort) (x : ℕ) → 7 < fault v i sort x → fieldFits v i sort x ≡ true
+  unfaulted sort x h = at (fieldFits v i sort x) (fault-known v i sort x .1 h)
+    where
+      at : (ok : Bool) → cond ok noFault (row sort) ≡ noFault → ok ≡ true
+      at true q = refl
+      at false q = absurd (omega (arith, row-small sort))
+
+  pub rows-passed : (fieldFits v i (s .a) (r .a) ≡ true) × (fieldFits v i (s .b) (r .b) ≡ true) × (fieldFits v i (s .next) (r .next) ≡ true)
+  rows-passed =
+      (unfaulted (s .a) (r .a) (omega (arith, none)), unfaulted (s .b) (r .b) (omega (arith, none)), unfaulted (s .next) (r .next) (omega (arith, none)))
+
+-- The sorts told by the kind.
+pub rows-at : (v : List ℕ) (i : ℕ) (r : Record) (s : Sorts) (o : Check)
+    → o ≡ rowsCheck v i s r → s ≡ sortsOf (r .kind) → o ≡ rowsCheck v i (sortsOf (r .kind)) r
+rows-at v i r s o h e = rw e at h
 
 pub head-at : (v : List ℕ) (r : Record) (fit : Bool) (o : Check)
     → r ≡ recordAt v 0 → fit ≡ linkFits v 0 (r .a) → o ≡ require fit 8 0 → o ≡ headCheck v

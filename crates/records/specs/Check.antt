@@ -86,16 +86,16 @@ rowCheck v i n s r = require (rowFits v i n s r) n i
 abbrev pub rowsCheck : List ℕ → ℕ → Sorts → Record → Check
 rowsCheck v i s r = rowCheck v i 4 s r then rowCheck v i 5 s r then rowCheck v i 6 s r then rowCheck v i 7 s r
 
--- What the code's check of a field answers: which of the rows 4 to 7 refuses x in a field of record i that holds this sort, or
--- that none does. Of a record the smallest is the first that applies (proofs/Rows.antt). Row 8 comes after all records.
+-- Rows 4 to 7 have nothing against x in a field of record i that holds this sort. Row 8 comes after all records.
+abbrev pub fieldFits : List ℕ → ℕ → Sort → ℕ → Bool
+fieldFits v i sort x = eqb (row sort) 8 || fits v i sort x
+
+-- What the code computes with: of the fields that do not fit, the smallest row is the first that applies (proofs/Rows.antt).
 abbrev pub noFault : ℕ
 noFault = 255
 
-abbrev pub fault : List ℕ → ℕ → Sort → ℕ → ℕ
-fault v i sort x = cond (eqb (row sort) 8 || fits v i sort x) noFault (row sort)
-
-abbrev pub firstFault : List ℕ → ℕ → Sorts → Record → ℕ
-firstFault v i s r = min (fault v i (s .a) (r .a)) (min (fault v i (s .b) (r .b)) (fault v i (s .next) (r .next)))
+abbrev pub firstOf : Sorts → Bool → Bool → Bool → ℕ
+firstOf s a b next = min (cond a noFault (row (s .a))) (min (cond b noFault (row (s .b))) (cond next noFault (row (s .next))))
 
 -- Rows 3 to 7
 abbrev pub fieldsCheck : List ℕ → ℕ → Record → Check

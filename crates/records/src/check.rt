@@ -6,19 +6,19 @@ use crate::answers::pass_if;
 use crate::fields::Record;
 use crate::fields::read_at;
 use crate::kinds::Sort;
+use crate::kinds::Sorts;
 use crate::kinds::is_statement;
 use crate::kinds::is_term;
-use crate::kinds::sorts_of;
 ghost use mathlib.Core.Path.{_≡_};
 ghost use Prim.Native.Nat.{ℕ, _+_, _*_, _-_, _≤_, min};
-ghost use mathlib.Core.Bool.{cond};
+ghost use mathlib.Core.Bool.{cond, _&&_};
 ghost use lib.ListN.{length};
 ghost use Rattle.records.specs.Outcome.{inTurn};
 ghost use Rattle.records.specs.Answers.{checked, counted};
 ghost use Rattle.records.specs.Format.{recordAt, recordOf, roleCount, count};
 ghost use Rattle.records.specs.Kinds.{sortsOf};
 ghost use Rattle.records.specs.Check.{lengthFits, lengthCheck, headerFits, headerCheck, kindFits, kindCheck, named};
-ghost use Rattle.records.specs.Check.{labelled, termFits, linkFits, noFault, fault, rowsCheck, fieldsCheck, recordCheck, linkCheck};
+ghost use Rattle.records.specs.Check.{labelled, termFits, linkFits, fieldFits, row, noFault, firstOf, rowsCheck, fieldsCheck, recordCheck, linkCheck};
 ghost use Rattle.records.specs.Check.{linksCheck, recordsCheck, vocabularyCheck};
 
 // Row 1: the length.
@@ -147,26 +147,39 @@ fn link_fits(v: &[u8], i: usize, next: u16) -> bool
     false
 }
 
-// The row that has something against a field, unless it fits.
+// One field of record i: whether rows 4 to 7 have nothing against x where this sort is held. Row 8 comes after all records.
+fn field_fits(v: &[u8], i: usize, roles: u16, sort: Sort, x: u16) -> bool
+    requires { ⌜ 8 * i ≤ length (now v) ⌝ }
+    requires { ⌜ roles ≡ roleCount (now v) ⌝ }
+    ensures { λ r. ⌜ r ≡ fieldFits (now (v .entry)) i sort x ⌝ }
+{
+    match sort {
+        Sort::Spare => x == 0,
+        Sort::Term => term_fits(v, i, x),
+        Sort::Role => x < roles,
+        Sort::Label => !is_labelled(v, i, x),
+        Sort::Link => true,
+    }
+}
+
+// The row that speaks of fields of this sort.
+fn row_of(sort: Sort) -> u8
+    ensures { λ r. ⌜ r ≡ row sort ⌝ }
+{
+    match sort {
+        Sort::Spare => 4,
+        Sort::Term => 5,
+        Sort::Role => 6,
+        Sort::Label => 7,
+        Sort::Link => 8,
+    }
+}
+
+// The row that refuses a field, unless it fits.
 fn fault_unless(fits: bool, row: u8) -> u8
     ensures { λ r. ⌜ r ≡ cond fits noFault row ⌝ }
 {
     if fits { Sort::NO_FAULT } else { row }
-}
-
-// One field of record i: which of the rows 4 to 7 refuses x where this sort is held. Row 8 comes after all records.
-fn find_fault(v: &[u8], i: usize, roles: u16, sort: Sort, x: u16) -> u8
-    requires { ⌜ 8 * i ≤ length (now v) ⌝ }
-    requires { ⌜ roles ≡ roleCount (now v) ⌝ }
-    ensures { λ r. ⌜ r ≡ fault (now (v .entry)) i sort x ⌝ }
-{
-    match sort {
-        Sort::Spare => fault_unless(x == 0, 4),
-        Sort::Term => fault_unless(term_fits(v, i, x), 5),
-        Sort::Role => fault_unless(x < roles, 6),
-        Sort::Label => fault_unless(!is_labelled(v, i, x), 7),
-        Sort::Link => Sort::NO_FAULT,
-    }
 }
 
 fn smaller(x: u8, y: u8) -> u8
@@ -175,21 +188,126 @@ fn smaller(x: u8, y: u8) -> u8
     if x < y { x } else { y }
 }
 
-// Rows 4 to 7: the kind selects what the fields hold; the smallest fault is of the first row that applies.
+// The first row that refuses one of the three fields, where it is told which fit.
+fn first_fault(sorts: Sorts, a: bool, b: bool, next: bool) -> u8
+    ensures { λ r. ⌜ r ≡ firstOf sorts a b next ⌝ }
+{
+    let first = sorts.a;
+    let second = sorts.b;
+    let third = sorts.next;
+    let rest = smaller(
+        fault_unless(b, row_of(second)),
+        fault_unless(next, row_of(third)),
+    );
+    smaller(fault_unless(a, row_of(first)), rest)
+}
+
+fn all_fit(a: bool, b: bool, next: bool) -> bool
+    ensures { λ r. ⌜ r ≡ (a && (b && next)) ⌝ }
+{
+    if !a {
+        return false;
+    }
+    if !b {
+        return false;
+    }
+    next
+}
+
+// Rows 4 to 7 at a record whose fields hold these sorts.
+fn check_sorts(v: &[u8], i: usize, roles: u16, fields: Record, sorts: Sorts) -> Checked
+    requires { ⌜ 8 * i ≤ length (now v) ⌝ }
+    requires { ⌜ roles ≡ roleCount (now v) ⌝ }
+    ensures { λ r. ⌜ checked r ≡ rowsCheck (now (v .entry)) i sorts fields ⌝ }
+{
+    let first = sorts.a;
+    let second = sorts.b;
+    let third = sorts.next;
+    let a = field_fits(v, i, roles, first, fields.a);
+    let b = field_fits(v, i, roles, second, fields.b);
+    let next = field_fits(v, i, roles, third, fields.next);
+    if all_fit(a, b, next) {
+        return Checked::Fine;
+    }
+    let number = first_fault(sorts, a, b, next);
+    Checked::Refused { number, place: i }
+}
+
+// Rows 4 to 7: the kind selects what the fields hold. (An arm for each, so that the compiler makes a check of its own of it.)
 fn check_rows(v: &[u8], i: usize, roles: u16, fields: Record) -> Checked
     requires { ⌜ 8 * i ≤ length (now v) ⌝ }
     requires { ⌜ roles ≡ roleCount (now v) ⌝ }
     ensures { λ r. ⌜ checked r ≡ rowsCheck (now (v .entry)) i (sortsOf (fields .kind)) fields ⌝ }
 {
-    let sorts = sorts_of(fields.kind);
-    let first = sorts.a;
-    let second = sorts.b;
-    let third = sorts.next;
-    let a = find_fault(v, i, roles, first, fields.a);
-    let b = find_fault(v, i, roles, second, fields.b);
-    let next = find_fault(v, i, roles, third, fields.next);
-    let fault = smaller(a, smaller(b, next));
-    pass_if(fault == Sort::NO_FAULT, fault, i)
+    let kind = fields.kind;
+    match kind {
+        3 => check_sorts(
+            v,
+            i,
+            roles,
+            fields,
+            Sorts {
+                a: Sort::Label,
+                b: Sort::Spare,
+                next: Sort::Spare,
+            },
+        ),
+        4 => check_sorts(
+            v,
+            i,
+            roles,
+            fields,
+            Sorts {
+                a: Sort::Term,
+                b: Sort::Spare,
+                next: Sort::Spare,
+            },
+        ),
+        5..=6 => check_sorts(
+            v,
+            i,
+            roles,
+            fields,
+            Sorts {
+                a: Sort::Term,
+                b: Sort::Term,
+                next: Sort::Spare,
+            },
+        ),
+        7..=8 => check_sorts(
+            v,
+            i,
+            roles,
+            fields,
+            Sorts {
+                a: Sort::Role,
+                b: Sort::Term,
+                next: Sort::Spare,
+            },
+        ),
+        9 => check_sorts(
+            v,
+            i,
+            roles,
+            fields,
+            Sorts {
+                a: Sort::Term,
+                b: Sort::Term,
+                next: Sort::Link,
+            },
+        ),
+        _ => check_sorts(
+            v,
+            i,
+            roles,
+            fields,
+            Sorts {
+                a: Sort::Spare,
+                b: Sort::Spare,
+                next: Sort::Spare,
+            },
+        ),
+    }
 }
 
 // Rows 3 to 7 at record i, whose eight bytes are `part`.

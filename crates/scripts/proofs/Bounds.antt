@@ -24,19 +24,19 @@ use Rattle.records.specs.Check.{vocabularyCheck}
 use Rattle.records.proofs.Accepted.{All}
 use Rattle.records.proofs.Bounds.{Small, Nearby, require-near, then-near, then-small, turns-near, vocabulary-small}
 use Rattle.types.specs.Compare.{termCheck}
-use Rattle.scripts.specs.Format.{partAt, entryAt, entries, queryOf, firstStep, lineOf, chain}
+use Rattle.scripts.specs.Format.{entrySize, entryLimit, partAt, entryAt, entries, queryOf, firstStep, lineOf, chain}
 use Rattle.scripts.specs.Form.{lengthFits, lengthCheck, headerFits, headerCheck, queryCheck, kindFits, unusedFits}
-use Rattle.scripts.specs.Form.{termFits, stepFits, entryCheck, entriesCheck, linkFits, nextFits, linkCheck, linksCheck}
+use Rattle.scripts.specs.Form.{termFits, lineFits, entryCheck, entriesCheck, linkFits, nextFits, linkCheck, linksCheck}
 use Rattle.scripts.specs.Form.{formCheck}
-use Rattle.scripts.specs.Calculus.{Step}
-use Rattle.scripts.specs.Run.{Frames, stepAt, isNil, isStart, connects, reduces, hasRoom, stepCheck, stepped, run}
-use Rattle.scripts.specs.Run.{chainCheck, scriptCheck}
+use Rattle.scripts.specs.Steps.{Step}
+use Rattle.scripts.specs.Run.{Frames, isNil, isStart, Setting, connects, reduces, hasRoom, stepCheck, stepped, run}
+use Rattle.scripts.specs.Run.{chainCheck, writtenOut, stepAt, scriptCheck}
 use Rattle.scripts.proofs.Formed.{OnChain, length-sized, formed, chain-ahead}
 use Rattle.scripts.proofs.Walking.{chain-few}
 
 -- A script has at most 2,048 records, a vocabulary 512; row 10's place is a number of the query.
 abbrev pub mostPlace : List ℕ → ℕ
-mostPlace s = max 2048 (max (queryOf s .a) (queryOf s .b))
+mostPlace s = max entryLimit (max (queryOf s .a) (queryOf s .b))
 
 abbrev Within : ℕ → List ℕ → Type 0
 Within m [] = Unit {0}
@@ -63,7 +63,7 @@ module _ (m : ℕ) (v s : List ℕ) where
       then-near m (require (kindFits e) 15 i) _ (require-near m (kindFits e) 15 i (omega arith))
       (then-near m (require (unusedFits e) 16 i) _ (require-near m (unusedFits e) 16 i (omega arith))
       (then-near m (require (termFits v s i (lineOf e)) 17 i) _ (require-near m (termFits v s i (lineOf e)) 17 i (omega arith))
-      (require-near m (stepFits v s i (lineOf e)) 18 i (omega arith))))
+      (require-near m (lineFits v s i (lineOf e)) 18 i (omega arith))))
 
   link-near : (i : ℕ) → i ≤ m → Nearby m (linkCheck s i)
   unfolding linkCheck
@@ -80,7 +80,7 @@ module _ (m : ℕ) (v s : List ℕ) where
       then-near m (require first 19 0) _ (require-near m first 19 0 (omega arith))
       (turns-near m (linkCheck s) (entries s - 1) 1 (omega arith) link-near)
 
-  form-near : 2048 ≤ m → queryOf s .a ≤ m → queryOf s .b ≤ m → Nearby m (formCheck v s)
+  form-near : entryLimit ≤ m → queryOf s .a ≤ m → queryOf s .b ≤ m → Nearby m (formCheck v s)
   unfolding formCheck
   form-near h a b =
       let query : Nearby m (queryCheck v (queryOf s))
@@ -91,35 +91,35 @@ module _ (m : ℕ) (v s : List ℕ) where
       (then-near m (queryCheck v (queryOf s)) _ query
       (then-near m (entriesCheck v s) _ (entries-near (omega arith) few) (links-near (omega arith) few))))
 
--- The chain.
-module _ (m : ℕ) (v s : List ℕ) where
-  step-near : (i : ℕ) (frames : Frames) (step : Step) → i ≤ m → Nearby m (stepCheck v (queryOf s) i frames step)
+-- The chain, over any literals.
+module _ {A L : Type 0} (m : ℕ) (g : Setting A L) where
+  step-near : (i : ℕ) (frames : Frames L) (step : Step A) → i ≤ m → Nearby m (stepCheck g i frames step)
   unfolding stepCheck
   step-near i frames step h =
-      let q = queryOf s in
       then-near m (require (not (isNil frames)) 25 i) _ (require-near m (not (isNil frames)) 25 i (omega arith))
       (then-near m (require (not (isStart step)) 20 i) _ (require-near m (not (isStart step)) 20 i (omega arith))
-      (then-near m (require (connects v q frames step) 21 i) _ (require-near m (connects v q frames step) 21 i (omega arith))
-      (then-near m (require (reduces frames step) 22 i) _ (require-near m (reduces frames step) 22 i (omega arith))
-      (require-near m (hasRoom v q frames step) 23 i (omega arith)))))
+      (then-near m (require (connects g frames step) 21 i) _ (require-near m (connects g frames step) 21 i (omega arith))
+      (then-near m (require (reduces g frames step) 22 i) _ (require-near m (reduces g frames step) 22 i (omega arith))
+      (require-near m (hasRoom g frames step) 23 i (omega arith)))))
 
-  run-near : (frames : Frames) (last : ℕ) (l : List ℕ) → last ≤ m → Within m l → Nearby m (run v s frames last l)
-  unfolding run
-  run-near frames last [] h w = require-near m (isNil frames) 24 last (omega arith)
-  run-near frames last (i ∷ rest) h w =
-      let next = stepped v (queryOf s) frames (stepAt s i) in
-      then-near m (stepCheck v (queryOf s) i frames (stepAt s i)) (run v s next i rest)
-      (step-near i frames (stepAt s i) (w .0))
-      (run-near next i rest (w .0) (w .1))
+  module _ (steps : ℕ → Step A) where
+    run-near : (frames : Frames L) (last : ℕ) (l : List ℕ) → last ≤ m → Within m l → Nearby m (run g steps frames last l)
+    unfolding run
+    run-near frames last [] h w = require-near m (isNil frames) 24 last (omega arith)
+    run-near frames last (i ∷ rest) h w =
+        let next = stepped g frames (steps i) in
+        then-near m (stepCheck g i frames (steps i)) (run g steps next i rest)
+        (step-near i frames (steps i) (w .0))
+        (run-near next i rest (w .0) (w .1))
 
-  chain-near : (l : List ℕ) → Within m l → Nearby m (chainCheck v s l)
-  unfolding chainCheck
-  chain-near [] w = omega arith
-  chain-near (i ∷ rest) w =
-      let first = stepped v (queryOf s) [] (stepAt s i) in
-      then-near m (require (isStart (stepAt s i)) 20 i) (run v s first i rest)
-      (require-near m (isStart (stepAt s i)) 20 i (omega (arith, w .0)))
-      (run-near first i rest (w .0) (w .1))
+    chain-near : (l : List ℕ) → Within m l → Nearby m (chainCheck g steps l)
+    unfolding chainCheck
+    chain-near [] w = omega arith
+    chain-near (i ∷ rest) w =
+        let first = stepped g [] (steps i) in
+        then-near m (require (isStart (steps i)) 20 i) (run g steps first i rest)
+        (require-near m (isStart (steps i)) 20 i (omega (arith, w .0)))
+        (run-near first i rest (w .0) (w .1))
 
 -- numbers of the chain of a formed script
 chain-within : (m : ℕ) (s : List ℕ) (is : List ℕ) → entries s ≤ m → All (OnChain s) is → Within m is
@@ -134,14 +134,14 @@ script-small v s =
     (then-small m (formCheck v s) _ (form-near m v s (omega arith) (omega arith) (omega arith))
     (λ e. let f = formed v s e in
     let few : entries s ≤ m = omega (arith, f .sized .most) in
-    then-small m (chainCheck v s (chain s)) _
-    (chain-near m v s (chain s) (chain-within m s (chain s) few (chain-ahead v s f)))
+    then-small m (chainCheck (writtenOut v (queryOf s)) (stepAt s) (chain s)) _
+    (chain-near m (writtenOut v (queryOf s)) (stepAt s) (chain s) (chain-within m s (chain s) few (chain-ahead v s f)))
     (λ _. omega (arith, chain-few s (firstStep s)))))
 
-header-byte : (s : List ℕ) (i : ℕ) → i < 16 → ((j : ℕ) → getD s j 0 < 256) → getD (partAt s 0) i 0 < 256
+header-byte : (s : List ℕ) (i : ℕ) → i < entrySize → ((j : ℕ) → getD s j 0 < 256) → getD (partAt s 0) i 0 < 256
 header-byte s i h bytes =
-    let e = getD-take 16 (drop (16 * 0) s) i 0 h ∙ getD-drop (16 * 0) s i 0 in
-    subst (λ (x : ℕ). x < 256) (sym e) (bytes (16 * 0 + i))
+    let e = getD-take entrySize (drop (entrySize * 0) s) i 0 h ∙ getD-drop (entrySize * 0) s i 0 in
+    subst (λ (x : ℕ). x < 256) (sym e) (bytes (entrySize * 0 + i))
 
 pub query-below : (s : List ℕ) → ((i : ℕ) → getD s i 0 < 256) → (queryOf s .a < 65536) × (queryOf s .b < 65536)
 unfolding entryAt

@@ -15,23 +15,27 @@ use native.Mathlib.Omega.{arith}
 use mathlib.Core.Path.{_≡_, refl, ap, sym, _∙_}
 use mathlib.Core.Bool.{Bool, true, _&&_, _||_}
 use mathlib.Core.List.{List, [], _∷_, map}
-use lib.ListN.{length, length-map, List·getD-map}
+use lib.ListN.{length, getD, length-map, List·getD-map}
 use lib.Dec.{ltb}
 use borrow.Author.Tests.{lt-ltb, ltb-true}
 use Rattle.records.proofs.Passed.{both-left, both-right}
-use Rattle.columns.specs.Literals.{SkolemTerm, Literal, complement, complementary}
+use Rattle.columns.specs.Literals.{SkolemTerm, Literal, complement, complementary, noLiteral}
 use Rattle.columns.specs.Columns.{Query, columnsAt}
 use Rattle.columns.proofs.Literals.{complementary-true, complementary-complement}
-use Rattle.scripts.specs.Calculus.{Extension, Step, start, extension, reduction, connected, others, onPath}
-use Rattle.scripts.specs.Calculus.{frameLimit, startColumn}
-use Rattle.scripts.specs.Run.{Frames, isNil, goalOf, frameAt, close, extendBy, stepped}
+use Rattle.scripts.specs.Steps.{Extension, Step, start, extension, reduction}
+use Rattle.scripts.specs.Calculus.{connected, others, onPath, frameLimit, startColumn}
+use Rattle.scripts.specs.Run.{Frames, isNil, close, extendBy, stepped, writtenOut}
 use Rattle.scripts.proofs.Played.{fits, plays}
 
 abbrev pub Literals : Type 0
 Literals = List (Literal SkolemTerm)
 
-abbrev pub goals : Frames → Literals
-goals frames = map goalOf frames
+-- a frame's goal
+abbrev first-open : Literals → Literal SkolemTerm
+first-open frame = getD frame 0 noLiteral
+
+abbrev pub goals : Frames (Literal SkolemTerm) → Literals
+goals frames = map first-open frames
 
 abbrev pub room : Literals → ℕ → Bool
 room c n = isNil c || ltb n frameLimit
@@ -40,79 +44,83 @@ pub room-under : (c : Literals) (n : ℕ) → n < frameLimit → room c n ≡ tr
 room-under [] n h = refl
 room-under (l ∷ c) n h = lt-ltb n frameLimit h
 
-pub close-goal : (l : Literal SkolemTerm) (c : Literals) (frames : Frames) → close ((l ∷ c) ∷ frames) ≡ extendBy c frames
+pub close-goal : (l : Literal SkolemTerm) (c : Literals) (frames : Frames (Literal SkolemTerm)) → close ((l ∷ c) ∷ frames) ≡ extendBy c frames
 unfolding close extendBy
 close-goal l [] frames = refl
 close-goal l (m ∷ c) frames = refl
 
-goal-below : (frame : Literals) (frames : Frames) (f : ℕ) → f < length (goals frames)
-    → goalOf (frameAt (frame ∷ frames) f) ≡ onPath (goals frames) f
+-- the goal of frame f, frames being counted from the start
+abbrev goal-at : Frames (Literal SkolemTerm) → ℕ → Literal SkolemTerm
+goal-at frames f = first-open (getD frames (length frames - suc f) [])
+
+goal-below : (frame : Literals) (frames : Frames (Literal SkolemTerm)) (f : ℕ) → f < length (goals frames)
+    → goal-at (frame ∷ frames) f ≡ onPath (goals frames) f
 goal-below frame frames f h =
-    let e : suc (length frames) - suc f ≡ suc (length frames - suc f) = omega (arith, length-map frames goalOf) in
-    rw (e, length-map, List·getD-map goalOf frames (length frames - suc f) [])
+    let e : suc (length frames) - suc f ≡ suc (length frames - suc f) = omega (arith, length-map frames first-open) in
+    rw (e, length-map, List·getD-map first-open frames (length frames - suc f) [])
 
 complement-true : (m l : Literal SkolemTerm) → m ≡ complement l → complementary m l ≡ true
 complement-true m l e = rw e (complementary-complement l)
 
-module _ (v : List ℕ) (q : Query) (l : Literal SkolemTerm) (c : Literals) (frames : Frames) where
+module _ (v : List ℕ) (q : Query) (l : Literal SkolemTerm) (c : Literals) (frames : Frames (Literal SkolemTerm)) where
   -- what row 22 asks of a reduction
   abbrev below : ℕ → Bool
   below f = ltb (suc f) (suc (length frames))
 
   abbrev reduces-goal : ℕ → Bool
-  reduces-goal f = complementary (goalOf (frameAt ((l ∷ c) ∷ frames) f)) l
+  reduces-goal f = complementary (goal-at ((l ∷ c) ∷ frames) f) l
 
   reduction-fits : (f : ℕ) → f < length (goals frames) → onPath (goals frames) f ≡ complement l
-      → fits v q ((l ∷ c) ∷ frames) (reduction f) ≡ true
+      → fits (writtenOut v q) ((l ∷ c) ∷ frames) (reduction f) ≡ true
   reduction-fits f h e =
-      let m : below f ≡ true = lt-ltb (suc f) (suc (length frames)) (omega (arith, length-map frames goalOf)) in
-      rw (m, complement-true (goalOf (frameAt ((l ∷ c) ∷ frames) f)) l (goal-below (l ∷ c) frames f h ∙ e))
+      let m : below f ≡ true = lt-ltb (suc f) (suc (length frames)) (omega (arith, length-map frames first-open)) in
+      rw (m, complement-true (goal-at ((l ∷ c) ∷ frames) f) l (goal-below (l ∷ c) frames f h ∙ e))
 
-  pub reduction-plays : (f : ℕ) (rest : List Step) → f < length (goals frames) → onPath (goals frames) f ≡ complement l
-      → plays v q (reduction f ∷ rest) ((l ∷ c) ∷ frames) ≡ plays v q rest (extendBy c frames)
+  pub reduction-plays : (f : ℕ) (rest : List (Step SkolemTerm)) → f < length (goals frames) → onPath (goals frames) f ≡ complement l
+      → plays (writtenOut v q) (reduction f ∷ rest) ((l ∷ c) ∷ frames) ≡ plays (writtenOut v q) rest (extendBy c frames)
   unfolding plays stepped
   reduction-plays f rest h e = rw (reduction-fits f h e, close-goal l c frames)
 
-  pub extension-plays : (e : Extension) (rest : List Step) → connected v q e ≡ complement l
+  pub extension-plays : (e : Extension SkolemTerm) (rest : List (Step SkolemTerm)) → connected v q e ≡ complement l
       → room (others v q e) (suc (length frames)) ≡ true
-      → plays v q (extension e ∷ rest) ((l ∷ c) ∷ frames) ≡ plays v q rest (extendBy (others v q e) ((l ∷ c) ∷ frames))
+      → plays (writtenOut v q) (extension e ∷ rest) ((l ∷ c) ∷ frames) ≡ plays (writtenOut v q) rest (extendBy (others v q e) ((l ∷ c) ∷ frames))
   unfolding plays stepped
   extension-plays e rest p r = rw (complement-true (connected v q e) l p, r)
 
-  fits-reduction : (f : ℕ) → fits v q ((l ∷ c) ∷ frames) (reduction f) ≡ true
+  fits-reduction : (f : ℕ) → fits (writtenOut v q) ((l ∷ c) ∷ frames) (reduction f) ≡ true
       → (f < length (goals frames)) × (onPath (goals frames) f ≡ complement l)
   fits-reduction f p =
       let e = both-left (below f && reduces-goal f) true p in
       let m = ltb-true (suc f) (suc (length frames)) (both-left (below f) (reduces-goal f) e) in
-      let h : f < length (goals frames) = omega (arith, m, length-map frames goalOf) in
-      let k = complementary-true (goalOf (frameAt ((l ∷ c) ∷ frames) f)) l (both-right (below f) (reduces-goal f) e) in
+      let h : f < length (goals frames) = omega (arith, m, length-map frames first-open) in
+      let k = complementary-true (goal-at ((l ∷ c) ∷ frames) f) l (both-right (below f) (reduces-goal f) e) in
       (h, sym (goal-below (l ∷ c) frames f h) ∙ k)
 
-  pub reduction-played : (f : ℕ) (rest : List Step) → plays v q (reduction f ∷ rest) ((l ∷ c) ∷ frames) ≡ true
-      → ((f < length (goals frames)) × (onPath (goals frames) f ≡ complement l)) × (plays v q rest (extendBy c frames) ≡ true)
+  pub reduction-played : (f : ℕ) (rest : List (Step SkolemTerm)) → plays (writtenOut v q) (reduction f ∷ rest) ((l ∷ c) ∷ frames) ≡ true
+      → ((f < length (goals frames)) × (onPath (goals frames) f ≡ complement l)) × (plays (writtenOut v q) rest (extendBy c frames) ≡ true)
   unfolding plays stepped
   reduction-played f rest p =
-      let fit = fits v q ((l ∷ c) ∷ frames) (reduction f) in
-      let next = plays v q rest (close ((l ∷ c) ∷ frames)) in
-      (fits-reduction f (both-left fit next p), ap (plays v q rest) (sym (close-goal l c frames)) ∙ both-right fit next p)
+      let fit = fits (writtenOut v q) ((l ∷ c) ∷ frames) (reduction f) in
+      let next = plays (writtenOut v q) rest (close ((l ∷ c) ∷ frames)) in
+      (fits-reduction f (both-left fit next p), ap (plays (writtenOut v q) rest) (sym (close-goal l c frames)) ∙ both-right fit next p)
 
-  fits-extension : (e : Extension) → fits v q ((l ∷ c) ∷ frames) (extension e) ≡ true
+  fits-extension : (e : Extension SkolemTerm) → fits (writtenOut v q) ((l ∷ c) ∷ frames) (extension e) ≡ true
       → (connected v q e ≡ complement l) × (room (others v q e) (suc (length frames)) ≡ true)
   fits-extension e p =
       let connects = complementary (connected v q e) l in
       let free = room (others v q e) (suc (length frames)) in
       (complementary-true (connected v q e) l (both-left connects free p), both-right connects free p)
 
-  pub extension-played : (e : Extension) (rest : List Step) → plays v q (extension e ∷ rest) ((l ∷ c) ∷ frames) ≡ true
+  pub extension-played : (e : Extension SkolemTerm) (rest : List (Step SkolemTerm)) → plays (writtenOut v q) (extension e ∷ rest) ((l ∷ c) ∷ frames) ≡ true
       → ((connected v q e ≡ complement l) × (room (others v q e) (suc (length frames)) ≡ true))
-      × (plays v q rest (extendBy (others v q e) ((l ∷ c) ∷ frames)) ≡ true)
+      × (plays (writtenOut v q) rest (extendBy (others v q e) ((l ∷ c) ∷ frames)) ≡ true)
   unfolding plays stepped
   extension-played e rest p =
-      let fit = fits v q ((l ∷ c) ∷ frames) (extension e) in
-      let next = plays v q rest (extendBy (others v q e) ((l ∷ c) ∷ frames)) in
+      let fit = fits (writtenOut v q) ((l ∷ c) ∷ frames) (extension e) in
+      let next = plays (writtenOut v q) rest (extendBy (others v q e) ((l ∷ c) ∷ frames)) in
       (fits-extension e (both-left fit next p), both-right fit next p)
 
-pub start-open : (v : List ℕ) (q : Query) (n : ℕ) → n ≤ 1 → stepped v q [] (start n) ≡ extendBy (startColumn v q n) []
+pub start-open : (v : List ℕ) (q : Query) (n : ℕ) → n ≤ 1 → stepped (writtenOut v q) [] (start n) ≡ extendBy (startColumn v q n) []
 unfolding stepped extendBy columnsAt
 start-open v q zero h = refl
 start-open v q (suc zero) h = refl

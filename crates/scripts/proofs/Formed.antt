@@ -5,11 +5,11 @@
 --   Rows, rows-passed, entry-rows            rows 15 to 18 at a record
 --   link-onward, next-onward                 row 19: a link, and a step's next, lead onward
 --   formed                                   a script whose form passes is Formed
---   step-listed                              row 18: a step uses what is listed
+--   step-listed, line-step, step-fits        row 18: a step uses what is listed; at a record; at a record of the chain
 --   OnChain, chain-ahead                     the chain has steps alone
 --   steps-listed, chain-listed               each of these uses what is listed
 -- Assumes nothing.
-use Prim.Native.Nat.{ℕ, _-_, _%_, _≤_, _<_}
+use Prim.Native.Nat.{ℕ, _*_, _-_, _%_, _≤_, _<_}
 use native.Mathlib.Omega.{arith}
 use mathlib.Core.Path.{_≡_, refl}
 use mathlib.Core.Bool.{Bool, true, false, _&&_, _||_}
@@ -28,20 +28,21 @@ use Rattle.records.proofs.Chains.{all-occurring}
 use Rattle.types.specs.Compare.{termCheck}
 use Rattle.types.proofs.Tests.{implies-rest}
 use Rattle.columns.specs.Columns.{columnAt, takesY}
-use Rattle.scripts.specs.Format.{entryAt, entries, queryOf, firstStep, Line, blank, named, applied, starting, extending}
-use Rattle.scripts.specs.Format.{reducing, lineOf, lineAt, isStep, nextStep, chain}
+use Rattle.scripts.specs.Steps.{Step, start, extension, reduction, stepBy}
+use Rattle.scripts.specs.Format.{entrySize, entryLimit, entryAt, entries, queryOf, firstStep, Line, blank, named}
+use Rattle.scripts.specs.Format.{applied, step, lineOf, lineAt, isStep, stepOf, recordStep, nextStep, chain, termAt}
 use Rattle.scripts.specs.Form.{lengthFits, lengthCheck, allZero, headerFits, headerCheck, queryCheck, kindFits, unusedFits}
-use Rattle.scripts.specs.Form.{termFits, stepFits, xFits, yFits, rowsCheck, entryCheck, entriesCheck, linkFits, nextFits}
+use Rattle.scripts.specs.Form.{termFits, stepFits, lineFits, xFits, yFits, rowsCheck, entryCheck, entriesCheck, linkFits, nextFits}
 use Rattle.scripts.specs.Form.{linkCheck, linksCheck, formCheck}
-use Rattle.scripts.specs.Run.{stepOf, stepAt}
+use Rattle.scripts.specs.Run.{stepAt}
 use Rattle.scripts.proofs.Readings.{StepListed, AllListed}
 use Rattle.scripts.specs.declared.entry.Entry.{Entry}
 
 -- Row 13 passed: 16 to 32,768 bytes, a multiple of 16.
 pub record Sized (s : List ℕ) : Type 0 where
-  pub least : 16 ≤ length s
-  pub most : length s ≤ 32768
-  pub whole : length s % 16 ≡ 0
+  pub least : entrySize ≤ length s
+  pub most : length s ≤ entrySize * entryLimit
+  pub whole : length s % entrySize ≡ 0
 
 -- x is the number of a term of the vocabulary.
 abbrev pub TermNumber : List ℕ → ℕ → Type 0
@@ -58,18 +59,21 @@ pub record Formed (v s : List ℕ) : Type 0 where
   pub kinds : (i : ℕ) → 0 < i → i < entries s → (1 ≤ entryAt s i .w0) × (entryAt s i .w0 ≤ 5)
   pub unused : (i : ℕ) → 0 < i → i < entries s → unusedFits (entryAt s i) ≡ true
   pub terms : (i : ℕ) → 0 < i → i < entries s → termFits v s i (lineAt s i) ≡ true
-  pub steps : (i : ℕ) → 0 < i → i < entries s → stepFits v s i (lineAt s i) ≡ true
+  pub steps : (i : ℕ) → 0 < i → i < entries s → lineFits v s i (lineAt s i) ≡ true
   pub first : Onward (IsStepAt s) (entries s) 0 (firstStep s)
   pub links : (i : ℕ) → 0 < i → i < entries s → IsStepAt s i → Onward (IsStepAt s) (entries s) i (nextStep s i)
 
 pub length-sized : (s : List ℕ) → lengthCheck s ≡ pass → Sized s
 length-sized s e =
+    let long = leb entrySize (length s) in
+    let short = leb (length s) (entrySize * entryLimit) in
+    let even = eqb (length s % entrySize) 0 in
     let fit = require-passed (lengthFits s) 13 0 e in
-    let rest = both-right (leb 16 (length s)) (leb (length s) 32768 && eqb (length s % 16) 0) fit in
+    let rest = both-right long (short && even) fit in
     record {
-      least = leb-true _ _ (both-left (leb 16 (length s)) (leb (length s) 32768 && eqb (length s % 16) 0) fit);
-      most = leb-true _ _ (both-left (leb (length s) 32768) (eqb (length s % 16) 0) rest);
-      whole = eqb-true _ _ (both-right (leb (length s) 32768) (eqb (length s % 16) 0) rest);
+      least = leb-true _ _ (both-left long (short && even) fit);
+      most = leb-true _ _ (both-left short even rest);
+      whole = eqb-true _ _ (both-right short even rest);
     }
 
 header-kind : (s : List ℕ) → headerCheck s ≡ pass → entryAt s 0 .w0 ≡ 32
@@ -90,11 +94,11 @@ record Rows (v s : List ℕ) (i : ℕ) (e : Entry) : Type 0 where
   kind : (1 ≤ e .w0) × (e .w0 ≤ 5)
   unused : unusedFits e ≡ true
   term : termFits v s i (lineOf e) ≡ true
-  step : stepFits v s i (lineOf e) ≡ true
+  step : lineFits v s i (lineOf e) ≡ true
 
 rows-passed : (v s : List ℕ) (i : ℕ) (e : Entry) → rowsCheck v s i e ≡ pass → Rows v s i e
 rows-passed v s i e p =
-    let fourth = require (stepFits v s i (lineOf e)) 18 i in
+    let fourth = require (lineFits v s i (lineOf e)) 18 i in
     let third = require (termFits v s i (lineOf e)) 17 i in
     let second = require (unusedFits e) 16 i in
     let a = then-passed (require (kindFits e) 15 i) (second then third then fourth) tt p in
@@ -108,7 +112,7 @@ rows-passed v s i e p =
       );
       unused = require-passed (unusedFits e) 16 i (b .0);
       term = require-passed (termFits v s i (lineOf e)) 17 i (c .0);
-      step = require-passed (stepFits v s i (lineOf e)) 18 i (c .1);
+      step = require-passed (lineFits v s i (lineOf e)) 18 i (c .1);
     }
 
 entry-rows : (v s : List ℕ) (i : ℕ) → entryCheck v s i ≡ pass → Rows v s i (entryAt s i)
@@ -173,15 +177,20 @@ abbrev pub OnChain : List ℕ → ℕ → Type 0
 OnChain s i = Ahead (IsStepAt s) (entries s) 0 i
 
 module _ (v s : List ℕ) where
-  step-listed : (i : ℕ) (l : Line) → stepFits v s i l ≡ true → StepListed v (queryOf s) (stepOf s l)
-  step-listed i blank e = omega arith
-  step-listed i named e = omega arith
-  step-listed i (applied f t) e = omega arith
-  step-listed i (starting n) e = leb-true n 1 e
-  step-listed i (extending owner n x y p) e =
-      let c = columnAt v (queryOf s) owner n in
-      ltb-true p (length c) (both-left (ltb p (length c)) (xFits s i owner x && yFits s i (takesY c) y) e)
-  step-listed i (reducing f) e = tt
+  step-listed : (i : ℕ) (t : Step ℕ) → stepFits v s i t ≡ true → StepListed v (queryOf s) (stepBy (termAt s) t)
+  step-listed i (start n) e = leb-true n 1 e
+  step-listed i (extension x) e =
+      let c = columnAt v (queryOf s) (x .owner) (x .column) in
+      ltb-true (x .position) (length c)
+      (both-left (ltb (x .position) (length c)) (xFits s i (x .owner) (x .first) && yFits s i (takesY c) (x .second)) e)
+  step-listed i (reduction f) e = tt
+
+  -- what a record says that is no step counts as start 0
+  pub line-step : (i : ℕ) (l : Line) → lineFits v s i l ≡ true → stepFits v s i (stepOf l) ≡ true
+  line-step i blank e = refl
+  line-step i named e = refl
+  line-step i (applied f t) e = refl
+  line-step i (step t) e = e
 
   module _ (f : Formed v s) where
     pub chain-ahead : All (OnChain s) (chain s)
@@ -189,10 +198,13 @@ module _ (v s : List ℕ) where
         all-occurring (OnChain s) (chain s)
         (λ i o. follow-target (nextStep s) (IsStepAt s) (entries s) (f .links) (entries s) 0 (firstStep s) i (f .first) o)
 
+    pub step-fits : (i : ℕ) → OnChain s i → stepFits v s i (recordStep s i) ≡ true
+    step-fits i a = line-step i (lineAt s i) (f .steps i (a .later) (a .within))
+
     steps-listed : (is : List ℕ) → All (OnChain s) is → AllListed v (queryOf s) (map (stepAt s) is)
     steps-listed [] a = tt
     steps-listed (i ∷ is) a = (
-      step-listed i (lineAt s i) (f .steps i (a .0 .later) (a .0 .within)),
+      step-listed i (recordStep s i) (step-fits i (a .0)),
       steps-listed is (a .1),
     )
 

@@ -2,52 +2,54 @@
 --   entries-length                                  how many entries an array has, as owning it tells
 --   literal-first, literal-second, literal-third    the literal at a position
 --   without-first, without-second, without-third    the literals without the one at a position
---   open-none, open-some                            the literals at a place are the next frame; with none the goal is closed
---   goal-first                                      a frame's goal
---   write-first, write-second                       what is written is there
---   frames-length                                   there are as many frames as are asked for
---   frame-goal                                      the goal of a frame, counted from the start
---   frames-open, placed-push                        a goal written above the frames is that of the next
---   frames-write, placed-write                      literals written above the goals' places change no frame
---   placed-part, placed-none, placed-more           fewer frames, or none; goals are below a later place too
---   close-none, close-one, close-two, placed-next   the goal closed: no frame, a last frame of one open literal, or of two
+--   listed-few, listed-some, listed-none            at most three are listed; one at least, or none, by the first
+--   open-none, open-some                            a column's literals are the next frame; with none the goal is closed
+--   goal-first, goal-next                           a frame's goal, and whether a literal is open after it, by the table
+--   frames-length, frame-at                         there are as many frames as are asked for; a frame, counted from the start
+--   Wrote, frames-write, stands-write               literals written above the frames change none of them
+--   frames-push, stands-push                        and are the next frame
+--   frames-none, stands-none, stands-part           no frame; fewer frames
+--   close-drop, close-none, close-last, close-next  the goal closed: no frame, a frame that goes, one that stays
+--   stands-next                                     a frame that stays has a goal
 -- Assumes nothing.
-use Prim.Native.Nat.{ℕ, zero, suc, _+_, _*_, _-_, _%_, _<_, _≤_}
+use Prim.Native.Nat.{ℕ, zero, suc, _+_, _*_, _-_, _<_, _≤_}
 use native.Mathlib.Omega.{arith}
 use native.Mathlib.Decide.{ℕ-discrete}
-use mathlib.Core.Path.{_≡_, refl, ap, sym, _∙_}
-use mathlib.Core.Bool.{Bool, true, false, not, cond, _&&_}
+use mathlib.Core.Path.{_≡_, refl, ap, sym, subst, _∙_}
+use mathlib.Core.Bool.{Bool, true, false, not}
 use mathlib.Core.List.{List, [], _∷_, map}
-use lib.ListN.{length, getD, set, length-map}
+use lib.ListN.{length, getD, set, drop, length-map, length-set}
 use lib.Seq.{getD-set-same, getD-set-other, lt-length-set}
 use lib.Dec.{eqb}
-use borrow.Author.Tests.{eqb-true, eqb-false, eq-eqb, ne-eqb, not-true}
-use Rattle.records.proofs.Passed.{clash, both-left, both-right}
+use borrow.Author.Tests.{ne-eqb}
+use Rattle.records.proofs.Passed.{clash}
 use Rattle.columns.specs.Packed.{listed}
-use Rattle.scripts.specs.Calculus.{without}
-use Rattle.scripts.specs.Run.{close, extendBy}
-use Rattle.scripts.specs.Machine.{frameIn, framesFrom, Placed}
+use Rattle.scripts.specs.Calculus.{without, frameLimit}
+use Rattle.scripts.specs.Run.{Frames, isNil, close, extendBy}
+use Rattle.scripts.specs.Machine.{frameWidth, places, opened, framesFrom, Standing}
 
 pub entries-length : (l : List ℕ) (n : ℕ) → length (map (λ x. x) l) ≡ n → length l ≡ n
 entries-length l n e = sym (length-map l (λ x. x)) ∙ e
 
-pub literal-first : (a b c p : ℕ) → p ≡ 0 → p < length (listed a b c) → a ≡ getD (listed a b c) p 0
-literal-first zero b c p e h = absurd (omega arith)
-literal-first (suc a) zero c p e h = rw e
-literal-first (suc a) (suc b) zero p e h = rw e
-literal-first (suc a) (suc b) (suc c) p e h = rw e
+-- A column's literals, of which d stands where there is none.
+module _ (d : ℕ) where
+  pub literal-first : (a b c p : ℕ) → p ≡ 0 → p < length (listed a b c) → a ≡ getD (listed a b c) p d
+  literal-first zero b c p e h = absurd (omega arith)
+  literal-first (suc a) zero c p e h = rw e
+  literal-first (suc a) (suc b) zero p e h = rw e
+  literal-first (suc a) (suc b) (suc c) p e h = rw e
 
-pub literal-second : (a b c p : ℕ) → p ≡ 1 → p < length (listed a b c) → b ≡ getD (listed a b c) p 0
-literal-second zero b c p e h = absurd (omega arith)
-literal-second (suc a) zero c p e h = absurd (omega arith)
-literal-second (suc a) (suc b) zero p e h = rw e
-literal-second (suc a) (suc b) (suc c) p e h = rw e
+  pub literal-second : (a b c p : ℕ) → p ≡ 1 → p < length (listed a b c) → b ≡ getD (listed a b c) p d
+  literal-second zero b c p e h = absurd (omega arith)
+  literal-second (suc a) zero c p e h = absurd (omega arith)
+  literal-second (suc a) (suc b) zero p e h = rw e
+  literal-second (suc a) (suc b) (suc c) p e h = rw e
 
-pub literal-third : (a b c p : ℕ) → 2 ≤ p → p < length (listed a b c) → c ≡ getD (listed a b c) p 0
-literal-third zero b c p k h = absurd (omega arith)
-literal-third (suc a) zero c p k h = absurd (omega arith)
-literal-third (suc a) (suc b) zero p k h = absurd (omega arith)
-literal-third (suc a) (suc b) (suc c) p k h = let e : p ≡ 2 = omega arith in rw e
+  pub literal-third : (a b c p : ℕ) → 2 ≤ p → p < length (listed a b c) → c ≡ getD (listed a b c) p d
+  literal-third zero b c p k h = absurd (omega arith)
+  literal-third (suc a) zero c p k h = absurd (omega arith)
+  literal-third (suc a) (suc b) zero p k h = absurd (omega arith)
+  literal-third (suc a) (suc b) (suc c) p k h = let e : p ≡ 2 = omega arith in rw e
 
 pub without-first : (a b c p : ℕ) → p ≡ 0 → p < length (listed a b c) → listed b c 0 ≡ without p (listed a b c)
 unfolding without
@@ -70,175 +72,250 @@ without-third (suc a) zero c p k h = absurd (omega arith)
 without-third (suc a) (suc b) zero p k h = absurd (omega arith)
 without-third (suc a) (suc b) (suc c) p k h = let e : p ≡ 2 = omega arith in rw e
 
-pub open-none : (a b : ℕ) (frames : List (List ℕ)) → a ≡ 0 → close frames ≡ extendBy (listed a b 0) frames
+pub listed-few : (a b c : ℕ) → length (listed a b c) ≤ frameWidth
+listed-few zero b c = omega arith
+listed-few (suc a) zero c = omega arith
+listed-few (suc a) (suc b) zero = omega arith
+listed-few (suc a) (suc b) (suc c) = omega arith
+
+pub listed-some : (a b c : ℕ) → 0 < a → 0 < length (listed a b c)
+listed-some zero b c h = absurd (omega arith)
+listed-some (suc a) zero c h = omega arith
+listed-some (suc a) (suc b) zero h = omega arith
+listed-some (suc a) (suc b) (suc c) h = omega arith
+
+pub listed-none : (a b c : ℕ) → listed a b c ≡ [] → a ≡ 0
+listed-none zero b c e = refl
+listed-none (suc a) zero c e = let n : _≡_ {A = ℕ} 1 0 = ap length e in absurd (omega arith)
+listed-none (suc a) (suc b) zero e = let n : _≡_ {A = ℕ} 2 0 = ap length e in absurd (omega arith)
+listed-none (suc a) (suc b) (suc c) e = let n : _≡_ {A = ℕ} 3 0 = ap length e in absurd (omega arith)
+
+pub open-none : (a b c : ℕ) (frames : Frames ℕ) → a ≡ 0 → close frames ≡ extendBy (listed a b c) frames
 unfolding extendBy
-open-none a b frames e = rw e
+open-none a b c frames e = rw e
 
-pub open-some : (a b : ℕ) (frames : List (List ℕ)) → 0 < a → listed a b 0 ∷ frames ≡ extendBy (listed a b 0) frames
+pub open-some : (l : List ℕ) (frames : Frames ℕ) → 0 < length l → l ∷ frames ≡ extendBy l frames
 unfolding extendBy
-open-some zero b frames h = absurd (omega arith)
-open-some (suc a) zero frames h = refl
-open-some (suc a) (suc b) frames h = refl
+open-some [] frames h = absurd (omega arith)
+open-some (x ∷ l) frames h = refl
 
--- A frame of a goal g, and of s if that is open too.
-first : (two : Bool) (g s : ℕ) → 0 < g → getD (cond two (listed g s 0) (listed g 0 0)) 0 0 ≡ g
-first two zero s h = absurd (omega arith)
-first true (suc g) zero h = refl
-first true (suc g) (suc s) h = refl
-first false (suc g) s h = refl
+-- an entry that a list has, and the first of what is left before it
+first-drop : (l : List ℕ) (k d : ℕ) → getD (drop k l) 0 d ≡ getD l k d
+first-drop [] zero d = refl
+first-drop [] (suc k) d = refl
+first-drop (x ∷ l) zero d = refl
+first-drop (x ∷ l) (suc k) d = first-drop l k d
 
-one : (two : Bool) (g s : ℕ) (frames : List (List ℕ)) → (two && not (eqb s 0)) ≡ false
-    → close (cond two (listed g s 0) (listed g 0 0) ∷ frames) ≡ close frames
-unfolding close
-one false zero s frames e = refl
-one false (suc g) s frames e = refl
-one true zero s frames e = refl
-one true (suc g) zero frames e = refl
-one true (suc g) (suc s) frames e =
-    let z : true ≡ false = rw (ne-eqb (suc s) 0 (λ z. absurd (omega arith))) at e in absurd (clash cc)
+-- the entry of a table at a place of three, of which k is one
+place-literal : (a b c k d x : ℕ) → k < length (listed a b c) → (k ≡ 0 → x ≡ a) → (k ≡ 1 → x ≡ b) → (k ≡ 2 → x ≡ c)
+    → x ≡ getD (listed a b c) k d
+place-literal a b c zero d x h p q r = p refl ∙ literal-first d a b c 0 refl h
+place-literal a b c (suc zero) d x h p q r = q refl ∙ literal-second d a b c 1 refl h
+place-literal a b c (suc (suc zero)) d x h p q r = r refl ∙ literal-third d a b c 2 (omega arith) h
+place-literal a b c (suc (suc (suc k))) d x h p q r = absurd (omega (arith, listed-few a b c))
 
-two : (g s : ℕ) (frames : List (List ℕ)) → 0 < g → 0 < s → listed s 0 0 ∷ frames ≡ close (listed g s 0 ∷ frames)
-unfolding close
-two zero s frames h k = absurd (omega arith)
-two (suc g) zero frames h k = absurd (omega arith)
-two (suc g) (suc s) frames h k = refl
+-- whether there is a literal after the k-th of three
+next-listed : (a b c k x : ℕ) → k < length (listed a b c) → (k ≡ 0 → x ≡ b) → (k ≡ 1 → x ≡ c) → k < 2
+    → not (eqb x 0) ≡ not (isNil (drop (suc k) (listed a b c)))
+next-listed zero b c k x h p q m = absurd (omega arith)
+next-listed (suc a) zero c zero x h p q m = rw (p refl)
+next-listed (suc a) zero c (suc k) x h p q m = absurd (omega arith)
+next-listed (suc a) (suc b) zero zero x h p q m = rw (p refl, ne-eqb (suc b) 0 (λ z. absurd (omega arith)))
+next-listed (suc a) (suc b) zero (suc zero) x h p q m = rw (q refl)
+next-listed (suc a) (suc b) zero (suc (suc k)) x h p q m = absurd (omega arith)
+next-listed (suc a) (suc b) (suc c) zero x h p q m = rw (p refl, ne-eqb (suc b) 0 (λ z. absurd (omega arith)))
+next-listed (suc a) (suc b) (suc c) (suc zero) x h p q m = rw (q refl, ne-eqb (suc c) 0 (λ z. absurd (omega arith)))
+next-listed (suc a) (suc b) (suc c) (suc (suc k)) x h p q m = absurd (omega arith)
 
-pub goal-first : (table : List ℕ) (place : ℕ) → 0 < getD table place 0 → getD (frameIn table place) 0 0 ≡ getD table place 0
-goal-first table place h = first (eqb (place % 2) 0) (getD table place 0) (getD table (place + 1) 0) h
+next-never : (l : List ℕ) (k : ℕ) → length l ≤ suc k → false ≡ not (isNil (drop (suc k) l))
+next-never [] k h = refl
+next-never (x ∷ []) zero h = refl
+next-never (x ∷ []) (suc k) h = refl
+next-never (x ∷ y ∷ l) zero h = absurd (omega arith)
+next-never (x ∷ y ∷ l) (suc k) h = next-never (y ∷ l) k (omega arith)
 
--- A step's literals are written.
-module _ (table : List ℕ) (i x y : ℕ) where
-  pub write-first : 2 * i + 1 < length table → getD (set (set table (2 * i) x) (2 * i + 1) y) (2 * i) 0 ≡ x
-  write-first h =
-      getD-set-other (set table (2 * i) x) (2 * i + 1) (2 * i) y 0 (λ e. omega arith)
-      ∙ getD-set-same table (2 * i) x 0 (omega arith)
+-- Frame f of a table, of whose literals k are closed, and one is left.
+module _ (table : List ℕ) (f k : ℕ) (h : k < length (opened table f)) where
+  at-place : (i j : ℕ) → i ≡ j → getD table i 0 ≡ getD table j 0
+  at-place i j e = ap (λ (n : ℕ). getD table n 0) e
 
-  pub write-second : 2 * i + 1 < length table → getD (set (set table (2 * i) x) (2 * i + 1) y) (2 * i + 1) 0 ≡ y
-  write-second h = getD-set-same (set table (2 * i) x) (2 * i + 1) y 0 (lt-length-set table (2 * i) x h)
+  pub goal-first : (d : ℕ) → getD table (frameWidth * f + k) 0 ≡ getD (drop k (opened table f)) 0 d
+  goal-first d =
+      let place = frameWidth * f in
+      place-literal _ _ _ k d _ h
+      (λ e. at-place (place + k) place (omega arith))
+      (λ e. at-place (place + k) (place + 1) (omega arith))
+      (λ e. at-place (place + k) (place + 2) (omega arith))
+      ∙ sym (first-drop (opened table f) k d)
 
-  keeps : (place : ℕ) → place < 2 * i → getD (set (set table (2 * i) x) (2 * i + 1) y) place 0 ≡ getD table place 0
-  keeps place h =
-      getD-set-other (set table (2 * i) x) (2 * i + 1) place y 0 (λ e. omega arith)
-      ∙ getD-set-other table (2 * i) place x 0 (λ e. omega arith)
+  pub goal-next : k < 2 → not (eqb (getD table (frameWidth * f + k + 1) 0) 0) ≡ not (isNil (drop (suc k) (opened table f)))
+  goal-next m =
+      let place = frameWidth * f in
+      next-listed (getD table place 0) (getD table (place + 1) 0) (getD table (place + 2) 0) k (getD table (place + k + 1) 0) h
+      (λ e. at-place (place + k + 1) (place + 1) (omega arith))
+      (λ e. at-place (place + k + 1) (place + 2) (omega arith))
+      m
 
-  frame-write : (place : ℕ) → place < 2 * i → frameIn (set (set table (2 * i) x) (2 * i + 1) y) place ≡ frameIn table place
-  frame-write place h = at (ℕ-discrete (place % 2) 0)
-    where
-      at : Dec (place % 2 ≡ 0) → frameIn (set (set table (2 * i) x) (2 * i + 1) y) place ≡ frameIn table place
-      at (yes e) = rw (e, keeps place h, keeps (place + 1) (omega arith))
-      at (no q) = rw (ne-eqb (place % 2) 0 q, keeps place h)
+  pub goal-few : k < frameWidth
+  goal-few =
+      let place = frameWidth * f in
+      omega (arith, listed-few (getD table place 0) (getD table (place + 1) 0) (getD table (place + 2) 0))
 
-module _ (table goals : List ℕ) where
-  pub frames-length : (n : ℕ) → length (framesFrom table goals n) ≡ n
+  pub goal-last : 2 ≤ k → false ≡ not (isNil (drop (suc k) (opened table f)))
+  goal-last m =
+      let place = frameWidth * f in
+      next-never (opened table f) k
+      (omega (arith, listed-few (getD table place 0) (getD table (place + 1) 0) (getD table (place + 2) 0)))
+
+module _ (table closed : List ℕ) where
+  pub frames-length : (n : ℕ) → length (framesFrom table closed n) ≡ n
   unfolding framesFrom
   frames-length zero = refl
   frames-length (suc n) = ap suc (frames-length n)
 
-  pub placed-part : (n m k : ℕ) → n ≤ m → Placed table k goals m → Placed table k goals n
-  placed-part n m k h p = record { below = λ f l. p .below f (omega arith); there = λ f l. p .there f (omega arith) }
-
-  pub frame-goal : (n f k : ℕ) → Placed table k goals n → f < n
-      → getD (getD (framesFrom table goals n) (n - suc f) []) 0 0 ≡ getD table (getD goals f 0) 0
+  pub frame-at : (n f : ℕ) → f < n → getD (framesFrom table closed n) (n - suc f) [] ≡ drop (getD closed f 0) (opened table f)
   unfolding framesFrom
-  frame-goal zero f k p h = absurd (omega arith)
-  frame-goal (suc n) f k p h = at (frame-goal n f k (placed-part n (suc n) k (omega arith) p)) (ℕ-discrete f n)
+  frame-at zero f h = absurd (omega arith)
+  frame-at (suc n) f h = at (frame-at n f) (ℕ-discrete f n)
     where
-      at : (f < n → getD (getD (framesFrom table goals n) (n - suc f) []) 0 0 ≡ getD table (getD goals f 0) 0) → Dec (f ≡ n)
-          → getD (getD (framesFrom table goals (suc n)) (suc n - suc f) []) 0 0 ≡ getD table (getD goals f 0) 0
-      at under (yes e) =
-          let z : suc n - suc f ≡ 0 = omega arith in
-          rw (z, e) (goal-first table (getD goals n 0) (p .there n (omega arith)))
+      at : (f < n → getD (framesFrom table closed n) (n - suc f) [] ≡ drop (getD closed f 0) (opened table f)) → Dec (f ≡ n)
+          → getD (framesFrom table closed (suc n)) (suc n - suc f) [] ≡ drop (getD closed f 0) (opened table f)
+      at under (yes e) = let z : suc n - suc f ≡ 0 = omega arith in rw (z, e)
       at under (no q) = let z : suc n - suc f ≡ suc (n - suc f) = omega arith in rw z (under (omega arith))
 
-  frames-set : (i p n : ℕ) → n ≤ i → framesFrom table (set goals i p) n ≡ framesFrom table goals n
+  pub frames-none : (n : ℕ) → n ≡ 0 → framesFrom table closed n ≡ []
   unfolding framesFrom
-  frames-set i p zero h = refl
-  frames-set i p (suc n) h = rw (getD-set-other goals i n p 0 (λ e. omega arith), frames-set i p n (omega arith))
+  frames-none n e = rw e
 
-  frames-push : (p n m : ℕ) → m ≡ suc n → n < length goals
-      → framesFrom table (set goals n p) m ≡ frameIn table p ∷ framesFrom table goals n
-  unfolding framesFrom
-  frames-push p n m e h = rw (e, getD-set-same goals n p 0 h, frames-set n p n (omega arith))
+  pub stands-part : (n m : ℕ) → n ≤ m → Standing table closed m → Standing table closed n
+  stands-part n m h s = record { deep = omega (arith, s .deep); size = s .size; goals = λ f l. s .goals f (omega arith) }
 
-  pub frames-open : (p n m : ℕ) → m ≡ suc n → n < length goals → p % 2 ≡ 0
-      → framesFrom table (set goals n p) m ≡ listed (getD table p 0) (getD table (p + 1) 0) 0 ∷ framesFrom table goals n
-  frames-open p n m e h even = frames-push p n m e h ∙ rw even
+  pub stands-none : length table ≡ places → Standing table closed 0
+  stands-none e = record { deep = omega arith; size = e; goals = λ f l. absurd (omega arith) }
 
-  pub placed-push : (p n m k : ℕ) → m ≡ suc n → n < length goals → p < 2 * k → 0 < getD table p 0
-      → Placed table k goals n → Placed table k (set goals n p) m
-  placed-push p n m k e h l q old =
-      record { below = λ f b. below f b (ℕ-discrete f n); there = λ f b. there f b (ℕ-discrete f n) }
-    where
-      below : (f : ℕ) → f < m → Dec (f ≡ n) → getD (set goals n p) f 0 < 2 * k
-      below f b (yes z) = rw (z, getD-set-same goals n p 0 h) l
-      below f b (no z) = rw (getD-set-other goals n f p 0 z) (old .below f (omega arith))
+-- The table after a column's literals were written above n frames.
+module _ (table : List ℕ) (n a b c : ℕ) where
+  abbrev pub written : List ℕ
+  written = set (set (set table (frameWidth * n) a) (frameWidth * n + 1) b) (frameWidth * n + 2) c
 
-      there : (f : ℕ) → f < m → Dec (f ≡ n) → 0 < getD table (getD (set goals n p) f 0) 0
-      there f b (yes z) = rw (z, getD-set-same goals n p 0 h) q
-      there f b (no z) = rw (getD-set-other goals n f p 0 z) (old .there f (omega arith))
+  pub written-size : length written ≡ length table
+  written-size =
+      length-set (set (set table (frameWidth * n) a) (frameWidth * n + 1) b) (frameWidth * n + 2) c
+      ∙ (length-set (set table (frameWidth * n) a) (frameWidth * n + 1) b ∙ length-set table (frameWidth * n) a)
 
-  pub frames-write : (n k i x y : ℕ) → Placed table k goals n → k ≤ i
-      → framesFrom (set (set table (2 * i) x) (2 * i + 1) y) goals n ≡ framesFrom table goals n
-  unfolding framesFrom
-  frames-write zero k i x y p h = refl
-  frames-write (suc n) k i x y p h =
+  written-other : (place : ℕ) → place < frameWidth * n → getD written place 0 ≡ getD table place 0
+  written-other place h =
+      getD-set-other (set (set table (frameWidth * n) a) (frameWidth * n + 1) b) (frameWidth * n + 2) place c 0 (λ e. omega arith)
+      ∙ (getD-set-other (set table (frameWidth * n) a) (frameWidth * n + 1) place b 0 (λ e. omega arith)
+      ∙ getD-set-other table (frameWidth * n) place a 0 (λ e. omega arith))
+
+  opened-below : (f : ℕ) → f < n → opened written f ≡ opened table f
+  opened-below f h =
       rw (
-        frame-write table i x y (getD goals n 0) (omega (arith, p .below n (omega arith))),
-        frames-write n k i x y (placed-part n (suc n) k (omega arith) p) h,
+        written-other (frameWidth * f) (omega arith),
+        written-other (frameWidth * f + 1) (omega arith),
+        written-other (frameWidth * f + 2) (omega arith),
       )
 
-  pub placed-write : (n k i x y : ℕ) → Placed table k goals n → k ≤ i
-      → Placed (set (set table (2 * i) x) (2 * i + 1) y) k goals n
-  placed-write n k i x y p h = record {
-    below = p .below;
-    there = λ f l. rw (keeps table i x y (getD goals f 0) (omega (arith, p .below f l))) (p .there f l);
-  }
+  opened-new : frameWidth * n + 2 < length table → opened written n ≡ listed a b c
+  opened-new h =
+      let one = set table (frameWidth * n) a in
+      let two = set one (frameWidth * n + 1) b in
+      let first : getD written (frameWidth * n) 0 ≡ a
+      = getD-set-other two (frameWidth * n + 2) (frameWidth * n) c 0 (λ e. omega arith)
+      ∙ (getD-set-other one (frameWidth * n + 1) (frameWidth * n) b 0 (λ e. omega arith)
+      ∙ getD-set-same table (frameWidth * n) a 0 (omega arith)) in
+      let second : getD written (frameWidth * n + 1) 0 ≡ b
+      = getD-set-other two (frameWidth * n + 2) (frameWidth * n + 1) c 0 (λ e. omega arith)
+      ∙ getD-set-same one (frameWidth * n + 1) b 0 (omega (arith, length-set table (frameWidth * n) a)) in
+      let third : getD written (frameWidth * n + 2) 0 ≡ c
+      = getD-set-same two (frameWidth * n + 2) c 0
+      (omega (arith, length-set one (frameWidth * n + 1) b, length-set table (frameWidth * n) a)) in
+      rw (first, second, third)
 
-  pub placed-more : (n k m : ℕ) → Placed table k goals n → k ≤ m → Placed table m goals n
-  placed-more n k m p h = record { below = λ f l. omega (arith, p .below f l); there = p .there }
+  module _ (closed : List ℕ) (k : ℕ) where
+    frames-below : (m : ℕ) → m ≤ n → framesFrom written (set closed n k) m ≡ framesFrom table closed m
+    unfolding framesFrom
+    frames-below zero h = refl
+    frames-below (suc m) h =
+        rw (getD-set-other closed n m k 0 (λ e. omega arith), opened-below m (omega arith), frames-below m (omega arith))
 
-  pub close-none : (n : ℕ) → n ≡ 0 → framesFrom table goals 0 ≡ close (framesFrom table goals n)
+    -- the frame that is written is the last
+    pub frames-push : (m : ℕ) → m ≡ suc n → n < length closed → frameWidth * n + 2 < length table
+        → framesFrom written (set closed n k) m ≡ drop k (listed a b c) ∷ framesFrom table closed n
+    unfolding framesFrom
+    frames-push m e h l = rw (e, getD-set-same closed n k 0 h, opened-new l, frames-below n (omega arith))
+
+    pub stands-push : (m : ℕ) → m ≡ suc n → n < frameLimit → n < length closed → k < length (listed a b c)
+        → Standing table closed n → Standing written (set closed n k) m
+    stands-push m e d h l s =
+        record { deep = omega arith; size = written-size ∙ s .size; goals = λ f g. goals f g (ℕ-discrete f n) }
+      where
+        goals : (f : ℕ) → f < m → Dec (f ≡ n) → getD (set closed n k) f 0 < length (opened written f)
+        goals f g (yes z) = rw (z, getD-set-same closed n k 0 h, opened-new (omega (arith, s .size))) l
+        goals f g (no z) =
+            rw (getD-set-other closed n f k 0 z, opened-below f (omega arith)) (s .goals f (omega arith))
+
+-- The goal is closed.
+close-drop : (l : List ℕ) (k : ℕ) (frames : Frames ℕ) → close (drop k l ∷ frames) ≡ extendBy (drop (suc k) l) frames
+unfolding close extendBy
+close-drop [] zero frames = refl
+close-drop [] (suc k) frames = refl
+close-drop (x ∷ []) zero frames = refl
+close-drop (x ∷ y ∷ l) zero frames = refl
+close-drop (x ∷ l) (suc k) frames = close-drop l k frames
+
+extend-nothing : (l : List ℕ) (frames : Frames ℕ) → not (isNil l) ≡ false → extendBy l frames ≡ close frames
+unfolding extendBy
+extend-nothing [] frames e = refl
+extend-nothing (x ∷ l) frames e = absurd (clash (cc))
+
+extend-something : (l : List ℕ) (frames : Frames ℕ) → not (isNil l) ≡ true → extendBy l frames ≡ l ∷ frames
+unfolding extendBy
+extend-something [] frames e = absurd (clash (cc))
+extend-something (x ∷ l) frames e = refl
+
+left-some : (l : List ℕ) (k : ℕ) → not (isNil (drop k l)) ≡ true → k < length l
+left-some [] zero e = absurd (clash (cc))
+left-some [] (suc k) e = absurd (clash (cc))
+left-some (x ∷ l) zero e = omega arith
+left-some (x ∷ l) (suc k) e = omega (arith, left-some l k e)
+
+module _ (table closed : List ℕ) where
+  pub close-none : (n : ℕ) → n ≡ 0 → framesFrom table closed 0 ≡ close (framesFrom table closed n)
   unfolding close framesFrom
   close-none n e = rw e
 
-  -- The last frame of m is n; whether it has another open literal.
+  -- The last frame of m is n; whether it has an open literal after its goal.
   module _ (n m : ℕ) (e : m ≡ suc n) where
-    abbrev place : ℕ
-    place = getD goals n 0
-
     abbrev more : Bool
-    more = eqb (place % 2) 0 && not (eqb (getD table (place + 1) 0) 0)
+    more = not (isNil (drop (suc (getD closed n 0)) (opened table n)))
 
-    pub close-one : more ≡ false → close (framesFrom table goals m) ≡ close (framesFrom table goals n)
+    pub close-last : more ≡ false → close (framesFrom table closed m) ≡ close (framesFrom table closed n)
     unfolding framesFrom
-    close-one z =
-        rw e (one (eqb (place % 2) 0) (getD table place 0) (getD table (place + 1) 0) (framesFrom table goals n) z)
+    close-last z =
+        rw e
+        (close-drop (opened table n) (getD closed n 0) (framesFrom table closed n)
+        ∙ extend-nothing (drop (suc (getD closed n 0)) (opened table n)) (framesFrom table closed n) z)
 
-    next-even : more ≡ true → place % 2 ≡ 0
-    next-even z = eqb-true (place % 2) 0 (both-left (eqb (place % 2) 0) (not (eqb (getD table (place + 1) 0) 0)) z)
-
-    next-there : more ≡ true → 0 < getD table (place + 1) 0
-    next-there z =
-        let s = getD table (place + 1) 0 in
-        let q = eqb-false s 0 (not-true (eqb s 0) (both-right (eqb (place % 2) 0) (not (eqb s 0)) z)) in
-        omega (arith, q)
-
-    pub close-two : n < length goals → more ≡ true → 0 < getD table place 0
-        → framesFrom table (set goals n (place + 1)) m ≡ close (framesFrom table goals m)
+    frames-kept : (k i : ℕ) → i ≤ n → framesFrom table (set closed n k) i ≡ framesFrom table closed i
     unfolding framesFrom
-    close-two h z g =
-        let even = next-even z in
-        let odd : eqb ((place + 1) % 2) 0 ≡ false = ne-eqb ((place + 1) % 2) 0 (λ q. omega arith) in
-        frames-push (place + 1) n m e h
-        ∙ rw (odd, e, eq-eqb (place % 2) 0 even)
-        (two (getD table place 0) (getD table (place + 1) 0) (framesFrom table goals n) g (next-there z))
+    frames-kept k zero h = refl
+    frames-kept k (suc i) h = rw (getD-set-other closed n i k 0 (λ z. omega arith), frames-kept k i (omega arith))
 
-    pub placed-next : (k : ℕ) → n < length goals → more ≡ true → Placed table k goals m
-        → Placed table k (set goals n (place + 1)) m
-    placed-next k h z p =
-        let even = next-even z in
-        placed-push (place + 1) n m k e h (omega (arith, p .below n (omega arith))) (next-there z)
-        (placed-part n m k (omega arith) p)
+    pub close-next : (k : ℕ) → k ≡ suc (getD closed n 0) → n < length closed → more ≡ true
+        → framesFrom table (set closed n k) m ≡ close (framesFrom table closed m)
+    unfolding framesFrom
+    close-next k q h z =
+        rw (e, getD-set-same closed n k 0 h, frames-kept k n (omega arith), q)
+        (sym (close-drop (opened table n) (getD closed n 0) (framesFrom table closed n)
+        ∙ extend-something (drop (suc (getD closed n 0)) (opened table n)) (framesFrom table closed n) z))
 
-pub placed-none : (table : List ℕ) (k : ℕ) (goals : List ℕ) → Placed table k goals 0
-placed-none table k goals = record { below = λ f l. absurd (omega arith); there = λ f l. absurd (omega arith) }
+    pub stands-next : (k : ℕ) → k ≡ suc (getD closed n 0) → n < length closed → more ≡ true → Standing table closed m
+        → Standing table (set closed n k) m
+    stands-next k q h z s = record { deep = s .deep; size = s .size; goals = λ f g. goals f g (ℕ-discrete f n) }
+      where
+        goals : (f : ℕ) → f < m → Dec (f ≡ n) → getD (set closed n k) f 0 < length (opened table f)
+        goals f g (yes d) =
+            rw (d, getD-set-same closed n k 0 h, q) (left-some (opened table n) (suc (getD closed n 0)) z)
+        goals f g (no d) = rw (getD-set-other closed n f k 0 d) (s .goals f g)

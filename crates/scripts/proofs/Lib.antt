@@ -16,9 +16,8 @@ pub mod Numbers
 pub mod Extending
 pub mod Stepping
 pub mod Walking
-pub mod Running
 pub mod Starting
-pub mod Meant
+pub mod Matching
 pub mod Used
 pub mod Agreement
 pub mod Outcomes

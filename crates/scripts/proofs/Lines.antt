@@ -20,8 +20,9 @@ use borrow.Author.Tests.{leb-true, eq-eqb, ne-eqb}
 use Rattle.records.specs.Outcome.{pass, require}
 use Rattle.records.proofs.Passed.{both-left, require-passed}
 use Rattle.records.proofs.Ranges.{Run, between}
-use Rattle.scripts.specs.Format.{entryAt, applied, extending, Kind, noKind, kinds, kindOf, lineOf, isStep}
-use Rattle.scripts.specs.Form.{lengthFits, lengthCheck, allZero, isNamed, functionFits, stepFits, linkFits, linkCheck}
+use Rattle.scripts.specs.Steps.{extension}
+use Rattle.scripts.specs.Format.{entrySize, entryLimit, extensionOf, entryAt, applied, step, Kind, noKind, kinds, kindOf, lineOf, isStep}
+use Rattle.scripts.specs.Form.{lengthFits, lengthCheck, allZero, isNamed, functionFits, lineFits, linkFits, linkCheck}
 use Rattle.scripts.specs.declared.entry.Entry.{Entry}
 
 -- a sum of two numbers that is zero
@@ -87,18 +88,18 @@ module _ (v s : List ℕ) (i : ℕ) (e : Entry) where
       (λ n. refl, (λ n. refl, (λ n. absurd (n refl), (λ n. refl, (λ n. refl, (λ n. refl, tt))))))
       (λ k l n. refl) (e .w0) h
 
-  pub step-start : e .w0 ≡ 3 → leb (e .w1) 1 ≡ stepFits v s i (lineOf e)
+  pub step-start : e .w0 ≡ 3 → leb (e .w1) 1 ≡ lineFits v s i (lineOf e)
   unfolding kindOf
   step-start h = rw h
 
-  pub step-extension : e .w0 ≡ 4 → stepFits v s i (extending (e .w1) (e .w2) (e .w3) (e .w4) (e .w5)) ≡ stepFits v s i (lineOf e)
+  pub step-extension : e .w0 ≡ 4 → lineFits v s i (step (extension (extensionOf e))) ≡ lineFits v s i (lineOf e)
   unfolding kindOf
   step-extension h = rw h
 
-  pub step-other : (e .w0 ≡ 3 → ⊥) → (e .w0 ≡ 4 → ⊥) → true ≡ stepFits v s i (lineOf e)
+  pub step-other : (e .w0 ≡ 3 → ⊥) → (e .w0 ≡ 4 → ⊥) → true ≡ lineFits v s i (lineOf e)
   unfolding kindOf
   step-other h l =
-      by-kind (λ k x. (k ≡ 3 → ⊥) → (k ≡ 4 → ⊥) → true ≡ stepFits v s i (x .says e))
+      by-kind (λ k x. (k ≡ 3 → ⊥) → (k ≡ 4 → ⊥) → true ≡ lineFits v s i (x .says e))
       (λ m n. refl, (λ m n. refl, (λ m n. refl, (λ m n. absurd (m refl), (λ m n. absurd (n refl), (λ m n. refl, tt))))))
       (λ k p m n. refl) (e .w0) h l
 
@@ -132,7 +133,8 @@ module _ (s : List ℕ) (i : ℕ) (e : Entry) (read : e ≡ entryAt s i) (t : Bo
   link-none h = rw (← read, ← told, h)
 
 -- Row 13 passed: there is a header.
-pub length-passed : (s : List ℕ) → lengthCheck s ≡ pass → 16 ≤ length s
+pub length-passed : (s : List ℕ) → lengthCheck s ≡ pass → entrySize ≤ length s
 length-passed s e =
-    leb-true 16 (length s)
-    (both-left (leb 16 (length s)) (leb (length s) 32768 && eqb (length s % 16) 0) (require-passed (lengthFits s) 13 0 e))
+    leb-true entrySize (length s)
+    (both-left (leb entrySize (length s)) (leb (length s) (entrySize * entryLimit) && eqb (length s % entrySize) 0)
+    (require-passed (lengthFits s) 13 0 e))

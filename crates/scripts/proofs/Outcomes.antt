@@ -1,6 +1,6 @@
 -- What the script check answers, by the check that decides.
---   vocabulary-at, form-at               a vocabulary that was accepted, a form that passed
---   refused-vocabulary, refused-form     a check refuses
+--   vocabulary-at                                     a vocabulary that was accepted
+--   refused-vocabulary, refused-length, refused-form  a check refuses
 --   decided                              the chain decides
 -- Assumes nothing.
 use Prim.Native.Nat.{ℕ}
@@ -9,7 +9,7 @@ use mathlib.Core.List.{List}
 use lib.ListN.{length}
 use Rattle.records.specs.Outcome.{Outcome, accepted, refused, pass, _then_}
 use Rattle.records.specs.Format as format
-use Rattle.records.specs.Check.{vocabularyCheck}
+use Rattle.records.specs.Check.{vocabularyCheck, IsAccepted}
 use Rattle.records.specs.Answers.{checked, counted}
 use Rattle.records.specs.declared.answers.Checked.{Checked}
 use Rattle.records.specs.declared.answers.Checked.the-variants as check
@@ -18,23 +18,20 @@ use Rattle.records.specs.declared.answers.Counted.the-variants as count
 use Rattle.records.proofs.Bounds.{vocabulary-count}
 use Rattle.records.proofs.Accepted.{accepted-vocabulary}
 use Rattle.scripts.specs.Format.{chain}
-use Rattle.scripts.specs.Form.{formCheck}
+use Rattle.scripts.specs.Form.{lengthCheck, formCheck}
 use Rattle.scripts.specs.Run.{scriptCheck}
-use Rattle.scripts.specs.Numbered.{numberChain}
+use Rattle.scripts.specs.Tested.{chainOutcome}
 use Rattle.scripts.proofs.Formed.{formed}
 use Rattle.scripts.proofs.Agreement.{numbers-agree}
 
 module _ (v : List ℕ) where
   pub vocabulary-at : (c : Counted) (m : ℕ) → counted c ≡ vocabularyCheck v → c ≡ count.Records m
-      → vocabularyCheck v ≡ accepted (format.count v)
+      → IsAccepted v
   vocabulary-at c m e r =
       let taken : vocabularyCheck v ≡ accepted m = sym e ∙ ap counted r in
       taken ∙ ap (λ (n : ℕ). accepted n) (vocabulary-count v m taken)
 
 module _ (v s : List ℕ) where
-  pub form-at : (k : Checked) → checked k ≡ formCheck v s → k ≡ check.Fine → formCheck v s ≡ pass
-  form-at k e r = sym e ∙ ap checked r
-
   pub refused-vocabulary : (answer : Outcome ℕ) (c : Counted) (n p : ℕ) → counted c ≡ vocabularyCheck v → c ≡ count.Refused n p
       → answer ≡ (counted c then accepted 0) → answer ≡ scriptCheck v s
   unfolding scriptCheck
@@ -42,15 +39,22 @@ module _ (v s : List ℕ) where
       let no : vocabularyCheck v ≡ refused n p = sym e ∙ ap counted r in
       a ∙ rw (r, no)
 
-  pub refused-form : (answer : Outcome ℕ) (k : Checked) (n p : ℕ) → vocabularyCheck v ≡ accepted (format.count v)
+  pub refused-length : (answer : Outcome ℕ) (k : Checked) (n p : ℕ) → IsAccepted v → checked k ≡ lengthCheck s
+      → k ≡ check.Refused n p → answer ≡ (checked k then accepted 0) → answer ≡ scriptCheck v s
+  unfolding scriptCheck formCheck
+  refused-length answer k n p taken e r a =
+      let no : lengthCheck s ≡ refused n p = sym e ∙ ap checked r in
+      a ∙ rw (r, taken, no)
+
+  pub refused-form : (answer : Outcome ℕ) (k : Checked) (n p : ℕ) → IsAccepted v
       → checked k ≡ formCheck v s → k ≡ check.Refused n p → answer ≡ (checked k then accepted 0) → answer ≡ scriptCheck v s
   unfolding scriptCheck
   refused-form answer k n p taken e r a =
       let no : formCheck v s ≡ refused n p = sym e ∙ ap checked r in
       a ∙ rw (r, taken, no)
 
-  pub decided : (answer : Outcome ℕ) → vocabularyCheck v ≡ accepted (format.count v) → formCheck v s ≡ pass
-      → answer ≡ (numberChain v s (chain s) then accepted (length (chain s))) → answer ≡ scriptCheck v s
+  pub decided : (answer : Outcome ℕ) → IsAccepted v → formCheck v s ≡ pass
+      → answer ≡ chainOutcome v s → answer ≡ scriptCheck v s
   unfolding scriptCheck
   decided answer taken form a =
       let same = numbers-agree v s (accepted-vocabulary v (format.count v) taken) (formed v s form) in

@@ -10,10 +10,8 @@ use mathlib.Core.Bool.{Bool, true, false, not, _&&_}
 use mathlib.Core.List.{List, [], _∷_, map}
 use Rattle.records.specs.Outcome.{Check, accepted, refused, pass, _then_, require}
 use Rattle.records.proofs.Passed.{clash}
-use Rattle.columns.specs.Columns.{Query}
-use Rattle.scripts.specs.Format.{queryOf}
-use Rattle.scripts.specs.Calculus.{Step}
-use Rattle.scripts.specs.Run.{Frames, stepAt, isNil, isStart, connects, reduces, hasRoom, stepCheck, stepped, run}
+use Rattle.scripts.specs.Steps.{Step}
+use Rattle.scripts.specs.Run.{Frames, isNil, isStart, Setting, connects, reduces, hasRoom, stepCheck, stepped, run}
 use Rattle.scripts.specs.Run.{chainCheck}
 
 abbrev pub passes : Check → Bool
@@ -32,36 +30,35 @@ passes-require : (b : Bool) (n p : ℕ) → passes (require b n p) ≡ b
 passes-require true n p = refl
 passes-require false n p = refl
 
-module _ (v : List ℕ) (q : Query) where
-  abbrev pub fits : Frames → Step → Bool
+module _ {A L : Type 0} (g : Setting A L) where
+  abbrev pub fits : Frames L → Step A → Bool
   fits frames step =
       not (isNil frames)
-      && (not (isStart step) && (connects v q frames step && (reduces frames step && hasRoom v q frames step)))
+      && (not (isStart step) && (connects g frames step && (reduces g frames step && hasRoom g frames step)))
 
-  unfoldable pub plays : List Step → Frames → Bool
+  unfoldable pub plays : List (Step A) → Frames L → Bool
   plays [] frames = isNil frames
-  plays (step ∷ rest) frames = fits frames step && plays rest (stepped v q frames step)
+  plays (step ∷ rest) frames = fits frames step && plays rest (stepped g frames step)
 
-  abbrev pub begins : List Step → Bool
+  abbrev pub begins : List (Step A) → Bool
   begins [] = false
-  begins (step ∷ rest) = isStart step && plays rest (stepped v q [] step)
+  begins (step ∷ rest) = isStart step && plays rest (stepped g [] step)
 
-  step-fits : (i : ℕ) (frames : Frames) (step : Step) → passes (stepCheck v q i frames step) ≡ fits frames step
+  step-fits : (i : ℕ) (frames : Frames L) (step : Step A) → passes (stepCheck g i frames step) ≡ fits frames step
   unfolding stepCheck
   step-fits i frames step = simp (passes-then, passes-require)
 
-module _ (v s : List ℕ) where
-  run-plays : (is : List ℕ) (frames : Frames) (last : ℕ)
-      → passes (run v s frames last is) ≡ plays v (queryOf s) (map (stepAt s) is) frames
-  unfolding run plays
-  run-plays [] frames last = passes-require (isNil frames) 24 last
-  run-plays (i ∷ is) frames last =
-      passes-then (stepCheck v (queryOf s) i frames (stepAt s i)) _
-      ∙ rw (step-fits v (queryOf s) i frames (stepAt s i), run-plays is (stepped v (queryOf s) frames (stepAt s i)) i)
+  module _ (steps : ℕ → Step A) where
+    run-plays : (is : List ℕ) (frames : Frames L) (last : ℕ) → passes (run g steps frames last is) ≡ plays (map steps is) frames
+    unfolding run plays
+    run-plays [] frames last = passes-require (isNil frames) 24 last
+    run-plays (i ∷ is) frames last =
+        passes-then (stepCheck g i frames (steps i)) _
+        ∙ rw (step-fits i frames (steps i), run-plays is (stepped g frames (steps i)) i)
 
-  pub chain-begins : (is : List ℕ) → passes (chainCheck v s is) ≡ begins v (queryOf s) (map (stepAt s) is)
-  unfolding chainCheck
-  chain-begins [] = refl
-  chain-begins (i ∷ is) =
-      passes-then (require (isStart (stepAt s i)) 20 i) _
-      ∙ rw (passes-require (isStart (stepAt s i)) 20 i, run-plays is (stepped v (queryOf s) [] (stepAt s i)) i)
+    pub chain-begins : (is : List ℕ) → passes (chainCheck g steps is) ≡ begins (map steps is)
+    unfolding chainCheck
+    chain-begins [] = refl
+    chain-begins (i ∷ is) =
+        passes-then (require (isStart (steps i)) 20 i) _
+        ∙ rw (passes-require (isStart (steps i)) 20 i, run-plays is (stepped g [] (steps i)) i)

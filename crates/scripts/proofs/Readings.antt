@@ -21,36 +21,37 @@ use Rattle.records.proofs.Passed.{clash}
 use Rattle.columns.specs.Literals.{SkolemTerm, Literal, complement}
 use Rattle.columns.specs.Columns.{Query}
 use Rattle.scripts.specs.Format.{queryOf}
-use Rattle.scripts.specs.Calculus.{Extension, Step, start, extension, reduction, connected, others, Listed, onPath}
+use Rattle.scripts.specs.Steps.{Extension, Step, start, extension, reduction}
+use Rattle.scripts.specs.Calculus.{connected, others, Listed, onPath}
 use Rattle.scripts.specs.Calculus.{Derivation, ended, reduced, extended, steps, height, frameLimit, startColumn, Derives}
-use Rattle.scripts.specs.Run.{Frames, stepAt, close, extendBy, stepped, chainCheck}
+use Rattle.scripts.specs.Run.{Frames, close, extendBy, stepped, chainCheck, writtenOut, stepAt}
 use Rattle.scripts.proofs.Played.{passes, plays, begins, chain-begins}
 use Rattle.scripts.proofs.Closing.{Literals, goals, room, room-under, close-goal, reduction-played, extension-played}
 use Rattle.scripts.proofs.Closing.{start-open}
 
-abbrev pub StepListed : List ℕ → Query → Step → Type 0
+abbrev pub StepListed : List ℕ → Query → Step SkolemTerm → Type 0
 StepListed v q (start n) = n ≤ 1
 StepListed v q (extension e) = Listed v q e
 StepListed v q (reduction f) = Unit {0}
 
-abbrev pub AllListed : List ℕ → Query → List Step → Type 0
+abbrev pub AllListed : List ℕ → Query → List (Step SkolemTerm) → Type 0
 AllListed v q [] = Unit {0}
 AllListed v q (step ∷ rest) = StepListed v q step × AllListed v q rest
 
-record Reading (v : List ℕ) (q : Query) (c : Literals) (frames : Frames) (list : List Step) : Type 0 where
+record Reading (v : List ℕ) (q : Query) (c : Literals) (frames : Frames (Literal SkolemTerm)) (list : List (Step SkolemTerm)) : Type 0 where
   derivation : Derivation v q c (goals frames)
-  rest : List Step
+  rest : List (Step SkolemTerm)
   same : list ≡ steps derivation ++ rest
   bounded : height derivation ≤ frameLimit - length frames
   listed : AllListed v q rest
-  played : plays v q rest (extendBy [] frames) ≡ true
+  played : plays (writtenOut v q) rest (extendBy [] frames) ≡ true
 
 module _ (v : List ℕ) (q : Query) where
-  rest-shorter : {c : Literals} {frames : Frames} {list : List Step} (r : Reading v q c frames list)
+  rest-shorter : {c : Literals} {frames : Frames (Literal SkolemTerm)} {list : List (Step SkolemTerm)} (r : Reading v q c frames list)
       → length (r .rest) ≤ length list
   rest-shorter r = omega (arith, ap length (r .same), length-append (steps (r .derivation)) (r .rest))
 
-  module _ (l : Literal SkolemTerm) (c : Literals) (frames : Frames) (list : List Step) where
+  module _ (l : Literal SkolemTerm) (c : Literals) (frames : Frames (Literal SkolemTerm)) (list : List (Step SkolemTerm)) where
     read-reduction : (f : ℕ) → length frames < frameLimit → f < length (goals frames) → onPath (goals frames) f ≡ complement l
         → Reading v q c frames list → Reading v q (l ∷ c) frames (reduction f ∷ list)
     unfolding steps height
@@ -58,13 +59,13 @@ module _ (v : List ℕ) (q : Query) where
         record {
           derivation = reduced f k m (r .derivation);
           rest = r .rest;
-          same = ap (λ (x : List Step). reduction f ∷ x) (r .same);
+          same = ap (λ (x : List (Step SkolemTerm)). reduction f ∷ x) (r .same);
           bounded = omega arith;
           listed = r .listed;
           played = r .played;
         }
 
-    read-extension : (e : Extension) → length frames < frameLimit → Listed v q e → connected v q e ≡ complement l
+    read-extension : (e : Extension SkolemTerm) → length frames < frameLimit → Listed v q e → connected v q e ≡ complement l
         → (r : Reading v q (others v q e) ((l ∷ c) ∷ frames) list) → Reading v q c frames (r .rest)
         → Reading v q (l ∷ c) frames (extension e ∷ list)
     unfolding steps height
@@ -73,23 +74,23 @@ module _ (v : List ℕ) (q : Query) where
           derivation = extended e k m (r .derivation) (t .derivation);
           rest = t .rest;
           same =
-              ap (λ (x : List Step). extension e ∷ x)
+              ap (λ (x : List (Step SkolemTerm)). extension e ∷ x)
               (r .same
-              ∙ ap (λ (x : List Step). steps (r .derivation) ++ x) (t .same)
+              ∙ ap (λ (x : List (Step SkolemTerm)). steps (r .derivation) ++ x) (t .same)
               ∙ sym (append-assoc (steps (r .derivation)) (steps (t .derivation)) (t .rest)));
           bounded = omega arith;
           listed = t .listed;
           played = t .played;
         }
 
-  abbrev Readable : List Step → Type 0
+  abbrev Readable : List (Step SkolemTerm) → Type 0
   Readable list =
-      (c : Literals) (frames : Frames) → room c (length frames) ≡ true → AllListed v q list
-      → plays v q list (extendBy c frames) ≡ true → Reading v q c frames list
+      (c : Literals) (frames : Frames (Literal SkolemTerm)) → room c (length frames) ≡ true → AllListed v q list
+      → plays (writtenOut v q) list (extendBy c frames) ≡ true → Reading v q c frames list
 
-  read-step : (c : Literals) (list : List Step) (frames : Frames)
-      → ((rest : List Step) → length rest < length list → Readable rest)
-      → room c (length frames) ≡ true → AllListed v q list → plays v q list (extendBy c frames) ≡ true
+  read-step : (c : Literals) (list : List (Step SkolemTerm)) (frames : Frames (Literal SkolemTerm))
+      → ((rest : List (Step SkolemTerm)) → length rest < length list → Readable rest)
+      → room c (length frames) ≡ true → AllListed v q list → plays (writtenOut v q) list (extendBy c frames) ≡ true
       → Reading v q c frames list
   unfolding plays extendBy steps height
   read-step [] list frames h m a p =
@@ -105,43 +106,45 @@ module _ (v : List ℕ) (q : Query) where
       let k = ltb-true (length frames) frameLimit m in
       let s = extension-played v q l c frames e list p in
       let r = h list (omega arith) (others v q e) ((l ∷ c) ∷ frames) (s .0 .1) (a .1) (s .1) in
-      let left = ap (plays v q (r .rest)) (sym (close-goal l c frames)) ∙ r .played in
+      let left = ap (plays (writtenOut v q) (r .rest)) (sym (close-goal l c frames)) ∙ r .played in
       read-extension l c frames list e k (a .0) (s .0 .0) r
       (h (r .rest) (omega (arith, rest-shorter r)) c frames (room-under c (length frames) k) (r .listed) left)
 
-  reads : (n : ℕ) (list : List Step) → length list ≤ n → Readable list
+  reads : (n : ℕ) (list : List (Step SkolemTerm)) → length list ≤ n → Readable list
   reads zero list h c frames = read-step c list frames (λ rest k. absurd (omega arith))
   reads (suc n) list h c frames = read-step c list frames (λ rest k. reads n rest (omega arith))
 
-  closed-plays : (list : List Step) → plays v q list (extendBy [] []) ≡ true → list ≡ []
+  closed-plays : (list : List (Step SkolemTerm)) → plays (writtenOut v q) list (extendBy [] []) ≡ true → list ≡ []
   unfolding plays extendBy close
   closed-plays [] p = refl
   closed-plays (step ∷ list) p = absurd (clash (cc))
 
-  start-derives : (n : ℕ) (list : List Step) → n ≤ 1 → AllListed v q list → plays v q list (stepped v q [] (start n)) ≡ true
+  start-derives : (n : ℕ) (list : List (Step SkolemTerm)) → n ≤ 1 → AllListed v q list → plays (writtenOut v q) list (stepped (writtenOut v q) [] (start n)) ≡ true
       → Derives v q (start n ∷ list)
   start-derives n list h a p =
       let space = room-under (startColumn v q n) 0 (omega arith) in
-      let opened = ap (plays v q list) (sym (start-open v q n h)) ∙ p in
+      let opened = ap (plays (writtenOut v q) list) (sym (start-open v q n h)) ∙ p in
       let r = reads (length list) list (omega arith) (startColumn v q n) [] space a opened in
       record {
         column = n;
         listed = h;
         derivation = r .derivation;
         same =
-            ap (λ (x : List Step). start n ∷ x)
+            ap (λ (x : List (Step SkolemTerm)). start n ∷ x)
             (r .same
-            ∙ ap (λ (x : List Step). steps (r .derivation) ++ x) (closed-plays (r .rest) (r .played))
+            ∙ ap (λ (x : List (Step SkolemTerm)). steps (r .derivation) ++ x) (closed-plays (r .rest) (r .played))
             ∙ append-nil (steps (r .derivation)));
         frames = r .bounded;
       }
 
-  begins-derives : (list : List Step) → AllListed v q list → begins v q list ≡ true → Derives v q list
+  begins-derives : (list : List (Step SkolemTerm)) → AllListed v q list → begins (writtenOut v q) list ≡ true → Derives v q list
   begins-derives [] a p = absurd (clash (cc))
   begins-derives (start n ∷ list) a p = start-derives n list (a .0) (a .1) p
   begins-derives (extension e ∷ list) a p = absurd (clash (cc))
   begins-derives (reduction f ∷ list) a p = absurd (clash (cc))
 
-pub chain-derives : (v s : List ℕ) (is : List ℕ) → AllListed v (queryOf s) (map (stepAt s) is) → chainCheck v s is ≡ pass
-    → Derives v (queryOf s) (map (stepAt s) is)
-chain-derives v s is a e = begins-derives v (queryOf s) (map (stepAt s) is) a (sym (chain-begins v s is) ∙ ap passes e)
+pub chain-derives : (v s : List ℕ) (is : List ℕ) → AllListed v (queryOf s) (map (stepAt s) is)
+    → chainCheck (writtenOut v (queryOf s)) (stepAt s) is ≡ pass → Derives v (queryOf s) (map (stepAt s) is)
+chain-derives v s is a e =
+    begins-derives v (queryOf s) (map (stepAt s) is) a
+    (sym (chain-begins (writtenOut v (queryOf s)) (stepAt s) is) ∙ ap passes e)

@@ -18,12 +18,11 @@ use Rattle.records.specs.Chain.{occurs}
 use Rattle.records.proofs.Passed.{clash}
 use Rattle.records.specs.Atoms.{atoms}
 use Rattle.types.specs.Compare.{verdict, atomLimit, formBytes, termCheck, atomsCheck, lentCheck, queryCheck, comparison}
-use Rattle.columns.specs.Columns.{Query}
 use Rattle.scripts.specs.Format.{entryAt, entries, queryOf, firstStep, lineOf, chain}
 use Rattle.scripts.specs.Form as script
-use Rattle.scripts.specs.Calculus.{Step}
-use Rattle.scripts.specs.Run.{Frames, isNil, isStart, connects, reduces, hasRoom, stepAt, stepCheck, stepped, run}
-use Rattle.scripts.specs.Run.{chainCheck, scriptCheck}
+use Rattle.scripts.specs.Steps.{Step}
+use Rattle.scripts.specs.Run.{Frames, isNil, isStart, Setting, connects, reduces, hasRoom, stepCheck, stepped, run}
+use Rattle.scripts.specs.Run.{chainCheck, writtenOut, stepAt, scriptCheck}
 use Rattle.scripts.specs.Demands.{OfRows, vocabularyRows, comparisonRows, scriptRows}
 
 module _ (rows : List ℕ) where
@@ -108,10 +107,10 @@ comparison-rows v a b lent =
     (require-rows comparisonRows (leb formBytes lent) 12 0 refl)))) tt)
 
 -- the script check's own rows
-module _ (v s : List ℕ) where
-  own : (b : Bool) (n p : ℕ) → occurs n scriptRows ≡ true → OfRows scriptRows (require b n p)
-  own = require-rows scriptRows
+own : (b : Bool) (n p : ℕ) → occurs n scriptRows ≡ true → OfRows scriptRows (require b n p)
+own = require-rows scriptRows
 
+module _ (v s : List ℕ) where
   entry-rows : (i : ℕ) → OfRows scriptRows (script.entryCheck v s i)
   unfolding script.entryCheck occurs
   entry-rows i =
@@ -119,7 +118,7 @@ module _ (v s : List ℕ) where
       then-rows scriptRows (require (script.kindFits e) 15 i) _ (own (script.kindFits e) 15 i refl)
       (then-rows scriptRows (require (script.unusedFits e) 16 i) _ (own (script.unusedFits e) 16 i refl)
       (then-rows scriptRows (require (script.termFits v s i (lineOf e)) 17 i) _ (own (script.termFits v s i (lineOf e)) 17 i refl)
-      (own (script.stepFits v s i (lineOf e)) 18 i refl)))
+      (own (script.lineFits v s i (lineOf e)) 18 i refl)))
 
   next-rows : (i : ℕ) → OfRows scriptRows (script.linkCheck s i)
   unfolding script.linkCheck occurs
@@ -141,33 +140,38 @@ module _ (v s : List ℕ) where
       (own (script.linkFits s 0 (firstStep s)) 19 0 refl)
       linked))))
 
-  step-rows : (q : Query) (i : ℕ) (frames : Frames) (step : Step) → OfRows scriptRows (stepCheck v q i frames step)
+-- a run over any literals
+module _ {A L : Type 0} (g : Setting A L) where
+  step-rows : (i : ℕ) (frames : Frames L) (step : Step A) → OfRows scriptRows (stepCheck g i frames step)
   unfolding stepCheck occurs
-  step-rows q i frames step =
+  step-rows i frames step =
       then-rows scriptRows (require (not (isNil frames)) 25 i) _ (own (not (isNil frames)) 25 i refl)
       (then-rows scriptRows (require (not (isStart step)) 20 i) _ (own (not (isStart step)) 20 i refl)
-      (then-rows scriptRows (require (connects v q frames step) 21 i) _ (own (connects v q frames step) 21 i refl)
-      (then-rows scriptRows (require (reduces frames step) 22 i) _ (own (reduces frames step) 22 i refl)
-      (own (hasRoom v q frames step) 23 i refl))))
+      (then-rows scriptRows (require (connects g frames step) 21 i) _ (own (connects g frames step) 21 i refl)
+      (then-rows scriptRows (require (reduces g frames step) 22 i) _ (own (reduces g frames step) 22 i refl)
+      (own (hasRoom g frames step) 23 i refl))))
 
-  run-rows : (is : List ℕ) (frames : Frames) (last : ℕ) → OfRows scriptRows (run v s frames last is)
-  unfolding run occurs
-  run-rows [] frames last = own (isNil frames) 24 last refl
-  run-rows (i ∷ is) frames last =
-      then-rows scriptRows (stepCheck v (queryOf s) i frames (stepAt s i)) _ (step-rows (queryOf s) i frames (stepAt s i))
-      (run-rows is (stepped v (queryOf s) frames (stepAt s i)) i)
+  module _ (steps : ℕ → Step A) where
+    run-rows : (is : List ℕ) (frames : Frames L) (last : ℕ) → OfRows scriptRows (run g steps frames last is)
+    unfolding run occurs
+    run-rows [] frames last = own (isNil frames) 24 last refl
+    run-rows (i ∷ is) frames last =
+        then-rows scriptRows (stepCheck g i frames (steps i)) _ (step-rows i frames (steps i))
+        (run-rows is (stepped g frames (steps i)) i)
 
-  chain-rows : (is : List ℕ) → OfRows scriptRows (chainCheck v s is)
-  unfolding chainCheck occurs
-  chain-rows [] = refl
-  chain-rows (i ∷ is) =
-      then-rows scriptRows (require (isStart (stepAt s i)) 20 i) _ (own (isStart (stepAt s i)) 20 i refl)
-      (run-rows is (stepped v (queryOf s) [] (stepAt s i)) i)
+    chain-rows : (is : List ℕ) → OfRows scriptRows (chainCheck g steps is)
+    unfolding chainCheck occurs
+    chain-rows [] = refl
+    chain-rows (i ∷ is) =
+        then-rows scriptRows (require (isStart (steps i)) 20 i) _ (own (isStart (steps i)) 20 i refl)
+        (run-rows is (stepped g [] (steps i)) i)
 
-  pub script-rows : OfRows scriptRows (scriptCheck v s)
-  unfolding scriptCheck
-  script-rows =
-      let first = vocabulary-rows (13 ∷ 14 ∷ 10 ∷ 15 ∷ 16 ∷ 17 ∷ 18 ∷ 19 ∷ 25 ∷ 20 ∷ 21 ∷ 22 ∷ 23 ∷ 24 ∷ []) v in
-      then-rows scriptRows (vocabularyCheck v) _ first
-      (then-rows scriptRows (script.formCheck v s) _ form-rows
-      (then-rows scriptRows (chainCheck v s (chain s)) (accepted (length (chain s))) (chain-rows (chain s)) tt))
+pub script-rows : (v s : List ℕ) → OfRows scriptRows (scriptCheck v s)
+unfolding scriptCheck
+script-rows v s =
+    let paper = writtenOut v (queryOf s) in
+    let first = vocabulary-rows (13 ∷ 14 ∷ 10 ∷ 15 ∷ 16 ∷ 17 ∷ 18 ∷ 19 ∷ 25 ∷ 20 ∷ 21 ∷ 22 ∷ 23 ∷ 24 ∷ []) v in
+    then-rows scriptRows (vocabularyCheck v) _ first
+    (then-rows scriptRows (script.formCheck v s) _ (form-rows v s)
+    (then-rows scriptRows (chainCheck paper (stepAt s) (chain s)) (accepted (length (chain s)))
+    (chain-rows paper (stepAt s) (chain s)) tt))

@@ -12,12 +12,13 @@ use mathlib.Core.List.{List, [], _∷_, map, _++_, append-assoc, append-nil}
 use lib.ListN.{length}
 use borrow.Author.Tests.{lt-ltb}
 use Rattle.records.specs.Outcome.{pass}
-use Rattle.columns.specs.Literals.{complement}
+use Rattle.columns.specs.Literals.{SkolemTerm, Literal, complement}
 use Rattle.columns.specs.Columns.{Query}
 use Rattle.scripts.specs.Format.{queryOf}
-use Rattle.scripts.specs.Calculus.{Step, start, onPath, Derivation, ended, reduced, extended, steps, height, frameLimit}
+use Rattle.scripts.specs.Steps.{Step, start}
+use Rattle.scripts.specs.Calculus.{onPath, Derivation, ended, reduced, extended, steps, height, frameLimit}
 use Rattle.scripts.specs.Calculus.{startColumn, Derives}
-use Rattle.scripts.specs.Run.{Frames, stepAt, close, extendBy, chainCheck}
+use Rattle.scripts.specs.Run.{Frames, close, extendBy, chainCheck, writtenOut, stepAt}
 use Rattle.scripts.proofs.Played.{passes-true, plays, begins, chain-begins}
 use Rattle.scripts.proofs.Closing.{Literals, goals, room, close-goal, reduction-plays, extension-plays, start-open}
 
@@ -28,9 +29,9 @@ module _ (v : List ℕ) (q : Query) where
   height-room n (reduced f l p d) h = lt-ltb n frameLimit (omega arith)
   height-room n (extended e l p above d) h = lt-ltb n frameLimit (omega arith)
 
-  runs : {c path : Literals} (d : Derivation v q c path) (frames : Frames) (rest : List Step) → path ≡ goals frames
+  runs : {c path : Literals} (d : Derivation v q c path) (frames : Frames (Literal SkolemTerm)) (rest : List (Step SkolemTerm)) → path ≡ goals frames
       → height d ≤ frameLimit - length frames
-      → plays v q (steps d ++ rest) (extendBy c frames) ≡ plays v q rest (extendBy [] frames)
+      → plays (writtenOut v q) (steps d ++ rest) (extendBy c frames) ≡ plays (writtenOut v q) rest (extendBy [] frames)
   unfolding steps height extendBy
   runs ended frames rest e h = refl
   runs (reduced {l} {c} {path} f p k d) frames rest e h =
@@ -43,20 +44,22 @@ module _ (v : List ℕ) (q : Query) where
       rw append-assoc
       (extension-plays v q l c frames x (steps above ++ (steps d ++ rest)) k space
       ∙ runs above ((l ∷ c) ∷ frames) (steps d ++ rest) (ap (λ (y : Literals). l ∷ y) e) (omega arith)
-      ∙ ap (plays v q (steps d ++ rest)) (close-goal l c frames)
+      ∙ ap (plays (writtenOut v q) (steps d ++ rest)) (close-goal l c frames)
       ∙ runs d frames rest e (omega arith))
 
   start-begins : (n : ℕ) (d : Derivation v q (startColumn v q n) []) → n ≤ 1 → height d ≤ frameLimit
-      → begins v q (start n ∷ steps d) ≡ true
+      → begins (writtenOut v q) (start n ∷ steps d) ≡ true
   unfolding plays extendBy close
   start-begins n d h k =
-      ap (plays v q (steps d)) (start-open v q n h)
-      ∙ ap (λ (list : List Step). plays v q list (extendBy (startColumn v q n) [])) (sym (append-nil (steps d)))
+      ap (plays (writtenOut v q) (steps d)) (start-open v q n h)
+      ∙ ap (λ (list : List (Step SkolemTerm)). plays (writtenOut v q) list (extendBy (startColumn v q n) [])) (sym (append-nil (steps d)))
       ∙ runs d [] [] refl k
 
-pub derives-chain : (v s : List ℕ) (is : List ℕ) → Derives v (queryOf s) (map (stepAt s) is) → chainCheck v s is ≡ pass
+pub derives-chain : (v s : List ℕ) (is : List ℕ) → Derives v (queryOf s) (map (stepAt s) is)
+    → chainCheck (writtenOut v (queryOf s)) (stepAt s) is ≡ pass
 derives-chain v s is d =
-    passes-true (chainCheck v s is)
-    (chain-begins v s is
-    ∙ ap (begins v (queryOf s)) (d .same)
+    let paper = writtenOut v (queryOf s) in
+    passes-true (chainCheck paper (stepAt s) is)
+    (chain-begins paper (stepAt s) is
+    ∙ ap (begins paper) (d .same)
     ∙ start-begins v (queryOf s) (d .column) (d .derivation) (d .listed) (d .frames))

@@ -16,7 +16,7 @@ use Rattle.types.specs.Meaning.{AlwaysWithin}
 use Rattle.scripts.specs.Format.{queryOf, chain}
 use Rattle.scripts.specs.Form.{formCheck}
 use Rattle.scripts.specs.Calculus.{Derives}
-use Rattle.scripts.specs.Run.{stepAt, chainCheck, scriptCheck}
+use Rattle.scripts.specs.Run.{chainCheck, writtenOut, stepAt, scriptCheck}
 use Rattle.scripts.proofs.Runs.{derives-chain}
 use Rattle.scripts.proofs.Readings.{chain-derives}
 use Rattle.scripts.proofs.Sound.{derives-sound}
@@ -27,7 +27,7 @@ pub record Parts (v s : List ℕ) (n : ℕ) : Type 0 where
   pub records : ℕ
   pub vocabulary : vocabularyCheck v ≡ accepted records
   pub form : formCheck v s ≡ pass
-  pub run : chainCheck v s (chain s) ≡ pass
+  pub run : chainCheck (writtenOut v (queryOf s)) (stepAt s) (chain s) ≡ pass
   pub counted : n ≡ length (chain s)
 
 pub checked-parts : (v s : List ℕ) (n : ℕ) → scriptCheck v s ≡ accepted n → Parts v s n
@@ -35,11 +35,16 @@ unfolding scriptCheck
 checked-parts v s n e = at (vocabularyCheck v) refl e
   where
     at : (o : Outcome ℕ) → vocabularyCheck v ≡ o
-        → (o then formCheck v s then chainCheck v s (chain s) then accepted (length (chain s))) ≡ accepted n → Parts v s n
+        → (o
+        then formCheck v s
+        then chainCheck (writtenOut v (queryOf s)) (stepAt s) (chain s)
+        then accepted (length (chain s))) ≡ accepted n
+        → Parts v s n
     at (refused k p) q h = absurd (clash (cc))
     at (accepted m) q h =
-        let form = then-passed (formCheck v s) (chainCheck v s (chain s) then accepted (length (chain s))) n h in
-        let run = then-passed (chainCheck v s (chain s)) (accepted (length (chain s))) n (form .1) in
+        let ran = chainCheck (writtenOut v (queryOf s)) (stepAt s) (chain s) in
+        let form = then-passed (formCheck v s) (ran then accepted (length (chain s))) n h in
+        let run = then-passed ran (accepted (length (chain s))) n (form .1) in
         let same : accepted (length (chain s)) ≡ accepted n = run .1 in
         record { records = m; vocabulary = q; form = form .0; run = run .0; counted = cc }
 

@@ -26,7 +26,8 @@ use Rattle.columns.specs.Holding.{literalHolds, holds, Choice, NoneHolds, value
 use Rattle.columns.proofs.Holding.{complement-holds}
 use Rattle.columns.proofs.Instances.{instance-false}
 use Rattle.columns.proofs.Skolem.{none-holds}
-use Rattle.scripts.specs.Calculus.{Extension, Step, without, used, connected, others, Listed, onPath}
+use Rattle.scripts.specs.Steps.{Extension, Step}
+use Rattle.scripts.specs.Calculus.{without, used, connected, others, Listed, onPath}
 use Rattle.scripts.specs.Calculus.{Derivation, ended, reduced, extended, Derives}
 use Rattle.scripts.proofs.Closing.{Literals}
 
@@ -74,7 +75,7 @@ module _ (I : Interpretation) (v : List ℕ) (k : Choice I) where
       not-false (truthOf l) (sym (complement-truth l) ∙ sym (ap truthOf p) ∙ met)
 
   module _ (q : Query) (none : NoneHolds I k v q) where
-    extended-true : (l : Literal SkolemTerm) (e : Extension) → Listed v q e → connected v q e ≡ complement l
+    extended-true : (l : Literal SkolemTerm) (e : Extension SkolemTerm) → Listed v q e → connected v q e ≡ complement l
         → (truthOf l ≡ false → allTrue (others v q e) ≡ true) → truthOf l ≡ true
     extended-true l e h p above = unless-false (truthOf l) (λ f.
         let met : truthOf (connected v q e) ≡ true = ap truthOf p ∙ complement-truth l ∙ ap not f in
@@ -92,7 +93,7 @@ module _ (I : Interpretation) (v : List ℕ) (k : Choice I) where
     derivation-sound (extended {l} {c} e h p above d) f =
         true-cons l c (extended-true l e h p (λ g. derivation-sound above (g, f))) (derivation-sound d f)
 
-pub derives-sound : (v : List ℕ) → Accepted v → (q : Query) (list : List Step) → Derives v q list
+pub derives-sound : (v : List ℕ) → Accepted v → (q : Query) (list : List (Step SkolemTerm)) → Derives v q list
     → AlwaysWithin v (q .a) (q .b)
 unfolding columnsAt
 derives-sound v good q list derives I model d at first = unless-false (belongs I v (q .b) d) (λ second.

@@ -15,7 +15,7 @@
 --   apply-unique, unique-step, term-unique   no two term records have one term
 --   code-apply, code-unique, code-same       two codes are equal if their terms are
 -- Assumes nothing.
-use Prim.Native.Nat.{ℕ, zero, suc, _+_, _*_, _/_, _%_, _^_, _≤_, _<_}
+use Prim.Native.Nat.{ℕ, zero, suc, _+_, _*_, _/_, _%_, _≤_, _<_}
 use native.Mathlib.Omega.{arith}
 use native.Mathlib.Decide.{decLt}
 use mathlib.Core.Path.{_≡_, refl, sym, ap, subst, _∙_}
@@ -33,12 +33,13 @@ use Rattle.records.proofs.Accepted.{Accepted}
 use Rattle.types.proofs.InOrder.{in-order}
 use Rattle.types.proofs.Tests.{same-truth}
 use Rattle.columns.specs.Literals.{SkolemTerm, constant, apply, sameTerm}
+use Rattle.columns.specs.Packed.{termLimit}
 use Rattle.columns.proofs.Literals.{sameTerm-true, sameTerm-refl}
-use Rattle.scripts.specs.Format.{entryAt, entries, Line, blank, named, applied, starting, extending, reducing}
+use Rattle.scripts.specs.Format.{entrySize, entryAt, entries, Line, blank, named, applied, step}
 use Rattle.scripts.specs.Format.{Kind, kindOf, lineAt, isTerm, termOf, termAt}
 use Rattle.scripts.specs.Form.{allZero, unusedFits, earlierTerm, isFunction, repeats, repeated, isNamed, functionFits}
 use Rattle.scripts.specs.Form.{termFits}
-use Rattle.scripts.specs.Codes.{codeAt, codeTerm}
+use Rattle.scripts.specs.Codes.{functionLimit, codeOf, codeAt, codeTerm}
 use Rattle.scripts.specs.declared.entry.Entry.{Entry}
 use Rattle.scripts.proofs.Lines.{kind-past}
 use Rattle.scripts.proofs.Formed.{Formed}
@@ -58,7 +59,7 @@ pub record Applied (v s : List ℕ) (n : ℕ) : Type 0 where
   pub kind : entryAt s n .w0 ≡ 2
   pub positive : 0 < entryAt s n .w1
   pub function : entryAt s n .w1 < count v
-  pub small : entryAt s n .w1 < 512
+  pub small : entryAt s n .w1 < functionLimit
   pub earlier : entryAt s n .w2 < n
   pub inner : TermRecord s (entryAt s n .w2)
   pub alone : (j : ℕ) → j < n → entryAt s j .w0 ≡ 2
@@ -73,7 +74,7 @@ pub record First (s : List ℕ) (n : ℕ) : Type 0 where
 
 -- c is 0, or has a function above 0 and a term record.
 abbrev pub Valid : List ℕ → ℕ → Type 0
-Valid s c = (c ≡ 0) ⊎ ((0 < c % 512) × TermRecord s (c / 512))
+Valid s c = (c ≡ 0) ⊎ ((0 < c % functionLimit) × TermRecord s (c / functionLimit))
 
 pub code-zero : (s : List ℕ) → codeTerm s 0 ≡ constant
 unfolding codeTerm
@@ -84,22 +85,18 @@ abbrev Inner : ℕ → Line → Type 0
 Inner i blank = Unit {0}
 Inner i named = Unit {0}
 Inner i (applied f t) = t < i
-Inner i (starting n) = Unit {0}
-Inner i (extending owner n x y p) = Unit {0}
-Inner i (reducing f) = Unit {0}
+Inner i (step t) = Unit {0}
 
 inner-local : (i : ℕ) (l : Line) → Inner i l → (f g : ℕ → SkolemTerm) → ((j : ℕ) → j < i → f j ≡ g j) → termOf l f ≡ termOf l g
 inner-local i blank h f g e = refl
 inner-local i named h f g e = refl
 inner-local i (applied k t) h f g e = ap (apply k) (e t h)
-inner-local i (starting n) h f g e = refl
-inner-local i (extending owner n x y p) h f g e = refl
-inner-local i (reducing k) h f g e = refl
+inner-local i (step t) h f g e = refl
 
 -- there is nothing past the end
-entry-past : (s : List ℕ) (i : ℕ) → length s % 16 ≡ 0 → entries s ≤ i → entryAt s i .w0 ≡ 0
+entry-past : (s : List ℕ) (i : ℕ) → length s % entrySize ≡ 0 → entries s ≤ i → entryAt s i .w0 ≡ 0
 unfolding entryAt
-entry-past s i w h = ap (λ (l : List ℕ). wordAt (take 16 l) 0) (drop-of-length-le s {i = 16 * i} (omega arith))
+entry-past s i w h = ap (λ (l : List ℕ). wordAt (take entrySize l) 0) (drop-of-length-le s {i = entrySize * i} (omega arith))
 
 term-kind : (k : ℕ) → isTerm k ≡ true → (k ≡ 1) ⊎ (k ≡ 2)
 term-kind k e = at (eqb k 1) refl e
@@ -162,9 +159,7 @@ module _ (v s : List ℕ) (good : Accepted v) (f : Formed v s) where
       let rest = both-right (isFunction v k) (earlierTerm s i t && not (repeated s i k t)) e in
       let earlier = both-left (earlierTerm s i t) (not (repeated s i k t)) rest in
       ltb-true t i (both-left (ltb t i) (isTerm (entryAt s t .w0)) earlier)
-  fits-inner i (starting n) e = tt
-  fits-inner i (extending owner n x y p) e = tt
-  fits-inner i (reducing k) e = tt
+  fits-inner i (step t) e = tt
 
   line-inner : (i : ℕ) → Inner i (lineAt s i)
   line-inner zero = subst (Inner 0) (sym header-line) tt
@@ -252,18 +247,18 @@ module _ (v s : List ℕ) (good : Accepted v) (f : Formed v s) where
   term-applied n t = term-eq n ∙ ap (λ (l : Line). termOf l (termAt s)) (line-applied s n (t .kind))
 
   -- the code of a function at a term record
-  module _ (i n : ℕ) (p : 0 < i) (h : i < 512) (t : TermRecord s n) where
-    pub apply-valid : Valid s (i + 512 * n)
-    apply-valid = let e : n ≡ (i + 512 * n) / 512 = omega arith in inr (omega arith, subst (TermRecord s) e t)
+  module _ (i n : ℕ) (p : 0 < i) (h : i < functionLimit) (t : TermRecord s n) where
+    pub apply-valid : Valid s (codeOf i n)
+    apply-valid = let e : n ≡ codeOf i n / functionLimit = omega arith in inr (omega arith, subst (TermRecord s) e t)
 
-    pub apply-small : i + 512 * n < 2 ^ 20
+    pub apply-small : codeOf i n < termLimit
     apply-small = omega (arith, t .within, f .sized .most)
 
-    pub apply-term : codeTerm s (i + 512 * n) ≡ apply i (termAt s n)
+    pub apply-term : codeTerm s (codeOf i n) ≡ apply i (termAt s n)
     unfolding codeTerm
     apply-term =
-        let low : (i + 512 * n) % 512 ≡ i = omega arith in
-        let high : (i + 512 * n) / 512 ≡ n = omega arith in
+        let low : codeOf i n % functionLimit ≡ i = omega arith in
+        let high : codeOf i n / functionLimit ≡ n = omega arith in
         rw (low, high, ne-eqb i 0 (λ z. omega arith))
 
   -- the code of a term record
@@ -277,10 +272,10 @@ module _ (v s : List ℕ) (good : Accepted v) (f : Formed v s) where
       at (inl r) = inl (first-code n r)
       at (inr r) = apply-valid (entryAt s n .w1) (entryAt s n .w2) (r .positive) (r .small) (r .inner)
 
-  pub code-small : (n : ℕ) → TermRecord s n → codeAt s n < 2 ^ 20
+  pub code-small : (n : ℕ) → TermRecord s n → codeAt s n < termLimit
   code-small n t = at (term-record n t)
     where
-      at : First s n ⊎ Applied v s n → codeAt s n < 2 ^ 20
+      at : First s n ⊎ Applied v s n → codeAt s n < termLimit
       at (inl r) = omega (arith, first-code n r)
       at (inr r) = apply-small (entryAt s n .w1) (entryAt s n .w2) (r .positive) (r .small) (r .inner)
 
@@ -339,9 +334,9 @@ module _ (v s : List ℕ) (good : Accepted v) (f : Formed v s) where
   term-unique n m = unique-below (suc n) n m (omega arith)
 
   -- a code that is not 0 is that of a function at a term record
-  code-apply : (c : ℕ) → 0 < c % 512 → codeTerm s c ≡ apply (c % 512) (termAt s (c / 512))
+  code-apply : (c : ℕ) → 0 < c % functionLimit → codeTerm s c ≡ apply (c % functionLimit) (termAt s (c / functionLimit))
   unfolding codeTerm
-  code-apply c p = rw (ne-eqb (c % 512) 0 (λ z. omega arith))
+  code-apply c p = rw (ne-eqb (c % functionLimit) 0 (λ z. omega arith))
 
   code-unique : (c d : ℕ) → Valid s c → Valid s d → codeTerm s c ≡ codeTerm s d → c ≡ d
   code-unique c d (inl a) (inl b) e = a ∙ sym b
@@ -353,9 +348,9 @@ module _ (v s : List ℕ) (good : Accepted v) (f : Formed v s) where
       absurd (clash (cc))
   code-unique c d (inr a) (inr b) e =
       let both = sym (code-apply c (a .0)) ∙ e ∙ code-apply d (b .0) in
-      let function : c % 512 ≡ d % 512 = cc in
-      let term : termAt s (c / 512) ≡ termAt s (d / 512) = cc in
-      let inner = term-unique (c / 512) (d / 512) (a .1) (b .1) term in
+      let function : c % functionLimit ≡ d % functionLimit = cc in
+      let term : termAt s (c / functionLimit) ≡ termAt s (d / functionLimit) = cc in
+      let inner = term-unique (c / functionLimit) (d / functionLimit) (a .1) (b .1) term in
       omega arith
 
   pub code-same : (c d : ℕ) → Valid s c → Valid s d → sameTerm (codeTerm s c) (codeTerm s d) ≡ eqb c d

@@ -1,100 +1,117 @@
--- The column that an extension uses, at the codes of its terms, where row 18 passed; and that of a start.
---   usedCodes, startCodes                     the literals of an extension's column at codes; of a start's
---   UsedColumn                                they are valid, one is at the position, and they mean the column at the terms
---   used-numbers, start-numbers               their numbers are those of the run over numbers
---   used-listed                               they have the column's positions
---   start-meant, start-filled, start-valid    a start's mean its column, are not none, and are valid
---   used-query, used-record, extension-used   an extension's column: owner 0; any other; where row 18 passed
+-- A column at codes, as numbers, corresponds to the column at the terms that the codes stand for.
+--   Means                           a number is that of a literal at codes, which means a literal about terms
+--   about-constant                  a literal about the constant
+--   literal-means, column-means     a literal, and a column, at codes and at their terms
+--   query-means                     a query column, which speaks of a alone
+--   used-means                      the column of an extension, where row 18 passed
 -- Assumes nothing.
-use Prim.Native.Nat.{ℕ, zero, suc, _+_, _*_, _≤_, _<_}
+use Prim.Native.Nat.{ℕ, zero, suc, _≤_, _<_}
 use native.Mathlib.Omega.{arith}
-use mathlib.Core.Path.{_≡_}
-use mathlib.Core.Bool.{true}
-use mathlib.Core.List.{List, map, map-map}
-use lib.ListN.{length, length-map}
+use mathlib.Core.Path.{_≡_, refl, sym, ap, ap₂}
+use mathlib.Core.Bool.{Bool, true, false}
+use mathlib.Core.List.{List, [], _∷_, map}
+use mathlib.Core.Logic.{inl}
 use Rattle.records.proofs.Accepted.{Accepted, All}
-use Rattle.columns.specs.Literals.{constant, Literal, substitute}
-use Rattle.columns.specs.Columns.{columnsAt, columnAt, arguments, instanceAt}
-use Rattle.columns.specs.Packed.{packed}
+use Rattle.columns.specs.Literals.{SkolemTerm, constant, apply, Literal, concept, role, substitute}
+use Rattle.columns.specs.Columns.{Argument, x, y, fx, a, Column, columnsAt, columnAt, arguments, instanceAt}
+use Rattle.columns.specs.Packed.{packed, packedAt, predicateLimit}
+use Rattle.scripts.specs.Steps.{Extension, extension, extensionBy}
 use Rattle.scripts.specs.Format.{entries, queryOf, termAt}
-use Rattle.scripts.specs.Form.{extensionFits}
-use Rattle.scripts.specs.Calculus.{startColumn}
-use Rattle.scripts.specs.Codes.{codeAt, codeTerm}
-use Rattle.scripts.specs.Numbered.{secondCode, usedNumbers, startNumbers}
+use Rattle.scripts.specs.Form.{stepFits}
+use Rattle.scripts.specs.Calculus.{used}
+use Rattle.scripts.specs.Codes.{codeOf, codeAt, codeTerm}
+use Rattle.scripts.specs.Numbered.{secondCode, usedNumbers}
 use Rattle.scripts.proofs.Formed.{Formed}
-use Rattle.scripts.proofs.Numbers.{ValidLiteral, column-valid, query-valid, used-literals, query-literals}
+use Rattle.scripts.proofs.Terms.{code-zero}
+use Rattle.scripts.proofs.Numbers.{Code, ValidLiteral, zero-code, Small, column-small}
 use Rattle.scripts.proofs.Extending.{Extends, extends, term-coded, second-coded, apply-coded}
+use Rattle.scripts.proofs.Matching.{Pairs}
 
--- The literals of the column that an extension uses, at the codes of its terms.
-abbrev pub usedCodes : List ℕ → List ℕ → ℕ → ℕ → ℕ → ℕ → List (Literal ℕ)
-usedCodes v s owner n x y =
-    map (substitute (arguments (codeAt s x) (secondCode s y) (owner + 512 * x) 0)) (columnAt v (queryOf s) owner n)
+pub record Means (s : List ℕ) (n : ℕ) (l : Literal SkolemTerm) : Type 0 where
+  pub literal : Literal ℕ
+  pub valid : ValidLiteral s literal
+  pub number : n ≡ packed literal
+  pub meant : l ≡ substitute (codeTerm s) literal
 
-abbrev pub startCodes : List ℕ → List ℕ → ℕ → List (Literal ℕ)
-startCodes v s n = map (substitute (arguments 0 0 0 0)) (columnAt v (queryOf s) 0 n)
+pub about-constant : (s : List ℕ) (b : Bool) (i : ℕ) → i < predicateLimit → Means s (packed (concept b i 0)) (concept b i constant)
+about-constant s b i h =
+    record {
+      literal = concept b i 0;
+      valid = (h, zero-code s .0, zero-code s .1);
+      number = refl;
+      meant = ap (concept b i) (sym (code-zero s));
+    }
 
--- They are valid, there is one at position p, and they mean the column at the terms.
-pub record UsedColumn (v s : List ℕ) (owner n x y p : ℕ) : Type 0 where
-  pub valid : All (ValidLiteral s) (usedCodes v s owner n x y)
-  pub listed : p < length (usedCodes v s owner n x y)
-  pub instance : map (substitute (codeTerm s)) (usedCodes v s owner n x y)
-      ≡ instanceAt owner (termAt s x) (termAt s y) (columnAt v (queryOf s) owner n)
+-- σ gives each argument its code, τ the term that the code stands for.
+module _ (s : List ℕ) (σ : Argument → ℕ) (τ : Argument → SkolemTerm) (codes : (w : Argument) → Code s (σ w))
+    (stands : (w : Argument) → codeTerm s (σ w) ≡ τ w) where
+  literal-means : (l : Literal Argument) → Small l → Means s (packed (substitute σ l)) (substitute τ l)
+  literal-means (concept b i t) h =
+      record {
+        literal = concept b i (σ t);
+        valid = (h, codes t .0, codes t .1);
+        number = refl;
+        meant = ap (concept b i) (sym (stands t));
+      }
+  literal-means (role b r t u) h =
+      record {
+        literal = role b r (σ t) (σ u);
+        valid = (h, codes t .0, codes u .0, codes t .1, codes u .1);
+        number = refl;
+        meant = ap₂ (role b r) (sym (stands t)) (sym (stands u));
+      }
 
-module _ (v s : List ℕ) where
-  pub used-numbers : (owner n x y : ℕ) → map packed (usedCodes v s owner n x y) ≡ usedNumbers v s owner n x y
-  used-numbers owner n x y =
-      map-map packed (substitute (arguments (codeAt s x) (secondCode s y) (owner + 512 * x) 0)) (columnAt v (queryOf s) owner n)
-
-  used-listed : (owner n x y p : ℕ) → p < length (columnAt v (queryOf s) owner n) → p < length (usedCodes v s owner n x y)
-  used-listed owner n x y p h =
-      let σ = arguments (codeAt s x) (secondCode s y) (owner + 512 * x) 0 in
-      omega (arith, length-map (columnAt v (queryOf s) owner n) (substitute σ))
-
-  pub start-numbers : (n : ℕ) → map packed (startCodes v s n) ≡ startNumbers v s n
-  start-numbers n = map-map packed (substitute (arguments 0 0 0 0)) (columnAt v (queryOf s) 0 n)
-
-  pub start-meant : (n : ℕ) → map (substitute (codeTerm s)) (startCodes v s n) ≡ startColumn v (queryOf s) n
-  start-meant n = query-literals s v (queryOf s) n 0 0 0 constant constant
-
-  pub start-filled : (n : ℕ) → n ≤ 1 → 0 < length (startCodes v s n)
-  unfolding columnsAt
-  start-filled zero h = omega arith
-  start-filled (suc zero) h = omega arith
-  start-filled (suc (suc n)) h = absurd (omega arith)
+  column-means : (c : Column) → All Small c → Pairs (Means s) (map (λ l. packed (substitute σ l)) c) (map (substitute τ) c)
+  column-means [] h = tt
+  column-means (l ∷ c) h = (literal-means l (h .0), column-means c (h .1))
 
 module _ (v s : List ℕ) (good : Accepted v) (f : Formed v s) where
-  pub start-valid : (n : ℕ) → All (ValidLiteral s) (startCodes v s n)
-  start-valid n = query-valid v s good f n 0 0 0
+  pub query-means : (n cx cy cf : ℕ) (tx ty : SkolemTerm)
+      → Pairs (Means s) (packedAt cx cy cf (columnAt v (queryOf s) 0 n)) (instanceAt 0 tx ty (columnAt v (queryOf s) 0 n))
+  unfolding columnsAt
+  query-means zero cx cy cf tx ty =
+      (about-constant s false (queryOf s .a) (omega (arith, f .query .0 .0, good .sized .most)), tt)
+  query-means (suc zero) cx cy cf tx ty =
+      (about-constant s true (queryOf s .b) (omega (arith, f .query .1 .0, good .sized .most)), tt)
+  query-means (suc (suc n)) cx cy cf tx ty = tt
 
-  module _ (n x y p : ℕ) where
-    used-query : p < length (columnAt v (queryOf s) 0 n) → UsedColumn v s 0 n x y p
-    used-query h =
-        record {
-          valid = query-valid v s good f n (codeAt s x) (secondCode s y) (0 + 512 * x);
-          listed = used-listed v s 0 n x y p h;
-          instance = query-literals s v (queryOf s) n (codeAt s x) (secondCode s y) (0 + 512 * x) (termAt s x) (termAt s y);
-        }
+  record-means : (e : Extension ℕ) → 0 < e .owner → Extends v s e
+      → Pairs (Means s) (usedNumbers v s e) (used v (queryOf s) (extensionBy (termAt s) e))
+  record-means e l t =
+      column-means s (arguments cx cy cf 0) (arguments tx (termAt s (e .second)) (apply (e .owner) tx) constant) codes stands
+      (columnAt v (queryOf s) (e .owner) (e .column)) (column-small v s good f (e .owner) (e .column))
+    where
+      cx : ℕ
+      cx = codeAt s (e .first)
 
-    used-record : (owner : ℕ) → 0 < owner → Extends v s owner n x y p → UsedColumn v s owner n x y p
-    used-record owner l t =
-        let first = term-coded v s good f x (t .first) in
-        let second = second-coded v s good f y (t .second) in
-        let inner = apply-coded v s good f owner x l (t .small) (t .first) in
-        let c = columnAt v (queryOf s) owner n in
-        let cx = codeAt s x in
-        let cy = secondCode s y in
-        let cf = owner + 512 * x in
-        record {
-          valid = column-valid v s good f owner n cx cy cf (first .code) (second .code) (inner .code);
-          listed = used-listed v s owner n x y p (t .position);
-          instance =
-              used-literals s owner cx cy cf (termAt s x) (termAt s y) c (first .stands) (second .stands) (inner .stands);
-        }
+      cy : ℕ
+      cy = secondCode s (e .second)
 
-    pub extension-used : (i owner : ℕ) → i ≤ entries s
-        → extensionFits s i owner x y p (columnAt v (queryOf s) owner n) ≡ true → UsedColumn v s owner n x y p
-    extension-used i owner h e = at owner (extends v s good f i owner n x y p h e)
-      where
-        at : (owner : ℕ) → Extends v s owner n x y p → UsedColumn v s owner n x y p
-        at zero t = used-query (t .position)
-        at (suc owner) t = used-record (suc owner) (omega arith) t
+      cf : ℕ
+      cf = codeOf (e .owner) (e .first)
+
+      tx : SkolemTerm
+      tx = termAt s (e .first)
+
+      codes : (w : Argument) → Code s (arguments cx cy cf 0 w)
+      codes x = term-coded v s good f (e .first) (t .first) .code
+      codes y = second-coded v s good f (e .second) (t .second) .code
+      codes fx = apply-coded v s good f (e .owner) (e .first) l (t .small) (t .first) .code
+      codes a = zero-code s
+
+      stands : (w : Argument)
+          → codeTerm s (arguments cx cy cf 0 w) ≡ arguments tx (termAt s (e .second)) (apply (e .owner) tx) constant w
+      stands x = term-coded v s good f (e .first) (t .first) .stands
+      stands y = second-coded v s good f (e .second) (t .second) .stands
+      stands fx = apply-coded v s good f (e .owner) (e .first) l (t .small) (t .first) .stands
+      stands a = code-zero s
+
+  used-at : (owner n : ℕ) (t u p : ℕ)
+      → let e : Extension ℕ = record { owner = owner; column = n; first = t; second = u; position = p } in
+      Extends v s e → Pairs (Means s) (usedNumbers v s e) (used v (queryOf s) (extensionBy (termAt s) e))
+  used-at zero n t u p h = query-means n (codeAt s t) (secondCode s u) (codeOf 0 t) (termAt s t) (termAt s u)
+  used-at (suc owner) n t u p h = record-means _ (omega arith) h
+
+  pub used-means : (i : ℕ) (e : Extension ℕ) → i ≤ entries s → stepFits v s i (extension e) ≡ true
+      → Pairs (Means s) (usedNumbers v s e) (used v (queryOf s) (extensionBy (termAt s) e))
+  used-means i e h fits = used-at (e .owner) (e .column) (e .first) (e .second) (e .position) (extends v s good f i e h fits)

@@ -18,10 +18,11 @@ use Rattle.records.specs.Answers.{checked}
 use Rattle.records.specs.declared.answers.Checked.{Checked}
 use Rattle.records.specs.declared.answers.Checked.the-variants.{Refused}
 use Rattle.records.proofs.Following.{Onward, follow-nil, follow-step, follow-few, left, left-falls}
-use Rattle.scripts.specs.Format.{entries, nextStep, chainFrom}
-use Rattle.scripts.specs.Run.{isNil}
+use Rattle.scripts.specs.Format.{entryLimit, entries, recordStep, nextStep, chainFrom}
+use Rattle.scripts.specs.Run.{isNil, Frames, stepCheck, stepped, run}
 use Rattle.scripts.specs.Machine.{framesFrom}
-use Rattle.scripts.specs.Numbered.{numberCheck, numberStepped, numberRun}
+use Rattle.scripts.specs.Numbered.{numbered}
+use Rattle.scripts.specs.Tested.{stepsAfter, runAfter}
 use Rattle.scripts.specs.Ready.{IsStep, Reached}
 use Rattle.scripts.proofs.Formed.{Formed, IsStepAt, OnChain}
 
@@ -43,13 +44,14 @@ pub chain-few : (s : List ℕ) (i : ℕ) → length (chainFrom s i) ≤ entries 
 chain-few s i = follow-few (nextStep s) (entries s) i
 
 -- The run's outcome from a state: the steps made so far, and those that are left.
-abbrev outcome : List ℕ → List ℕ → List (List ℕ) → ℕ → ℕ → ℕ → Outcome ℕ
-outcome v s frames last at steps = numberRun v s frames last (chainFrom s at) then accepted (steps + length (chainFrom s at))
+abbrev outcome : List ℕ → List ℕ → Frames ℕ → ℕ → ℕ → ℕ → Outcome ℕ
+outcome v s frames last at steps =
+    run (numbered v s) (recordStep s) frames last (chainFrom s at) then accepted (steps + length (chainFrom s at))
 
-pub record Walk (v s : List ℕ) (whole : Outcome ℕ) (frames : List (List ℕ)) (last at steps : ℕ) : Type 0 where
+pub record Walk (v s : List ℕ) (whole : Outcome ℕ) (frames : Frames ℕ) (last at steps : ℕ) : Type 0 where
   pub reached : Reached s at
   pub run : whole ≡ outcome v s frames last at steps
-  pub few : steps + length (chainFrom s at) ≤ 2049
+  pub few : steps + length (chainFrom s at) ≤ suc entryLimit
 
 module _ (v s : List ℕ) (f : Formed v s) where
   pub chain-at : (i : ℕ) → IsStep s i → chainFrom s i ≡ i ∷ chainFrom s (nextStep s i)
@@ -66,58 +68,64 @@ module _ (v s : List ℕ) (f : Formed v s) where
       left-falls (IsStepAt s) (entries s) i x (t .positive) (t .within)
       (subst (Onward (IsStepAt s) (entries s) i) (sym e) (onward i t))
 
-  pub walk-start : (frames : List (List ℕ)) (first next : ℕ) → Reached s next
-      → Walk v s (numberRun v s frames first (chainFrom s next) then accepted (suc (length (chainFrom s next))))
-      frames first next 1
-  walk-start frames first next r =
+  pub walk-start : (frames shown : Frames ℕ) (first next : ℕ) → IsStep s first → shown ≡ frames → next ≡ nextStep s first
+      → Walk v s (runAfter v s frames first) shown first next 1
+  walk-start frames shown first next t e n =
+      let one : 1 + length (stepsAfter s first) ≡ suc (length (stepsAfter s first)) = omega arith in
       record {
-        reached = r;
-        run = ap (λ (n : ℕ). numberRun v s frames first (chainFrom s next) then accepted n) (omega arith);
+        reached = rw n (next-reached first t);
+        run = rw (e, n, one);
         few = omega (arith, chain-few s next, f .sized .most);
       }
 
-  module _ (whole : Outcome ℕ) (frames : List (List ℕ)) (last at steps : ℕ) (w : Walk v s whole frames last at steps) where
+  module _ (whole : Outcome ℕ) (frames : Frames ℕ) (last at steps : ℕ) (w : Walk v s whole frames last at steps) where
+    abbrev check : Check
+    check = stepCheck (numbered v s) at frames (recordStep s at)
+
+    abbrev next : Frames ℕ
+    next = stepped (numbered v s) frames (recordStep s at)
+
     -- the outcome, one step further
     further : IsStep s at
         → outcome v s frames last at steps
-        ≡ ((numberCheck v s at frames then numberRun v s (numberStepped v s at frames) at (chainFrom s (nextStep s at)))
-        then accepted (suc steps + length (chainFrom s (nextStep s at))))
-    unfolding numberRun
+        ≡ ((check then run (numbered v s) (recordStep s) next at (stepsAfter s at))
+        then accepted (suc steps + length (stepsAfter s at)))
+    unfolding run
     further t =
-        let rest = length (chainFrom s (nextStep s at)) in
+        let rest = length (stepsAfter s at) in
         let n : steps + suc rest ≡ suc steps + rest = omega arith in
         rw (chain-at at t, n)
 
-    pub walk-next : (k : Check) (after : List (List ℕ)) (x : ℕ) → IsStep s at → k ≡ numberCheck v s at frames → k ≡ pass
-        → after ≡ numberStepped v s at frames → x ≡ nextStep s at → Walk v s whole after at x (steps + 1)
+    pub walk-next : (k : Check) (after : Frames ℕ) (x : ℕ) → IsStep s at → k ≡ check → k ≡ pass → after ≡ next
+        → x ≡ nextStep s at → Walk v s whole after at x (steps + 1)
     walk-next k after x t e p a n =
-        let passed : numberCheck v s at frames ≡ pass = sym e ∙ p in
+        let passed : check ≡ pass = sym e ∙ p in
         let one : steps + 1 ≡ suc steps = omega arith in
-        let few : steps + suc (length (chainFrom s (nextStep s at))) ≤ 2049
-        = subst (λ (l : List ℕ). steps + length l ≤ 2049) (chain-at at t) (w .few) in
+        let few : steps + suc (length (stepsAfter s at)) ≤ suc entryLimit
+        = subst (λ (l : List ℕ). steps + length l ≤ suc entryLimit) (chain-at at t) (w .few) in
         record {
           reached = rw n (next-reached at t);
           run = w .run ∙ (further t ∙ rw (passed, a, n, one));
           few = rw n (omega arith);
         }
 
-    pub walk-refused : (answer : Outcome ℕ) (k : Checked) (n p : ℕ) → IsStep s at → checked k ≡ numberCheck v s at frames
+    pub walk-refused : (answer : Outcome ℕ) (k : Checked) (n p : ℕ) → IsStep s at → checked k ≡ check
         → k ≡ Refused n p → answer ≡ (checked k then accepted 0) → answer ≡ whole
     walk-refused answer k n p t e r a =
-        let no : numberCheck v s at frames ≡ refused n p = sym e ∙ ap checked r in
+        let no : check ≡ refused n p = sym e ∙ ap checked r in
         a ∙ (rw (r) (sym (w .run ∙ (further t ∙ rw no))))
 
 -- no frame is open exactly at depth 0
-nil-told : (table goals : List ℕ) (n : ℕ) → eqb n 0 ≡ isNil (framesFrom table goals n)
+nil-told : (table closed : List ℕ) (n : ℕ) → eqb n 0 ≡ isNil (framesFrom table closed n)
 unfolding framesFrom
-nil-told table goals zero = refl
-nil-told table goals (suc n) = ne-eqb (suc n) 0 (λ z. absurd (omega arith))
+nil-told table closed zero = refl
+nil-told table closed (suc n) = ne-eqb (suc n) 0 (λ z. absurd (omega arith))
 
-pub walk-done : (v s : List ℕ) (whole : Outcome ℕ) (table goals : List ℕ) (n last at steps : ℕ)
-    → Walk v s whole (framesFrom table goals n) last at steps → at ≡ 0 → (answer : Outcome ℕ) (k : Check)
+pub walk-done : (v s : List ℕ) (whole : Outcome ℕ) (table closed : List ℕ) (n last at steps : ℕ)
+    → Walk v s whole (framesFrom table closed n) last at steps → at ≡ 0 → (answer : Outcome ℕ) (k : Check)
     → k ≡ require (eqb n 0) 24 last → answer ≡ (k then accepted steps) → answer ≡ whole
-unfolding numberRun
-walk-done v s whole table goals n last at steps w z answer k e a =
+unfolding run
+walk-done v s whole table closed n last at steps w z answer k e a =
     let none : chainFrom s at ≡ [] = rw z (chain-end s) in
     let same : steps + 0 ≡ steps = omega arith in
-    a ∙ (rw (e, nil-told table goals n) (sym (w .run ∙ rw (none, same))))
+    a ∙ (rw (e, nil-told table closed n) (sym (w .run ∙ rw (none, same))))

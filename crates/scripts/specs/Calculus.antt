@@ -5,20 +5,7 @@ use mathlib.Core.List.{List, [], _∷_, _++_}
 use lib.ListN.{length, getD}
 use Rattle.columns.specs.Literals.{SkolemTerm, constant, Literal, complement, noLiteral}
 use Rattle.columns.specs.Columns.{Query, columnAt, instanceAt}
-
--- An extension uses an owner's column at the terms for x and y, and connects the literal at a position.
-pub record Extension : Type 0 where
-  pub owner : ℕ
-  pub column : ℕ
-  pub first : SkolemTerm
-  pub second : SkolemTerm
-  pub position : ℕ
-
--- A step: start with a query column, extension, reduction against a frame.
-pub data Step : Type 0 where
-  start : ℕ → Step
-  extension : Extension → Step
-  reduction : ℕ → Step
+use Rattle.scripts.specs.Steps.{Extension, Step, start, extension, reduction}
 
 -- A list without the entry at a position.
 unfoldable pub without : {A : Type 0} → ℕ → List A → List A
@@ -27,17 +14,17 @@ without zero (x ∷ l) = l
 without (suc p) (x ∷ l) = x ∷ without p l
 
 -- The column that is used, C₂ of Definition 10; its literal at the position, L₂; and the others, C₂ \ {L₂}.
-abbrev pub used : List ℕ → Query → Extension → List (Literal SkolemTerm)
+abbrev pub used : List ℕ → Query → Extension SkolemTerm → List (Literal SkolemTerm)
 used v q e = instanceAt (e .owner) (e .first) (e .second) (columnAt v q (e .owner) (e .column))
 
-abbrev pub connected : List ℕ → Query → Extension → Literal SkolemTerm
+abbrev pub connected : List ℕ → Query → Extension SkolemTerm → Literal SkolemTerm
 connected v q e = getD (used v q e) (e .position) noLiteral
 
-abbrev pub others : List ℕ → Query → Extension → List (Literal SkolemTerm)
+abbrev pub others : List ℕ → Query → Extension SkolemTerm → List (Literal SkolemTerm)
 others v q e = without (e .position) (used v q e)
 
 -- The position exists in a listed column.
-abbrev pub Listed : List ℕ → Query → Extension → Type 0
+abbrev pub Listed : List ℕ → Query → Extension SkolemTerm → Type 0
 Listed v q e = e .position < length (columnAt v q (e .owner) (e .column))
 
 -- The path's literal in frame f, frames counted from the start; the path has the last frame's first.
@@ -52,12 +39,12 @@ pub data Derivation (v : List ℕ) (q : Query) : List (Literal SkolemTerm) → L
   reduced : {l : Literal SkolemTerm} {c path : List (Literal SkolemTerm)} (f : ℕ)
       → f < length path → onPath path f ≡ complement l
       → Derivation v q c path → Derivation v q (l ∷ c) path
-  extended : {l : Literal SkolemTerm} {c path : List (Literal SkolemTerm)} (e : Extension)
+  extended : {l : Literal SkolemTerm} {c path : List (Literal SkolemTerm)} (e : Extension SkolemTerm)
       → Listed v q e → connected v q e ≡ complement l
       → Derivation v q (others v q e) (l ∷ path) → Derivation v q c path → Derivation v q (l ∷ c) path
 
 -- Its steps, in the order in which they close goals: "The goal is always the first open literal of the last frame."
-unfoldable pub steps : {v : List ℕ} {q : Query} {c path : List (Literal SkolemTerm)} → Derivation v q c path → List Step
+unfoldable pub steps : {v : List ℕ} {q : Query} {c path : List (Literal SkolemTerm)} → Derivation v q c path → List (Step SkolemTerm)
 steps ended = []
 steps (reduced f l p d) = reduction f ∷ steps d
 steps (extended e l p above d) = extension e ∷ steps above ++ steps d
@@ -77,7 +64,7 @@ abbrev pub startColumn : List ℕ → Query → ℕ → List (Literal SkolemTerm
 startColumn v q n = instanceAt 0 constant constant (columnAt v q 0 n)
 
 -- These steps are a derivation of at most 64 open frames: start, with a query column and no path, then extensions and reductions.
-pub record Derives (v : List ℕ) (q : Query) (list : List Step) : Type 0 where
+pub record Derives (v : List ℕ) (q : Query) (list : List (Step SkolemTerm)) : Type 0 where
   pub column : ℕ
   pub listed : column ≤ 1
   pub derivation : Derivation v q (startColumn v q column) []

@@ -6,12 +6,18 @@ use lib.Dec.{eqb}
 use Rattle.columns.specs.Literals.{SkolemTerm, constant, apply}
 use Rattle.scripts.specs.Format.{entryAt, termAt}
 
--- The function in 9 bits, the record of the inner term above them; 0 is the constant.
+-- The function below functionLimit, the record of the inner term above it; 0 is the constant.
+abbrev pub functionLimit : ℕ
+functionLimit = 512
+
+abbrev pub codeOf : ℕ → ℕ → ℕ
+codeOf f t = f + functionLimit * t
+
 abbrev pub codeAt : List ℕ → ℕ → ℕ
-codeAt s n = entryAt s n .w1 + 512 * entryAt s n .w2
+codeAt s n = codeOf (entryAt s n .w1) (entryAt s n .w2)
 
 unfoldable pub codeTerm : List ℕ → ℕ → SkolemTerm
-codeTerm s c = cond (eqb (c % 512) 0) constant (apply (c % 512) (termAt s (c / 512)))
+codeTerm s c = cond (eqb (c % functionLimit) 0) constant (apply (c % functionLimit) (termAt s (c / functionLimit)))
 
 -- Whether two literals' numbers differ in the sign alone.
 abbrev pub opposed : ℕ → ℕ → Bool

@@ -1,5 +1,5 @@
 -- Rows 13 to 19 of the table of refusals: the form of a script.
-use Prim.Native.Nat.{ℕ, _-_, _%_}
+use Prim.Native.Nat.{ℕ, _*_, _-_, _%_}
 use mathlib.Core.Bool.{Bool, true, false, Bool·beq, not, _&&_, _||_}
 use mathlib.Core.List.{List, [], _∷_}
 use lib.ListN.{length}
@@ -10,13 +10,15 @@ use Rattle.records.specs.Kinds.{isRestriction}
 use Rattle.records.specs.Check.{anyBelow}
 use Rattle.types.specs.Compare.{termCheck}
 use Rattle.columns.specs.Columns.{Query, Column, columnAt, takesY}
-use Rattle.scripts.specs.Format.{entryAt, entries, queryOf, firstStep, Line, blank, named, applied, starting, extending}
-use Rattle.scripts.specs.Format.{reducing, kindOf, lineOf, isTerm, isStep, nextStep}
+use Rattle.scripts.specs.Steps.{Extension, Step, start, extension, reduction}
+use Rattle.scripts.specs.Format.{entrySize, entryLimit, entryAt, entries, queryOf, firstStep, Line, blank, named}
+use Rattle.scripts.specs.Format.{applied, step, kindOf, lineOf, isTerm, isStep, nextStep}
 use Rattle.scripts.specs.declared.entry.Entry.{Entry}
 
 -- Row 13: "under 16, over 32,768 or no multiple of 16"; "at most 2,048 records"
 abbrev pub lengthFits : List ℕ → Bool
-lengthFits s = leb 16 (length s) && (leb (length s) 32768 && eqb (length s % 16) 0)
+lengthFits s =
+    leb entrySize (length s) && (leb (length s) (entrySize * entryLimit) && eqb (length s % entrySize) 0)
 
 abbrev pub lengthCheck : List ℕ → Check
 lengthCheck s = require (lengthFits s) 13 0
@@ -63,18 +65,14 @@ abbrev pub isNamed : Line → Bool
 isNamed blank = false
 isNamed named = true
 isNamed (applied f t) = false
-isNamed (starting n) = false
-isNamed (extending owner n x y p) = false
-isNamed (reducing f) = false
+isNamed (step t) = false
 
 -- "the term fi(t): w1 = i, of kind 7 or 8, w2 = t, an earlier term record"
 abbrev pub functionFits : List ℕ → List ℕ → ℕ → Line → Bool
 functionFits v s i blank = true
 functionFits v s i named = true
 functionFits v s i (applied f t) = isFunction v f && (earlierTerm s i t && not (repeated s i f t))
-functionFits v s i (starting n) = true
-functionFits v s i (extending owner n x y p) = true
-functionFits v s i (reducing f) = true
+functionFits v s i (step t) = true
 
 -- Row 17: "term rule; record 1 .. not the constant"; "the constant a, record 1 only"
 abbrev pub termFits : List ℕ → List ℕ → ℕ → Line → Bool
@@ -89,17 +87,21 @@ yFits s i true y = earlierTerm s i y
 yFits s i false y = eqb y 0
 
 -- "extension's owner, column or position not one that exists", "or a statement off the chain": that one has no column.
-abbrev pub extensionFits : List ℕ → ℕ → ℕ → ℕ → ℕ → ℕ → Column → Bool
-extensionFits s i owner x y p c = ltb p (length c) && (xFits s i owner x && yFits s i (takesY c) y)
+abbrev pub extensionFits : List ℕ → ℕ → Extension ℕ → Column → Bool
+extensionFits s i e c =
+    ltb (e .position) (length c) && (xFits s i (e .owner) (e .first) && yFits s i (takesY c) (e .second))
 
 -- Row 18; "start's w1 over 1"
-abbrev pub stepFits : List ℕ → List ℕ → ℕ → Line → Bool
-stepFits v s i blank = true
-stepFits v s i named = true
-stepFits v s i (applied f t) = true
-stepFits v s i (starting n) = leb n 1
-stepFits v s i (extending owner n x y p) = extensionFits s i owner x y p (columnAt v (queryOf s) owner n)
-stepFits v s i (reducing f) = true
+abbrev pub stepFits : List ℕ → List ℕ → ℕ → Step ℕ → Bool
+stepFits v s i (start n) = leb n 1
+stepFits v s i (extension e) = extensionFits s i e (columnAt v (queryOf s) (e .owner) (e .column))
+stepFits v s i (reduction f) = true
+
+abbrev pub lineFits : List ℕ → List ℕ → ℕ → Line → Bool
+lineFits v s i blank = true
+lineFits v s i named = true
+lineFits v s i (applied f t) = true
+lineFits v s i (step t) = stepFits v s i t
 
 -- Rows 15 to 18, at one record
 abbrev pub rowsCheck : List ℕ → List ℕ → ℕ → Entry → Check
@@ -107,7 +109,7 @@ rowsCheck v s i e =
     require (kindFits e) 15 i
     then require (unusedFits e) 16 i
     then require (termFits v s i (lineOf e)) 17 i
-    then require (stepFits v s i (lineOf e)) 18 i
+    then require (lineFits v s i (lineOf e)) 18 i
 
 unfoldable pub entryCheck : List ℕ → List ℕ → ℕ → Check
 entryCheck v s i = rowsCheck v s i (entryAt s i)

@@ -9,6 +9,7 @@ use Rattle.records.specs.Chain.{follow}
 use Rattle.types.specs.Below.{inRecordOrder}
 use Rattle.columns.specs.Literals.{SkolemTerm, constant, apply}
 use Rattle.columns.specs.Columns.{Query}
+use Rattle.scripts.specs.Steps.{Extension, Step, start, extension, reduction}
 use Rattle.scripts.specs.declared.entry.Entry.{Entry}
 
 -- "A script record is eight numbers w0 to w7, 16 bytes"
@@ -25,33 +26,43 @@ entryOf p =
       w7 = wordAt p 14;
     }
 
+abbrev pub entrySize : ℕ
+entrySize = 16
+
 -- the sixteen bytes of record i
 abbrev pub partAt : List ℕ → ℕ → List ℕ
-partAt s i = take 16 (drop (16 * i) s)
+partAt s i = take entrySize (drop (entrySize * i) s)
 
 unfoldable pub entryAt : List ℕ → ℕ → Entry
 entryAt s i = entryOf (partAt s i)
 
 -- the number of records, header included
 abbrev pub entries : List ℕ → ℕ
-entries s = length s / 16
+entries s = length s / entrySize
+
+-- "at most 2,048 records"
+abbrev pub entryLimit : ℕ
+entryLimit = 2048
 
 -- "Record 0: .. w1 and w2 the query's A and B, w3 the first step or 0."
+abbrev pub queryIn : Entry → Query
+queryIn e = record { a = e .w1; b = e .w2 }
+
 abbrev pub queryOf : List ℕ → Query
-queryOf s = record { a = entryAt s 0 .w1; b = entryAt s 0 .w2 }
+queryOf s = queryIn (entryAt s 0)
 
 abbrev pub firstStep : List ℕ → ℕ
 firstStep s = entryAt s 0 .w3
 
--- What a record says, by record numbers: "1. the constant a", "2. the term fi(t): w1 = i .., w2 = t", "3. start: w1 = 0 or 1,
--- the query column", "4. extension: w1 owner, w2 column, w3 and w4 the .. term records for x and y .., w5 position",
--- "5. reduction: w1 the frame".
+-- What a record says, by record numbers: "1. the constant a", "2. the term fi(t): w1 = i .., w2 = t", or a step.
 pub data Line : Type 0 where
   blank named : Line
   applied : ℕ → ℕ → Line
-  starting : ℕ → Line
-  extending : ℕ → ℕ → ℕ → ℕ → ℕ → Line
-  reducing : ℕ → Line
+  step : Step ℕ → Line
+
+-- "4. extension: w1 owner, w2 column, w3 and w4 the .. term records for x and y .., w5 position"
+abbrev pub extensionOf : Entry → Extension ℕ
+extensionOf e = record { owner = e .w1; column = e .w2; first = e .w3; second = e .w4; position = e .w5 }
 
 -- A kind of records: the words it does not use ("Steps have next in w7. Other words are zero."), and what a record says.
 pub record Kind : Type 0 where
@@ -67,15 +78,15 @@ noKind = kind (λ e. []) (λ e. blank)
 abbrev pub stepUnused : Entry → List ℕ
 stepUnused e = e .w2 ∷ e .w3 ∷ e .w4 ∷ e .w5 ∷ e .w6 ∷ []
 
--- "Others have the kind in w0": the kinds from 0 on.
+-- "Others have the kind in w0": the kinds from 0 on. "3. start: w1 = 0 or 1, the query column", "5. reduction: w1 the frame".
 abbrev pub kinds : List Kind
 kinds =
     noKind
     ∷ kind (λ e. e .w1 ∷ e .w2 ∷ e .w3 ∷ e .w4 ∷ e .w5 ∷ e .w6 ∷ e .w7 ∷ []) (λ e. named)
     ∷ kind (λ e. e .w3 ∷ e .w4 ∷ e .w5 ∷ e .w6 ∷ e .w7 ∷ []) (λ e. applied (e .w1) (e .w2))
-    ∷ kind stepUnused (λ e. starting (e .w1))
-    ∷ kind (λ e. e .w6 ∷ []) (λ e. extending (e .w1) (e .w2) (e .w3) (e .w4) (e .w5))
-    ∷ kind stepUnused (λ e. reducing (e .w1))
+    ∷ kind stepUnused (λ e. step (start (e .w1)))
+    ∷ kind (λ e. e .w6 ∷ []) (λ e. step (extension (extensionOf e)))
+    ∷ kind stepUnused (λ e. step (reduction (e .w1)))
     ∷ []
 
 unfoldable pub kindOf : ℕ → Kind
@@ -98,12 +109,20 @@ abbrev pub termOf : Line → (ℕ → SkolemTerm) → SkolemTerm
 termOf blank earlier = constant
 termOf named earlier = constant
 termOf (applied i t) earlier = apply i (earlier t)
-termOf (starting n) earlier = constant
-termOf (extending owner n x y p) earlier = constant
-termOf (reducing f) earlier = constant
+termOf (step t) earlier = constant
 
 unfoldable pub termAt : List ℕ → ℕ → SkolemTerm
 termAt s i = inRecordOrder constant (λ earlier j. termOf (lineAt s j) earlier) i
+
+-- The step of a record, by record numbers; no other record is on the chain.
+abbrev pub stepOf : Line → Step ℕ
+stepOf blank = start 0
+stepOf named = start 0
+stepOf (applied i t) = start 0
+stepOf (step t) = t
+
+abbrev pub recordStep : List ℕ → ℕ → Step ℕ
+recordStep s i = stepOf (lineAt s i)
 
 -- "Steps have next in w7."
 abbrev pub nextStep : List ℕ → ℕ → ℕ

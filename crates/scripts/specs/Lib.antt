@@ -1,6 +1,7 @@
--- Paper 01, "Scripts" and rows 13 to 25, in the paper's order: Format (bytes, what a record says, terms, the chain), Form (rows
+-- Paper 01, "Scripts" and rows 13 to 25, in the paper's order: Steps (by whatever terms), Format (bytes, what a record says, terms, the chain), Form (rows
 -- 13 to 19), Calculus (derivations by Definition 10), Run (rows 20 to 25 along the chain, the script check). Answers says which
 -- outcome each case of the code's enum stands for, and Demands states the three demands.
+pub mod Steps
 pub mod Format
 pub mod Form
 pub mod Calculus
@@ -11,4 +12,5 @@ pub mod Demands
 pub mod Codes
 pub mod Machine
 pub mod Numbered
+pub mod Tested
 pub mod Ready

@@ -1,20 +1,31 @@
--- What the code that runs a script may rely on: the vocabulary was accepted, its chain is marked, the script keeps the form.
-use Prim.Native.Nat.{ℕ, _<_}
+-- What the code may rely on: at the form, the vocabulary was accepted, its chain is marked, row 13 passed and the header was
+-- read; along the chain, the form passed.
+use Prim.Native.Nat.{ℕ, _+_, _*_, _≤_, _<_}
 use mathlib.Core.Path.{_≡_}
-use mathlib.Core.Bool.{Bool, true, false}
+use mathlib.Core.Bool.{Bool, true}
 use mathlib.Core.List.{List}
 use mathlib.Core.Logic.{_⊎_}
-use lib.ListN.{getD}
-use Rattle.records.specs.Outcome.{accepted, pass}
-use Rattle.records.specs.Format.{count}
-use Rattle.records.specs.Check.{vocabularyCheck}
-use Rattle.records.specs.Chain.{chained}
-use Rattle.scripts.specs.Format.{entryAt, entries, isStep}
-use Rattle.scripts.specs.Form.{formCheck}
+use lib.ListN.{length}
+use Rattle.records.specs.Outcome.{pass}
+use Rattle.columns.specs.Packed.{Marked}
+use Rattle.scripts.specs.Format.{entrySize, entryAt, entries, isStep}
+use Rattle.scripts.specs.Form.{lengthCheck, formCheck}
+use Rattle.scripts.specs.declared.entry.Entry.{Entry}
 
-pub record Ready (v s : List ℕ) (marks : List Bool) : Type 0 where
-  pub vocabulary : vocabularyCheck v ≡ accepted (count v)
-  pub marked : (i : ℕ) → getD marks i false ≡ chained v i
+-- The script has record i; it has those before record i.
+abbrev pub HasEntry : List ℕ → ℕ → Type 0
+HasEntry s i = entrySize * i + entrySize ≤ length s
+
+abbrev pub HasBefore : List ℕ → ℕ → Type 0
+HasBefore s i = entrySize * i ≤ length s
+
+pub record Begun (v s : List ℕ) (marks : List Bool) (header : Entry) : Type 0 where
+  pub marked : Marked v marks
+  pub sized : lengthCheck s ≡ pass
+  pub read : header ≡ entryAt s 0
+
+pub record Ready (v s : List ℕ) (marks : List Bool) (header : Entry) : Type 0 where
+  pub begun : Begun v s marks header
   pub form : formCheck v s ≡ pass
 
 -- Record i is a step; a walk along the chain stands at one, or at its end.
@@ -25,3 +36,9 @@ pub record IsStep (s : List ℕ) (i : ℕ) : Type 0 where
 
 abbrev pub Reached : List ℕ → ℕ → Type 0
 Reached s i = (i ≡ 0) ⊎ IsStep s i
+
+-- Record i, which was read, is an extension on the chain.
+pub record IsExtension (s : List ℕ) (i : ℕ) (e : Entry) : Type 0 where
+  pub step : IsStep s i
+  pub read : e ≡ entryAt s i
+  pub kind : e .w0 ≡ 4

@@ -2,10 +2,13 @@
 use crate::answers::Judged;
 use crate::answers::judge_after;
 use crate::answers::judge_after_count;
+use crate::entry::read_entry;
 use crate::form::check_form;
+use crate::form::length_fits;
 use crate::run::check_chain;
 use records::answers::Checked;
 use records::answers::Counted;
+use records::answers::pass_if;
 use records::chain::mark_chain;
 ghost use mathlib.Core.Path.{_≡_};
 ghost use Rattle.scripts.specs.Run.{scriptCheck};
@@ -19,10 +22,15 @@ pub fn check_script(v: &[u8], s: &[u8]) -> Judged
     let Counted::Records(_) = vocabulary else {
         return judge_after_count(vocabulary);
     };
+    let length = pass_if(length_fits(s), 13, 0);
+    let Checked::Fine = length else {
+        return judge_after(length, 0);
+    };
     let marks = mark_chain(v);
-    let form = check_form(v, &marks, s);
+    let header = read_entry(s, 0);
+    let form = check_form(v, &marks, s, header);
     let Checked::Fine = form else {
         return judge_after(form, 0);
     };
-    check_chain(v, &marks, s)
+    check_chain(v, &marks, s, header)
 }

@@ -2,9 +2,9 @@
 use records::fields::word;
 ghost use mathlib.Core.Path.{_≡_};
 ghost use mathlib.Core.Bool.{_&&_, _||_};
-ghost use Prim.Native.Nat.{_+_, _*_, _≤_};
 ghost use lib.ListN.{length};
-ghost use Rattle.scripts.specs.Format.{entryOf, entryAt, isTerm, isStep};
+ghost use Rattle.scripts.specs.Format.{entrySize, entryOf, entryAt, isTerm, isStep};
+ghost use Rattle.scripts.specs.Ready.{HasEntry};
 
 pub struct Entry {
     pub w0: u16,
@@ -25,7 +25,7 @@ impl Entry {
 
     // The record that sixteen bytes hold.
     pub fn read(part: &[u8]) -> Self
-        requires { ⌜ length (now part) ≡ 16 ⌝ }
+        requires { ⌜ length (now part) ≡ entrySize ⌝ }
         ensures { λ r. ⌜ r ≡ entryOf (now (part .entry)) ⌝ }
     {
         Entry {
@@ -43,7 +43,7 @@ impl Entry {
 
 // Record i of a script that has it.
 pub fn read_entry(s: &[u8], i: usize) -> Entry
-    requires { ⌜ 16 * i + 16 ≤ length (now s) ⌝ }
+    requires { ⌜ HasEntry (now s) i ⌝ }
     ensures { λ r. ⌜ r ≡ entryAt (now (s .entry)) i ⌝ }
 {
     let at = Entry::SIZE * i;

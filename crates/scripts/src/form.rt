@@ -3,9 +3,7 @@ use crate::entry::Entry;
 use crate::entry::is_step_entry;
 use crate::entry::is_term_entry;
 use crate::entry::read_entry;
-use columns::column::Terms;
-use columns::find_column;
-use columns::takes_y;
+use columns::column_shape;
 use records::answers::Checked;
 use records::answers::pass_if;
 use records::fields::Record;
@@ -13,24 +11,21 @@ use records::fields::read_at;
 use records::kinds::is_restriction;
 use types::check_term;
 ghost use mathlib.Core.Path.{_≡_};
-ghost use mathlib.Core.Bool.{false};
-ghost use mathlib.Core.List.{List, [], _∷_};
-ghost use Prim.Native.Nat.{ℕ, _+_, _*_, _-_, _≤_, _^_};
-ghost use lib.ListN.{length, getD};
-ghost use Rattle.records.specs.Outcome.{accepted, inTurn};
+ghost use mathlib.Core.List.{[], _∷_};
+ghost use Prim.Native.Nat.{_+_, _*_, _^_};
+ghost use lib.ListN.{length};
 ghost use Rattle.records.specs.Answers.{checked};
-ghost use Rattle.records.specs.Format.{count};
-ghost use Rattle.records.specs.Check.{vocabularyCheck};
-ghost use Rattle.records.specs.Chain.{chained};
-ghost use Rattle.columns.specs.Columns.{columnAt};
-ghost use Rattle.scripts.specs.Format.{entryOf, entryAt, entries, queryOf, lineOf, starting};
-ghost use Rattle.scripts.specs.Form.{lengthFits, lengthCheck, allZero, headerFits, headerCheck, queryCheck, kindFits};
+ghost use Rattle.columns.specs.Columns.{Query, columnAt};
+ghost use Rattle.columns.specs.Packed.{Marked};
+ghost use Rattle.scripts.specs.Format.{entrySize, entryOf, queryIn, firstStep, extensionOf, lineOf};
+ghost use Rattle.scripts.specs.Form.{lengthFits, allZero, headerFits, queryCheck, kindFits};
 ghost use Rattle.scripts.specs.Form.{unusedFits, earlierTerm, isFunction, repeats, repeated, termFits, functionFits};
-ghost use Rattle.scripts.specs.Form.{xFits, yFits, extensionFits, stepFits, rowsCheck, entryCheck, entriesCheck};
+ghost use Rattle.scripts.specs.Form.{xFits, yFits, extensionFits, lineFits, rowsCheck, entryCheck, entriesCheck};
 ghost use Rattle.scripts.specs.Form.{linkFits, linkCheck, linksCheck, formCheck};
+ghost use Rattle.scripts.specs.Ready.{HasEntry, HasBefore, Begun};
 
 // Row 13: the length.
-fn length_fits(s: &[u8]) -> bool
+pub fn length_fits(s: &[u8]) -> bool
     ensures { λ r. ⌜ r ≡ lengthFits (now (s .entry)) ⌝ }
 {
     if s.len() < Entry::SIZE {
@@ -59,19 +54,10 @@ fn header_fits(e: Entry) -> bool
     are_zero(0, e.w4, e.w5, e.w6, e.w7)
 }
 
-fn check_header(s: &[u8]) -> Checked
-    requires { ⌜ 16 ≤ length (now s) ⌝ }
-    ensures { λ r. ⌜ checked r ≡ headerCheck (now (s .entry)) ⌝ }
-{
-    pass_if(header_fits(read_entry(s, 0)), 14, 0)
-}
-
 // Row 10: the query's terms.
-fn check_query(v: &[u8], s: &[u8]) -> Checked
-    requires { ⌜ 16 ≤ length (now s) ⌝ }
-    ensures { λ r. ⌜ checked r ≡ queryCheck (now (v .entry)) (queryOf (now (s .entry))) ⌝ }
+fn check_query(v: &[u8], header: Entry) -> Checked
+    ensures { λ r. ⌜ checked r ≡ queryCheck (now (v .entry)) (queryIn header) ⌝ }
 {
-    let header = read_entry(s, 0);
     let first = check_term(v, header.w1 as usize);
     let Checked::Fine = first else {
         return first;
@@ -118,7 +104,7 @@ fn unused_fits(e: Entry) -> bool
 
 // Whether t is a term record before record i.
 fn is_earlier_term(s: &[u8], i: usize, t: u16) -> bool
-    requires { ⌜ 16 * i ≤ length (now s) ⌝ }
+    requires { ⌜ HasBefore (now s) i ⌝ }
     ensures { λ r. ⌜ r ≡ earlierTerm (now (s .entry)) i t ⌝ }
 {
     let at = t as usize;
@@ -148,7 +134,7 @@ fn key_of(kind: u16, f: u16, t: u16) -> u64
 
 // Whether record j is the term of f and t.
 fn is_repeat(s: &[u8], f: u16, t: u16, j: usize) -> bool
-    requires { ⌜ 16 * j + 16 ≤ length (now s) ⌝ }
+    requires { ⌜ HasEntry (now s) j ⌝ }
     ensures { λ r. ⌜ r ≡ repeats (now (s .entry)) f t j ⌝ }
 {
     let e = read_entry(s, j);
@@ -158,7 +144,7 @@ fn is_repeat(s: &[u8], f: u16, t: u16, j: usize) -> bool
 // Whether a record before record i is the term of f and t. The loop has no way out before its end, so that the compiler
 // compares several records at once.
 fn is_repeated(s: &[u8], i: usize, f: u16, t: u16) -> bool
-    requires { ⌜ 16 * i ≤ length (now s) ⌝ }
+    requires { ⌜ HasBefore (now s) i ⌝ }
     ensures { λ r. ⌜ r ≡ repeated (now (s .entry)) i f t ⌝ }
 {
     let mut found = false;
@@ -173,7 +159,7 @@ fn is_repeated(s: &[u8], i: usize, f: u16, t: u16) -> bool
 }
 
 fn function_fits(v: &[u8], s: &[u8], i: usize, e: Entry) -> bool
-    requires { ⌜ 16 * i ≤ length (now s) ⌝ }
+    requires { ⌜ HasBefore (now s) i ⌝ }
     ensures { λ r. ⌜ r ≡ functionFits (now (v .entry)) (now (s .entry)) i (lineOf e) ⌝ }
 {
     if e.w0 != 2 {
@@ -190,7 +176,7 @@ fn function_fits(v: &[u8], s: &[u8], i: usize, e: Entry) -> bool
 
 // Row 17: the term rule; record 1 and no other is the constant.
 fn term_fits(v: &[u8], s: &[u8], i: usize, e: Entry) -> bool
-    requires { ⌜ 16 * i ≤ length (now s) ⌝ }
+    requires { ⌜ HasBefore (now s) i ⌝ }
     ensures { λ r. ⌜ r ≡ termFits (now (v .entry)) (now (s .entry)) i (lineOf e) ⌝ }
 {
     let constant = e.w0 == 1;
@@ -202,7 +188,7 @@ fn term_fits(v: &[u8], s: &[u8], i: usize, e: Entry) -> bool
 }
 
 fn x_fits(s: &[u8], i: usize, owner: u16, x: u16) -> bool
-    requires { ⌜ 16 * i ≤ length (now s) ⌝ }
+    requires { ⌜ HasBefore (now s) i ⌝ }
     ensures { λ r. ⌜ r ≡ xFits (now (s .entry)) i owner x ⌝ }
 {
     if !is_earlier_term(s, i, x) {
@@ -215,7 +201,7 @@ fn x_fits(s: &[u8], i: usize, owner: u16, x: u16) -> bool
 }
 
 fn y_fits(s: &[u8], i: usize, taken: bool, y: u16) -> bool
-    requires { ⌜ 16 * i ≤ length (now s) ⌝ }
+    requires { ⌜ HasBefore (now s) i ⌝ }
     ensures { λ r. ⌜ r ≡ yFits (now (s .entry)) i taken y ⌝ }
 {
     if taken {
@@ -224,68 +210,41 @@ fn y_fits(s: &[u8], i: usize, taken: bool, y: u16) -> bool
     y == 0
 }
 
-// What an extension names exists: its column's literals are counted where all terms are the constant.
-fn extension_fits(
-    v: &[u8],
-    marks: &[bool; Record::LIMIT],
-    s: &[u8],
-    i: usize,
-    header: Entry,
-    e: Entry,
-) -> bool
-    requires { ⌜ vocabularyCheck (now v) ≡ accepted (count (now v)) ⌝ }
-    requires { ⌜ ((j : ℕ) → getD (now marks) j false ≡ chained (now v) j) ⌝ }
-    requires { ⌜ 16 * i ≤ length (now s) ⌝ }
-    ensures { λ r. ⌜ r ≡ extensionFits (now (s .entry)) i (e .w1) (e .w3) (e .w4) (e .w5) (columnAt (now (v .entry)) record { a = header .w1; b = header .w2 } (e .w1) (e .w2)) ⌝ }
+// What an extension names exists: the column and its position, the terms.
+fn extension_fits(v: &[u8], marks: &[bool; Record::LIMIT], s: &[u8], i: usize, e: Entry) -> bool
+    requires { ⌜ Marked (now v) (now marks) ⌝ }
+    requires { ⌜ HasBefore (now s) i ⌝ }
+    ensures { λ r. ⌜ ((q : Query) → r ≡ extensionFits (now (s .entry)) i (extensionOf e) (columnAt (now (v .entry)) q (e .w1) (e .w2))) ⌝ }
 {
-    let nowhere = Terms { x: 0, y: 0, fx: 0 };
-    let column = find_column(v, marks, header.w1, header.w2, e.w1, e.w2, nowhere);
-    if e.w5 as usize >= column.size() {
+    let shape = column_shape(v, marks, e.w1, e.w2);
+    if e.w5 as usize >= shape.size {
         return false;
     }
     if !x_fits(s, i, e.w1, e.w3) {
         return false;
     }
-    y_fits(s, i, takes_y(v, e.w1, e.w2), e.w4)
+    y_fits(s, i, shape.y, e.w4)
 }
 
 // Row 18: what a step names exists.
-fn step_fits(
-    v: &[u8],
-    marks: &[bool; Record::LIMIT],
-    s: &[u8],
-    i: usize,
-    header: Entry,
-    e: Entry,
-) -> bool
-    requires { ⌜ vocabularyCheck (now v) ≡ accepted (count (now v)) ⌝ }
-    requires { ⌜ ((j : ℕ) → getD (now marks) j false ≡ chained (now v) j) ⌝ }
-    requires { ⌜ 16 * i ≤ length (now s) ⌝ }
-    requires { ⌜ header ≡ entryAt (now s) 0 ⌝ }
-    ensures { λ r. ⌜ r ≡ stepFits (now (v .entry)) (now (s .entry)) i (lineOf e) ⌝ }
+fn step_fits(v: &[u8], marks: &[bool; Record::LIMIT], s: &[u8], i: usize, e: Entry) -> bool
+    requires { ⌜ Marked (now v) (now marks) ⌝ }
+    requires { ⌜ HasBefore (now s) i ⌝ }
+    ensures { λ r. ⌜ r ≡ lineFits (now (v .entry)) (now (s .entry)) i (lineOf e) ⌝ }
 {
     let kind = e.w0;
     match kind {
         3 => e.w1 <= 1,
-        4 => extension_fits(v, marks, s, i, header, e),
+        4 => extension_fits(v, marks, s, i, e),
         _ => true,
     }
 }
 
 // Rows 15 to 18 at record i, whose sixteen bytes are `part`.
-fn check_rows(
-    v: &[u8],
-    marks: &[bool; Record::LIMIT],
-    s: &[u8],
-    part: &[u8],
-    i: usize,
-    header: Entry,
-) -> Checked
-    requires { ⌜ vocabularyCheck (now v) ≡ accepted (count (now v)) ⌝ }
-    requires { ⌜ ((j : ℕ) → getD (now marks) j false ≡ chained (now v) j) ⌝ }
-    requires { ⌜ 16 * i ≤ length (now s) ⌝ }
-    requires { ⌜ header ≡ entryAt (now s) 0 ⌝ }
-    requires { ⌜ length (now part) ≡ 16 ⌝ }
+fn check_rows(v: &[u8], marks: &[bool; Record::LIMIT], s: &[u8], part: &[u8], i: usize) -> Checked
+    requires { ⌜ Marked (now v) (now marks) ⌝ }
+    requires { ⌜ HasBefore (now s) i ⌝ }
+    requires { ⌜ length (now part) ≡ entrySize ⌝ }
     ensures { λ r. ⌜ checked r ≡ rowsCheck (now (v .entry)) (now (s .entry)) i (entryOf (now (part .entry))) ⌝ }
 {
     let e = Entry::read(part);
@@ -301,32 +260,22 @@ fn check_rows(
     let Checked::Fine = term else {
         return term;
     };
-    pass_if(step_fits(v, marks, s, i, header, e), 18, i)
+    pass_if(step_fits(v, marks, s, i, e), 18, i)
 }
 
-fn check_entry(
-    v: &[u8],
-    marks: &[bool; Record::LIMIT],
-    s: &[u8],
-    i: usize,
-    header: Entry,
-) -> Checked
-    requires { ⌜ vocabularyCheck (now v) ≡ accepted (count (now v)) ⌝ }
-    requires { ⌜ ((j : ℕ) → getD (now marks) j false ≡ chained (now v) j) ⌝ }
-    requires { ⌜ 16 * i + 16 ≤ length (now s) ⌝ }
-    requires { ⌜ header ≡ entryAt (now s) 0 ⌝ }
+fn check_entry(v: &[u8], marks: &[bool; Record::LIMIT], s: &[u8], i: usize) -> Checked
+    requires { ⌜ Marked (now v) (now marks) ⌝ }
+    requires { ⌜ HasEntry (now s) i ⌝ }
     ensures { λ r. ⌜ checked r ≡ entryCheck (now (v .entry)) (now (s .entry)) i ⌝ }
 {
     let at = Entry::SIZE * i;
     let end = at + Entry::SIZE;
-    check_rows(v, marks, s, &s[at..end], i, header)
+    check_rows(v, marks, s, &s[at..end], i)
 }
 
 // Each script record in turn; row 17 first, where record 1 is absent.
 fn check_entries(v: &[u8], marks: &[bool; Record::LIMIT], s: &[u8]) -> Checked
-    requires { ⌜ vocabularyCheck (now v) ≡ accepted (count (now v)) ⌝ }
-    requires { ⌜ ((j : ℕ) → getD (now marks) j false ≡ chained (now v) j) ⌝ }
-    requires { ⌜ 16 ≤ length (now s) ⌝ }
+    requires { ⌜ Marked (now v) (now marks) ⌝ }
     ensures { λ r. ⌜ checked r ≡ entriesCheck (now (v .entry)) (now (s .entry)) ⌝ }
 {
     let records = s.len() / Entry::SIZE;
@@ -334,10 +283,9 @@ fn check_entries(v: &[u8], marks: &[bool; Record::LIMIT], s: &[u8]) -> Checked
     let Checked::Fine = present else {
         return present;
     };
-    let header = read_entry(s, 0);
     let mut i = 1;
     while i < records {
-        let entry = check_entry(v, marks, s, i, header);
+        let entry = check_entry(v, marks, s, i);
         let Checked::Fine = entry else {
             return entry;
         };
@@ -365,7 +313,7 @@ fn link_fits(s: &[u8], i: usize, next: u16) -> bool
 
 // Row 19 at record i, where that is a step.
 fn check_link(s: &[u8], i: usize) -> Checked
-    requires { ⌜ 16 * i + 16 ≤ length (now s) ⌝ }
+    requires { ⌜ HasEntry (now s) i ⌝ }
     ensures { λ r. ⌜ checked r ≡ linkCheck (now (s .entry)) i ⌝ }
 {
     let e = read_entry(s, i);
@@ -375,12 +323,11 @@ fn check_link(s: &[u8], i: usize) -> Checked
     Checked::Fine
 }
 
-// The header's w3, then each step's next, on the chain or off it.
-fn check_links(s: &[u8]) -> Checked
-    requires { ⌜ 16 ≤ length (now s) ⌝ }
+// The header's w3, the first step, then each step's next, on the chain or off it.
+fn check_links(s: &[u8], first: u16) -> Checked
+    requires { ⌜ first ≡ firstStep (now s) ⌝ }
     ensures { λ r. ⌜ checked r ≡ linksCheck (now (s .entry)) ⌝ }
 {
-    let first = read_entry(s, 0).w3;
     let head = pass_if(link_fits(s, 0, first), 19, 0);
     let Checked::Fine = head else {
         return head;
@@ -397,21 +344,16 @@ fn check_links(s: &[u8]) -> Checked
     Checked::Fine
 }
 
-// The form: rows 13, 14, 10 and 15 to 19, over an accepted vocabulary whose chain is marked.
-pub fn check_form(v: &[u8], marks: &[bool; Record::LIMIT], s: &[u8]) -> Checked
-    requires { ⌜ vocabularyCheck (now v) ≡ accepted (count (now v)) ⌝ }
-    requires { ⌜ ((j : ℕ) → getD (now marks) j false ≡ chained (now v) j) ⌝ }
+// The rows after 13: 14, 10 and 15 to 19, at a script whose header was read.
+pub fn check_form(v: &[u8], marks: &[bool; Record::LIMIT], s: &[u8], header: Entry) -> Checked
+    requires { ⌜ Begun (now v) (now s) (now marks) header ⌝ }
     ensures { λ r. ⌜ checked r ≡ formCheck (now (v .entry)) (now (s .entry)) ⌝ }
 {
-    let length = pass_if(length_fits(s), 13, 0);
-    let Checked::Fine = length else {
-        return length;
+    let head = pass_if(header_fits(header), 14, 0);
+    let Checked::Fine = head else {
+        return head;
     };
-    let header = check_header(s);
-    let Checked::Fine = header else {
-        return header;
-    };
-    let query = check_query(v, s);
+    let query = check_query(v, header);
     let Checked::Fine = query else {
         return query;
     };
@@ -419,5 +361,5 @@ pub fn check_form(v: &[u8], marks: &[bool; Record::LIMIT], s: &[u8]) -> Checked
     let Checked::Fine = entries else {
         return entries;
     };
-    check_links(s)
+    check_links(s, header.w3)
 }

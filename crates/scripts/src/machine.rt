@@ -1,27 +1,27 @@
 // The machine: the open frames, handed on by value.
 use columns::column::Column;
 ghost use mathlib.Core.Path.{_≡_};
-ghost use mathlib.Core.Bool.{not, _&&_};
-ghost use mathlib.Core.List.{List, [], _∷_};
-ghost use Prim.Native.Nat.{ℕ, _+_, _*_, _%_, _≤_, _<_};
-ghost use lib.ListN.{length, getD};
-ghost use lib.Dec.{eqb};
-ghost use Rattle.columns.specs.Packed.{listed};
-ghost use Rattle.scripts.specs.Calculus.{without};
-ghost use Rattle.scripts.specs.Run.{close, extendBy};
-ghost use Rattle.scripts.specs.Machine.{framesOf, Placed};
+ghost use mathlib.Core.Bool.{not};
+ghost use mathlib.Core.List.{[], _∷_};
+ghost use Prim.Native.Nat.{suc, _<_};
+ghost use lib.ListN.{length, getD, drop};
+ghost use Rattle.columns.specs.Packed.{literals};
+ghost use Rattle.scripts.specs.Calculus.{without, frameLimit};
+ghost use Rattle.scripts.specs.Run.{isNil, close, extendBy};
+ghost use Rattle.scripts.specs.Numbered.{noNumber};
+ghost use Rattle.scripts.specs.Machine.{places, opened, framesOf, Standing, Shows};
 
-// `goals[f]` is the place of frame f's goal in a table of literals (specs/Machine.antt), so that handing the machine on
-// copies few bytes.
+// Frame f's literals stand in a table, which is lent (specs/Machine.antt); the first `closed[f]` of them are closed, and
+// the next is its goal. So handing the machine on copies few bytes.
 pub struct Machine {
     pub depth: usize,
-    pub goals: [u16; Machine::FRAMES],
+    pub closed: [u8; Machine::FRAMES],
 }
 
 // The literal at a position of a column.
 pub fn literal_at(column: Column, position: usize) -> u64
-    requires { ⌜ position < length (listed (column .first) (column .second) (column .third)) ⌝ }
-    ensures { λ r. ⌜ r ≡ getD (listed (column .first) (column .second) (column .third)) position 0 ⌝ }
+    requires { ⌜ position < length (literals column) ⌝ }
+    ensures { λ r. ⌜ r ≡ getD (literals column) position noNumber ⌝ }
 {
     match position {
         0 => column.first,
@@ -32,9 +32,8 @@ pub fn literal_at(column: Column, position: usize) -> u64
 
 // A column without the literal at a position.
 pub fn leave_out(column: Column, position: usize) -> Column
-    requires { ⌜ position < length (listed (column .first) (column .second) (column .third)) ⌝ }
-    ensures { λ r. ⌜ listed (r .first) (r .second) 0 ≡ without position (listed (column .first) (column .second) (column .third)) ⌝ }
-    ensures { λ r. ⌜ r .third ≡ 0 ⌝ }
+    requires { ⌜ position < length (literals column) ⌝ }
+    ensures { λ r. ⌜ literals r ≡ without position (literals column) ⌝ }
 {
     match position {
         0 => Column {
@@ -55,22 +54,34 @@ pub fn leave_out(column: Column, position: usize) -> Column
     }
 }
 
-// Whether the frame whose goal stands at a place has another open literal.
-fn has_next(table: &[u64; Machine::PLACES], place: u16) -> bool
-    requires { ⌜ place < 4096 ⌝ }
-    ensures { λ r. ⌜ r ≡ (eqb (place % 2) 0 && not (eqb (getD (now (table .entry)) (place + 1) 0) 0)) ⌝ }
+// The goal of a frame, of whose literals so many are closed.
+pub fn goal_at(table: &[u64; Machine::PLACES], frame: usize, closed: u8) -> u64
+    requires { ⌜ frame < frameLimit ⌝ }
+    requires { ⌜ closed < length (opened (now table) frame) ⌝ }
+    ensures { λ r. ⌜ r ≡ getD (drop closed (opened (now (table .entry)) frame)) 0 noNumber ⌝ }
 {
-    if place % 2 != 0 {
+    table[Machine::WIDTH * frame + closed as usize]
+}
+
+// Whether a frame has an open literal after its goal.
+fn has_next(table: &[u64; Machine::PLACES], frame: usize, closed: u8) -> bool
+    requires { ⌜ frame < frameLimit ⌝ }
+    requires { ⌜ closed < length (opened (now table) frame) ⌝ }
+    ensures { λ r. ⌜ r ≡ not (isNil (drop (suc closed) (opened (now (table .entry)) frame))) ⌝ }
+{
+    if closed >= 2 {
         return false;
     }
-    table[place as usize + 1] != 0
+    table[Machine::WIDTH * frame + closed as usize + 1] != 0
 }
 
 impl Machine {
     // Frames open together.
     pub const FRAMES: usize = 64;
-    // Places of literals: two for each record of a script.
-    pub const PLACES: usize = 4096;
+    // Literals of a frame.
+    pub const WIDTH: usize = 3;
+    // Places of literals.
+    pub const PLACES: usize = Machine::WIDTH * Machine::FRAMES;
 
     // No frame is open.
     pub fn empty() -> Self
@@ -78,46 +89,47 @@ impl Machine {
     {
         Machine {
             depth: 0,
-            goals: [0; Machine::FRAMES],
+            closed: [0; Machine::FRAMES],
         }
     }
 
-    // Opens the frame whose literals stand at a place.
-    fn open_frame(mut self, place: u16) -> Self
-        requires { ⌜ self .depth < 64 ⌝ }
-        ensures { λ r. ⌜ ((table : List ℕ) → 0 < getD table place 0 → place % 2 ≡ 0 → framesOf table r ≡ listed (getD table place 0) (getD table (place + 1) 0) 0 ∷ framesOf table self) ⌝ }
-        ensures { λ r. ⌜ ((table : List ℕ) (k : ℕ) → place < 2 * k → 0 < getD table place 0 → Placed table k (self .goals) (self .depth) → Placed table k (r .goals) (r .depth)) ⌝ }
-        ensures { λ r. ⌜ r .depth ≤ 64 ⌝ }
+    // Opens a frame of a column's literals.
+    fn open_frame(mut self, table: &mut [u64; Machine::PLACES], column: Column) -> Self
+        requires { ⌜ Standing (now table) (self .closed) (self .depth) ⌝ }
+        requires { ⌜ self .depth < frameLimit ⌝ }
+        requires { ⌜ 0 < column .first ⌝ }
+        ensures { λ r. ⌜ Shows (now (table .exit)) r (literals column ∷ framesOf (now (table .entry)) self) ⌝ }
     {
         let at = self.depth;
-        self.goals[at] = place;
+        let place = Machine::WIDTH * at;
+        table[place] = column.first;
+        table[place + 1] = column.second;
+        table[place + 2] = column.third;
+        self.closed[at] = 0;
         self.depth = at + 1;
         self
     }
 
     // Frame 0.
-    pub fn start(self, place: u16) -> Self
-        requires { ⌜ self .depth < 64 ⌝ }
-        ensures { λ r. ⌜ ((table : List ℕ) → 0 < getD table place 0 → place % 2 ≡ 0 → framesOf table r ≡ listed (getD table place 0) (getD table (place + 1) 0) 0 ∷ framesOf table self) ⌝ }
-        ensures { λ r. ⌜ ((table : List ℕ) (k : ℕ) → place < 2 * k → 0 < getD table place 0 → Placed table k (self .goals) (self .depth) → Placed table k (r .goals) (r .depth)) ⌝ }
-        ensures { λ r. ⌜ r .depth ≤ 64 ⌝ }
+    pub fn start(self, table: &mut [u64; Machine::PLACES], column: Column) -> Self
+        requires { ⌜ self .depth ≡ 0 ⌝ }
+        requires { ⌜ length (now table) ≡ places ⌝ }
+        requires { ⌜ 0 < column .first ⌝ }
+        ensures { λ r. ⌜ Shows (now (table .exit)) r (literals column ∷ []) ⌝ }
     {
-        self.open_frame(place)
+        self.open_frame(table, column)
     }
 
     // The goal is closed: a frame whose literals are all closed goes, and closes the goal under it.
     pub fn close(mut self, table: &[u64; Machine::PLACES]) -> Self
-        requires { ⌜ self .depth ≤ 64 ⌝ }
-        requires { ⌜ Placed (now table) 2048 (self .goals) (self .depth) ⌝ }
-        ensures { λ r. ⌜ framesOf (now (table .entry)) r ≡ close (framesOf (now (table .entry)) self) ⌝ }
-        ensures { λ r. ⌜ ((k : ℕ) → Placed (now (table .entry)) k (self .goals) (self .depth) → Placed (now (table .entry)) k (r .goals) (r .depth)) ⌝ }
-        ensures { λ r. ⌜ r .depth ≤ 64 ⌝ }
+        requires { ⌜ Standing (now table) (self .closed) (self .depth) ⌝ }
+        ensures { λ r. ⌜ Shows (now (table .entry)) r (close (framesOf (now (table .entry)) self)) ⌝ }
     {
         let mut at = self.depth;
         while at > 0 {
-            let place = self.goals[at - 1];
-            if has_next(table, place) {
-                self.goals[at - 1] = place + 1;
+            let closed = self.closed[at - 1];
+            if has_next(table, at - 1, closed) {
+                self.closed[at - 1] = closed + 1;
                 self.depth = at;
                 return self;
             }
@@ -127,30 +139,22 @@ impl Machine {
         self
     }
 
-    // The goal is connected with a column, whose other literals, at a place, are the next frame; with none it is closed.
-    pub fn extend(self, table: &[u64; Machine::PLACES], place: u16) -> Self
-        requires { ⌜ self .depth ≤ 64 ⌝ }
-        requires { ⌜ place < 4096 ⌝ }
-        requires { ⌜ place % 2 ≡ 0 ⌝ }
-        requires { ⌜ (0 < getD (now table) place 0 → self .depth < 64) ⌝ }
-        requires { ⌜ Placed (now table) 2048 (self .goals) (self .depth) ⌝ }
-        ensures { λ r. ⌜ framesOf (now (table .entry)) r ≡ extendBy (listed (getD (now (table .entry)) place 0) (getD (now (table .entry)) (place + 1) 0) 0) (framesOf (now (table .entry)) self) ⌝ }
-        ensures { λ r. ⌜ ((k : ℕ) → place < 2 * k → Placed (now (table .entry)) k (self .goals) (self .depth) → Placed (now (table .entry)) k (r .goals) (r .depth)) ⌝ }
-        ensures { λ r. ⌜ r .depth ≤ 64 ⌝ }
+    // The goal is connected with a column, whose other literals are the next frame; with none it is closed.
+    pub fn extend(self, table: &mut [u64; Machine::PLACES], others: Column) -> Self
+        requires { ⌜ Standing (now table) (self .closed) (self .depth) ⌝ }
+        requires { ⌜ (0 < others .first → self .depth < frameLimit) ⌝ }
+        ensures { λ r. ⌜ Shows (now (table .exit)) r (extendBy (literals others) (framesOf (now (table .entry)) self)) ⌝ }
     {
-        if table[place as usize] == 0 {
+        if others.first == 0 {
             return self.close(table);
         }
-        self.open_frame(place)
+        self.open_frame(table, others)
     }
 
     // The goal is connected with the goal of a lower frame.
     pub fn reduce(self, table: &[u64; Machine::PLACES]) -> Self
-        requires { ⌜ self .depth ≤ 64 ⌝ }
-        requires { ⌜ Placed (now table) 2048 (self .goals) (self .depth) ⌝ }
-        ensures { λ r. ⌜ framesOf (now (table .entry)) r ≡ close (framesOf (now (table .entry)) self) ⌝ }
-        ensures { λ r. ⌜ ((k : ℕ) → Placed (now (table .entry)) k (self .goals) (self .depth) → Placed (now (table .entry)) k (r .goals) (r .depth)) ⌝ }
-        ensures { λ r. ⌜ r .depth ≤ 64 ⌝ }
+        requires { ⌜ Standing (now table) (self .closed) (self .depth) ⌝ }
+        ensures { λ r. ⌜ Shows (now (table .entry)) r (close (framesOf (now (table .entry)) self)) ⌝ }
     {
         self.close(table)
     }

@@ -236,13 +236,13 @@ module _ {v : List ℕ} {bits : ℕ} {masks demands live : List ℕ} {left : ℕ
             any-intro listed left (g .0) (g .1)
             (subst (λ (t : ℕ). (has alive t && eqb (getD offers t 0) x) ≡ true) (sym (g .2)) (offers-it (f .0) (f .1) ∙ f .2))
 
-    pub covers-done : (first last : List ℕ) → Enters offers live alive left (2 ^ bits) first
+    pub covers-done : (words : ℕ) (first last : List ℕ) → words ≡ 2 ^ bits → Enters offers live alive left words first
         → SpreadTo bits (2 ^ bits) first last → Covers v alive last
-    covers-done first last enters spreads x h =
+    covers-done words first last e enters spreads x h =
         let k : x < 2 ^ bits = omega (arith, ap (λ (n : ℕ). 2 ^ n) (s .wide)) in
         spreads .right x k
         ∙ spread-cong (λ y. getD first y 0) (offered v alive) bits x
-        (λ y l. offered-listed first (2 ^ bits) enters y (omega arith))
+        (λ y l. offered-listed first words enters y (omega arith))
         ∙ ap (λ (n : ℕ). spread (offered v alive) n x) (s .wide)
 
 -- What stands after some rounds that each removed something.

@@ -7,7 +7,7 @@ use records::fields::Record;
 use records::fields::read_at;
 ghost use mathlib.Core.Path.{_≡_};
 ghost use mathlib.Core.Bool.{true, false, _||_};
-ghost use Prim.Native.Nat.{ℕ, _≤_, _<_, _^_};
+ghost use Prim.Native.Nat.{ℕ, _≤_, _<_};
 ghost use lib.ListN.{length, getD};
 ghost use lib.Bits.{bitOr};
 ghost use Rattle.records.specs.Check.{IsAccepted};
@@ -56,23 +56,23 @@ fn list_live(alive: &[bool; Profile::TYPES], size: usize, live: &mut [u16; Profi
     left
 }
 
-// Enters each word that a type of the set offers at its own place, in a table that was cleared.
+// Enters each word that a type of the set offers at its own place, in a table whose words below `size` are cleared first.
 fn enter_offers(
     offers: &[u16; Profile::TYPES],
     alive: &[bool; Profile::TYPES],
     live: &[u16; Profile::TYPES],
     left: usize,
-    bits: usize,
+    size: usize,
     cover: &mut [u16; Profile::TYPES],
 )
     requires { ⌜ Covering (now live) left (now alive) ⌝ }
     requires { ⌜ ((t : ℕ) → has (now alive) t ≡ true → getD (now offers) t 0 < typeLimit) ⌝ }
-    requires { ⌜ bits ≤ atomLimit ⌝ }
+    requires { ⌜ size ≤ typeLimit ⌝ }
     requires { ⌜ length (now cover) ≡ typeLimit ⌝ }
     ensures { λ _. ⌜ length (now (cover .exit)) ≡ typeLimit ⌝ }
-    ensures { λ _. ⌜ Enters (now (offers .entry)) (now (live .entry)) (now (alive .entry)) left (2 ^ bits) (now (cover .exit)) ⌝ }
+    ensures { λ _. ⌜ Enters (now (offers .entry)) (now (live .entry)) (now (alive .entry)) left size (now (cover .exit)) ⌝ }
 {
-    clear_words(cover, bits);
+    clear_words(cover, size);
     let mut j = 0;
     while j < left {
         let t = live[j] as usize;
@@ -177,7 +177,7 @@ fn remove_unserved(
     ensures { λ _. ⌜ length (now (cover .exit)) ≡ typeLimit ⌝ }
     ensures { λ r. ⌜ AfterRound (now (v .entry)) (now (alive .entry)) (now (alive .exit)) r ⌝ }
 {
-    enter_offers(offers, alive, live, left, bits, cover);
+    enter_offers(offers, alive, live, left, 1 << bits, cover);
     spread_words(cover, bits);
     sweep_roles(v, bits, masks, demands, cover, live, left, alive)
 }

@@ -6,14 +6,14 @@ ghost use lib.ListN.{length, getD};
 ghost use Rattle.types.specs.Elimination.{between, Joined, Spreads, SpreadTo};
 ghost use Rattle.types.specs.Compare.{atomLimit, typeLimit};
 
-// Clears the words below 2^bits.
-pub fn clear_words(cover: &mut [u16; Profile::TYPES], bits: usize)
-    requires { ⌜ bits ≤ atomLimit ⌝ }
+// Clears the words below `size`. (The caller makes the power of two: with `1 << bits` in its test, LLVM makes no memset of
+// the loop.)
+pub fn clear_words(cover: &mut [u16; Profile::TYPES], size: usize)
+    requires { ⌜ size ≤ typeLimit ⌝ }
     requires { ⌜ length (now cover) ≡ typeLimit ⌝ }
     ensures { λ _. ⌜ length (now (cover .exit)) ≡ typeLimit ⌝ }
-    ensures { λ _. ⌜ ((x : ℕ) → x < 2 ^ bits → getD (now (cover .exit)) x 0 ≡ 0) ⌝ }
+    ensures { λ _. ⌜ ((x : ℕ) → x < size → getD (now (cover .exit)) x 0 ≡ 0) ⌝ }
 {
-    let size = 1 << bits;
     let mut x = 0;
     while x < size {
         cover[x] = 0;

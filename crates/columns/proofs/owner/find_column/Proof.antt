@@ -14,7 +14,7 @@ use Rattle.columns.proofs.owner.find_column.Statement.{statement}
 use Rattle.columns.proofs.owner.find_column.Tie as tie
 
 good : (c : tie.Start) → Accepted (now (c .args .v))
-good c = accepted-vocabulary _ _ (c .pre .0)
+good c = accepted-vocabulary _ _ (c .pre .0 .vocabulary)
 
 query-column-requires : tie.Need-query-column-requires
 query-column-requires c κs = search needs
@@ -50,7 +50,7 @@ stated : (c : tie.After-has-columns)
 stated c =
     let b = c .before .before .before .before .before .before in
     let a = b .args in
-    c .has-columns .ensures (now (a .v)) (a .owner) (c .before .before .read-at .ensures) (b .pre .1 .0 (a .owner))
+    c .has-columns .ensures (now (a .v)) (a .owner) (c .before .before .read-at .ensures) (b .pre .0 .marked (a .owner))
 
 none-requires-2 : tie.Need-none-requires-2
 none-requires-2 c κs = search needs

@@ -1,60 +1,89 @@
--- `records::check::check_rows` meets its contract. The smallest of the three faults is of the first row that applies.
+-- `records::check::check_rows` meets its contract. The arm that was taken tells the kind, and so its line of the table.
 -- Assumes nothing.
-use mathlib.Core.Path.{_∙_, ap}
+use native.Mathlib.Omega.{arith}
+use mathlib.Core.Logic.{⊎-elim}
+use mathlib.Core.Path.{_≡_, refl, sym, ap}
 use denote.Ref.{now}
 use borrow.Author.Needs.{needs}
-use Rattle.records.specs.Check.{rowsCheck}
-use Rattle.records.specs.declared.kinds.Sorts.{Sorts}
+use Rattle.records.specs.Kinds.{Kind, kindOf, sortsOf, constantFields, junctionFields, restrictionFields}
+use Rattle.records.proofs.Ranges.{between, kind-past}
 use Rattle.records.proofs.Rows.{rows-at}
 use Rattle.records.proofs.check.check_rows.Statement.{statement}
 use Rattle.records.proofs.check.check_rows.Tie as tie
 
-sorts-of-requires : tie.Need-sorts-of-requires
-sorts-of-requires c κs = search needs
+check-sorts-requires : tie.Need-check-sorts-requires
+check-sorts-requires c κs = search needs
 
-find-fault-requires : tie.Need-find-fault-requires
-find-fault-requires c κs = search needs
+check-sorts-requires-2 : tie.Need-check-sorts-requires-2
+check-sorts-requires-2 c κs = search needs
 
-find-fault-requires-2 : tie.Need-find-fault-requires-2
-find-fault-requires-2 c κs = search needs
+check-sorts-requires-3 : tie.Need-check-sorts-requires-3
+check-sorts-requires-3 c κs = search needs
 
-find-fault-requires-3 : tie.Need-find-fault-requires-3
-find-fault-requires-3 c κs = search needs
+check-sorts-requires-4 : tie.Need-check-sorts-requires-4
+check-sorts-requires-4 c κs = search needs
 
-smaller-requires : tie.Need-smaller-requires
-smaller-requires c κs = search needs
+check-sorts-requires-5 : tie.Need-check-sorts-requires-5
+check-sorts-requires-5 c κs = search needs
 
-smaller-requires-2 : tie.Need-smaller-requires-2
-smaller-requires-2 c κs = search needs
-
-pass-if-requires : tie.Need-pass-if-requires
-pass-if-requires c κs = search needs
+check-sorts-requires-6 : tie.Need-check-sorts-requires-6
+check-sorts-requires-6 c κs = search needs
 
 returns : tie.Need-returns
+unfolding kindOf
 returns c =
-    let least = c .before .before in
-    let next = least .before in
-    let b = next .before in
-    let a = b .before in
-    let sorts = a .before in
-    let args = sorts .before .before .args in
-    rows-at (now (args .v)) (args .i) (sorts .sorts-of .result) (args .fields) _ _ _ _ _ _ (a .find-fault .ensures)
-    (b .find-fault2 .ensures)
-    (next .find-fault3 .ensures)
-    (least .smaller .ensures)
-    (c .before .smaller2 .ensures)
-    (c .pass-if .ensures)
-    ∙ ap (λ (s : Sorts). rowsCheck (now (args .v)) (args .i) s (args .fields)) (sorts .sorts-of .ensures)
+    let a = c .before .before .before .args in
+    rows-at (now (a .v)) (a .i) (a .fields) _ _ (c .check-sorts .ensures) (ap sortsOf (sym (c .before .match .keys1)))
+
+returns-2 : tie.Need-returns-2
+unfolding kindOf
+returns-2 c =
+    let a = c .before .before .before .args in
+    rows-at (now (a .v)) (a .i) (a .fields) _ _ (c .check-sorts2 .ensures) (ap sortsOf (sym (c .before .match .keys2)))
+
+returns-3 : tie.Need-returns-3
+unfolding kindOf
+returns-3 c =
+    let a = c .before .before .before .args in
+    rows-at (now (a .v)) (a .i) (a .fields) _ _ (c .check-sorts3 .ensures) (ap sortsOf (sym (c .before .match .keys3)))
+
+returns-4 : tie.Need-returns-4
+unfolding kindOf
+returns-4 c =
+    let a = c .before .before .before .before .before .args in
+    rows-at (now (a .v)) (a .i) (a .fields) _ _ (c .check-sorts4 .ensures)
+    (between (λ k. junctionFields ≡ sortsOf k) 2 5 (refl, (refl, tt)) (a .fields .kind) (omega arith) (omega arith))
+
+returns-5 : tie.Need-returns-5
+unfolding kindOf
+returns-5 c =
+    let a = c .before .before .before .before .before .before .args in
+    rows-at (now (a .v)) (a .i) (a .fields) _ _ (c .check-sorts5 .ensures)
+    (between (λ k. restrictionFields ≡ sortsOf k) 2 7 (refl, (refl, tt)) (a .fields .kind) (omega arith) (omega arith))
+
+returns-6 : tie.Need-returns-6
+unfolding kindOf
+returns-6 c =
+    let a = c .before .before .before .before .args in
+    rows-at (now (a .v)) (a .i) (a .fields) _ _ (c .check-sorts6 .ensures)
+    (⊎-elim
+    (λ w. between (λ k. constantFields ≡ sortsOf k) 3 0 (refl, (refl, (refl, tt))) (a .fields .kind) (omega arith) (omega arith))
+    (λ w. sym (ap (λ (k : Kind). k .fields) (kind-past (a .fields .kind) (omega arith))))
+    (c .before .if1 .came))
 
 pub check-rows-spec : {M : Type 1} → statement M
 check-rows-spec =
     tie.close
     (tie.spec
-    sorts-of-requires
-    find-fault-requires
-    find-fault-requires-2
-    find-fault-requires-3
-    smaller-requires
-    smaller-requires-2
-    pass-if-requires
-    returns)
+    check-sorts-requires
+    check-sorts-requires-2
+    check-sorts-requires-3
+    check-sorts-requires-4
+    check-sorts-requires-5
+    check-sorts-requires-6
+    returns
+    returns-2
+    returns-3
+    returns-4
+    returns-5
+    returns-6)

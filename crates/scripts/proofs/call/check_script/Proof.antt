@@ -1,19 +1,39 @@
 -- `scripts::call::check_script` meets its contract. Each check that passed hands on to the next; the chain decides last.
 -- Assumes nothing.
+use native.Mathlib.Omega.{arith}
 use mathlib.Core.Path.{_≡_}
 use denote.Ref.{now}
 use borrow.Author.Needs.{needs}
-use Rattle.records.specs.Outcome.{accepted, pass}
-use Rattle.records.specs.Format.{count}
-use Rattle.records.specs.Check.{vocabularyCheck}
+use Rattle.records.specs.Outcome.{pass}
+use Rattle.records.specs.Check.{IsAccepted}
+use Rattle.records.specs.Answers.{checked}
 use Rattle.records.proofs.Accepted.{accepted-well-formed}
-use Rattle.scripts.specs.Form.{formCheck}
-use Rattle.scripts.proofs.Outcomes.{vocabulary-at, form-at, refused-vocabulary, refused-form, decided}
+use Rattle.records.proofs.Order.{asked, passed}
+use Rattle.scripts.specs.Form.{lengthCheck, formCheck}
+use Rattle.scripts.specs.Ready.{Begun}
+use Rattle.scripts.proofs.Lines.{length-passed}
+use Rattle.scripts.proofs.Outcomes.{vocabulary-at, refused-vocabulary, refused-length, refused-form, decided}
 use Rattle.scripts.proofs.call.check_script.Statement.{statement}
 use Rattle.scripts.proofs.call.check_script.Tie as tie
 
+-- Places: the start, where the vocabulary was accepted, after row 13 was tried, where it passed, after the form was checked.
+abbrev start : tie.After-enum-told → tie.Start
+start c = c .before .before .before .before .before
+
+abbrev taken : tie.After-pass-if → tie.After-enum-told
+taken c = c .before .before
+
+abbrev long : tie.After-enum-told3 → tie.After-pass-if
+long c = c .before .before
+
+abbrev begun : tie.After-check-form → tie.After-enum-told3
+begun c = c .before .before .before .before
+
+abbrev formed : tie.After-enum-told5 → tie.After-check-form
+formed c = c .before .before
+
 check-vocabulary-requires : tie.Need-check-vocabulary-requires
-check-vocabulary-requires c κs = search needs
+check-vocabulary-requires c κs = tt
 
 enum-told : tie.Need-enum-told
 enum-told c = search needs
@@ -22,7 +42,7 @@ enum-told-2 : tie.Need-enum-told-2
 enum-told-2 c = search needs
 
 judge-after-count-requires : tie.Need-judge-after-count-requires
-judge-after-count-requires c κs = search needs
+judge-after-count-requires c κs = tt
 
 returns : tie.Need-returns
 returns c =
@@ -32,17 +52,18 @@ returns c =
     (c .judge-after-count .ensures)
 
 -- the vocabulary was accepted
-taken : (c : tie.After-enum-told)
-    → let v = now (c .before .before .before .before .before .args .v) in vocabularyCheck v ≡ accepted (count v)
-taken c =
-    let k = c .before .before in
-    vocabulary-at (now (k .before .before .before .args .v)) _ _ (k .check-vocabulary .ensures) (c .enum-told .given .1)
+accepts : (c : tie.After-enum-told) → IsAccepted (now (start c .args .v))
+accepts c = vocabulary-at (now (start c .args .v)) _ _ (c .before .before .check-vocabulary .ensures) (c .enum-told .given .1)
 
-mark-chain-requires : tie.Need-mark-chain-requires
-mark-chain-requires c κs = accepted-well-formed _ _ (taken c)
+length-fits-requires : tie.Need-length-fits-requires
+length-fits-requires c κs = tt
 
-check-form-requires : tie.Need-check-form-requires
-check-form-requires c κs = (taken (c .before .before), c .before .mark-chain .ensures)
+pass-if-requires : tie.Need-pass-if-requires
+pass-if-requires c κs = tt
+
+-- row 13
+measured : (c : tie.After-pass-if) → checked (c .pass-if .result) ≡ lengthCheck (now (start (taken c) .args .s))
+measured c = asked _ _ _ _ _ (c .pass-if .ensures) (c .before .length-fits .ensures)
 
 enum-told-3 : tie.Need-enum-told-3
 enum-told-3 c = search needs
@@ -51,36 +72,77 @@ enum-told-4 : tie.Need-enum-told-4
 enum-told-4 c = search needs
 
 judge-after-requires : tie.Need-judge-after-requires
-judge-after-requires c κs = search needs
+judge-after-requires c κs = tt
 
 returns-2 : tie.Need-returns-2
 returns-2 c =
-    let k = c .before .before .before in
-    let t = k .before .before .before in
-    let a = t .before .before .before .before .before .args in
-    refused-form (now (a .v)) (now (a .s)) _ _ _ _ (taken t) (k .check-form .ensures) (c .before .enum-told4 .given .1)
+    let m = c .before .before .before in
+    let a = start (taken m) .args in
+    refused-length (now (a .v)) (now (a .s)) _ _ _ _ (accepts (taken m)) (measured m) (c .before .enum-told4 .given .1)
     (c .judge-after .ensures)
 
--- the form passed
-fits : (c : tie.After-enum-told3)
-    → let a = c .before .before .before .before .before .before .before .before .before .before .args in
-    formCheck (now (a .v)) (now (a .s)) ≡ pass
-fits c =
-    let k = c .before .before in
-    let a = k .before .before .before .before .before .before .before .before .args in
-    form-at (now (a .v)) (now (a .s)) _ (k .check-form .ensures) (c .enum-told3 .given .1)
+-- it passed
+sized : (c : tie.After-enum-told3) → lengthCheck (now (start (taken (long c)) .args .s)) ≡ pass
+sized c = passed _ _ (measured (long c)) (c .enum-told3 .given .1)
 
-check-chain-requires : tie.Need-check-chain-requires
-check-chain-requires c κs =
-    let m = c .before .before .before .before .before in
-    record { vocabulary = taken (m .before); marked = m .mark-chain .ensures; form = fits (c .before) }
+mark-chain-requires : tie.Need-mark-chain-requires
+mark-chain-requires c κs = accepted-well-formed _ _ (accepts (taken (long c)))
+
+read-entry-requires : tie.Need-read-entry-requires
+read-entry-requires c κs =
+    let s = now (start (taken (long (c .before))) .args .s) in omega (arith, length-passed s (sized (c .before)))
+
+check-form-requires : tie.Need-check-form-requires
+check-form-requires c κs =
+    let r = c .before in
+    let m = r .before in
+    record {
+      marked = record { vocabulary = accepts (taken (long (m .before))); marked = m .mark-chain .ensures };
+      sized = sized (m .before);
+      read = r .read-entry .ensures;
+    }
+
+enum-told-5 : tie.Need-enum-told-5
+enum-told-5 c = search needs
+
+enum-told-6 : tie.Need-enum-told-6
+enum-told-6 c = search needs
+
+judge-after-requires-2 : tie.Need-judge-after-requires-2
+judge-after-requires-2 c κs = tt
 
 returns-3 : tie.Need-returns-3
 returns-3 c =
+    let k = c .before .before .before in
+    let t = taken (long (begun k)) in
+    let a = start t .args in
+    refused-form (now (a .v)) (now (a .s)) _ _ _ _ (accepts t) (k .check-form .ensures) (c .before .enum-told6 .given .1)
+    (c .judge-after2 .ensures)
+
+-- the form passed
+fits : (c : tie.After-enum-told5)
+    → let a = start (taken (long (begun (formed c)))) .args in formCheck (now (a .v)) (now (a .s)) ≡ pass
+fits c = passed _ _ (formed c .check-form .ensures) (c .enum-told5 .given .1)
+
+check-chain-requires : tie.Need-check-chain-requires
+check-chain-requires c κs =
+    let r = formed (c .before) .before .before in
+    let m = r .before in
+    record {
+      begun = record {
+        marked = record { vocabulary = accepts (taken (long (m .before))); marked = m .mark-chain .ensures };
+        sized = sized (m .before);
+        read = r .read-entry .ensures;
+      };
+      form = fits (c .before);
+    }
+
+returns-4 : tie.Need-returns-4
+returns-4 c =
     let f = c .before .before in
-    let t = f .before .before .before .before .before in
-    let a = t .before .before .before .before .before .args in
-    decided (now (a .v)) (now (a .s)) _ (taken t) (fits f) (c .check-chain .ensures)
+    let t = taken (long (begun (formed f))) in
+    let a = start t .args in
+    decided (now (a .v)) (now (a .s)) _ (accepts t) (fits f) (c .check-chain .ensures)
 
 pub check-script-spec : {M : Type 1} → statement M
 check-script-spec =
@@ -91,11 +153,18 @@ check-script-spec =
     enum-told-2
     judge-after-count-requires
     returns
-    mark-chain-requires
-    check-form-requires
+    length-fits-requires
+    pass-if-requires
     enum-told-3
     enum-told-4
     judge-after-requires
     returns-2
+    mark-chain-requires
+    read-entry-requires
+    check-form-requires
+    enum-told-5
+    enum-told-6
+    judge-after-requires-2
+    returns-3
     check-chain-requires
-    returns-3)
+    returns-4)

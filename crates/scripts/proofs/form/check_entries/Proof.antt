@@ -11,10 +11,10 @@ use Rattle.scripts.proofs.form.check_entries.Statement.{statement}
 use Rattle.scripts.proofs.form.check_entries.Tie as tie
 
 abbrev Inv-loop : tie.InvT-loop
-Inv-loop v marks s records header i₀ i = inTurn (entryCheck v s) 1 (records - 1) ≡ inTurn (entryCheck v s) i (records - i)
+Inv-loop v marks s records i₀ i = inTurn (entryCheck v s) 1 (records - 1) ≡ inTurn (entryCheck v s) i (records - i)
 
 abbrev μ-loop : tie.MeasureT-loop
-μ-loop v marks s records header i₀ i = records - i
+μ-loop v marks s records i₀ i = records - i
 
 pass-if-requires : tie.Need-pass-if-requires Inv-loop μ-loop
 pass-if-requires c κs = tt
@@ -28,17 +28,12 @@ enum-told-2 c = search needs
 returns : tie.Need-returns Inv-loop μ-loop
 returns c = stops _ _ _ _ _ (c .before .before .pass-if .ensures) (c .enum-told2 .given .1)
 
-read-entry-requires : tie.Need-read-entry-requires Inv-loop μ-loop
-read-entry-requires c κs = omega arith
-
 loop-holds : tie.Need-loop-holds Inv-loop μ-loop
 loop-holds c = refl
 
 check-entry-requires : tie.Need-check-entry-requires Inv-loop μ-loop
 check-entry-requires c κs =
-    let r = c .before .before in
-    let p = r .before .before .before .before .before .before .pre in
-    (p .0, (p .1 .0, (omega arith, r .read-entry .ensures)))
+    (c .before .before .before .before .before .before .before .pre, omega arith)
 
 enum-told-3 : tie.Need-enum-told-3 Inv-loop μ-loop
 enum-told-3 c = search needs
@@ -49,7 +44,7 @@ enum-told-4 c = search needs
 returns-2 : tie.Need-returns-2 Inv-loop μ-loop
 returns-2 c =
     let w = c .before .before .before in
-    let t = w .before .before .before in
+    let t = w .before .before in
     goes _ _ _ _ (t .before .before .pass-if .ensures) (t .enum-told .given .1)
     (turn-refused _ _ _ _ _ _ (w .loop-test .taken) (c .before .before .check-entry .ensures) (c .enum-told4 .given .1)
     ∙ sym (w .before .loop .inv))
@@ -68,7 +63,7 @@ loop-again c =
 
 returns-3 : tie.Need-returns-3 Inv-loop μ-loop
 returns-3 c =
-    let t = c .before .before .before in
+    let t = c .before .before in
     goes _ _ _ _ (t .before .before .pass-if .ensures) (t .enum-told .given .1)
     (sym (c .before .loop .inv ∙ turns-end _ _ _ (c .loop-test .left)))
 
@@ -82,7 +77,6 @@ check-entries-spec =
     enum-told
     enum-told-2
     returns
-    read-entry-requires
     loop-holds
     check-entry-requires
     enum-told-3

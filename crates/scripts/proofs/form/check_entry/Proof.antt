@@ -27,7 +27,7 @@ part-check-rows-end c = search needs
 check-rows-requires : tie.Need-check-rows-requires
 check-rows-requires c κs =
     let p = c .before .before .before .pre in
-    (p .0, (p .1 .0, (omega arith, (p .1 .1 .1, simp (length-take, length-drop) (omega arith)))))
+    (p .0, (omega arith, simp (length-take, length-drop) (omega arith)))
 
 returns : tie.Need-returns
 unfolding entryCheck entryAt

@@ -1,7 +1,7 @@
 -- `scripts::form::check_links` meets its contract. The header's link passed; the loop's invariant: the records
 -- from `i` on decide.
 -- Assumes nothing.
-use Prim.Native.Nat.{_-_}
+use Prim.Native.Nat.{ℕ, _-_}
 use native.Mathlib.Omega.{arith}
 use mathlib.Core.Path.{_≡_, refl, sym, ap, _∙_}
 use denote.Ref.{now}
@@ -11,7 +11,6 @@ use Rattle.records.specs.Answers.{checked}
 use Rattle.records.proofs.Order.{stops, goes, asked, turn-refused, turn-passed, turns-end}
 use Rattle.scripts.specs.Format.{firstStep}
 use Rattle.scripts.specs.Form.{linkFits, linkCheck}
-use Rattle.scripts.specs.declared.entry.Entry.{Entry}
 use Rattle.scripts.proofs.form.check_links.Statement.{statement}
 use Rattle.scripts.proofs.form.check_links.Tie as tie
 
@@ -21,9 +20,6 @@ Inv-loop s first records i₀ i = inTurn (linkCheck s) 1 (records - 1) ≡ inTur
 abbrev μ-loop : tie.MeasureT-loop
 μ-loop s first records i₀ i = records - i
 
-read-entry-requires : tie.Need-read-entry-requires Inv-loop μ-loop
-read-entry-requires c κs = omega arith
-
 link-fits-requires : tie.Need-link-fits-requires Inv-loop μ-loop
 link-fits-requires c κs = tt
 
@@ -32,13 +28,12 @@ pass-if-requires c κs = tt
 
 -- row 19 at the header
 first : (c : tie.After-pass-if Inv-loop μ-loop)
-    → let s = now (c .before .before .before .before .args .s) in
+    → let s = now (c .before .before .before .args .s) in
     checked (c .pass-if .result) ≡ require (linkFits s 0 (firstStep s)) 19 0
 first c =
-    let r = c .before .before in
-    let a = r .before .before .args in
+    let b = c .before .before .before in
     asked _ _ _ _ _ (c .pass-if .ensures)
-    (c .before .link-fits .ensures ∙ ap (λ (x : Entry). linkFits (now (a .s)) 0 (x .w3)) (r .read-entry .ensures))
+    (c .before .link-fits .ensures ∙ ap (λ (x : ℕ). linkFits (now (b .args .s)) 0 x) (b .pre))
 
 enum-told : tie.Need-enum-told Inv-loop μ-loop
 enum-told c = search needs
@@ -93,7 +88,6 @@ check-links-spec =
     (tie.spec
     Inv-loop
     μ-loop
-    read-entry-requires
     link-fits-requires
     pass-if-requires
     enum-told

@@ -6,7 +6,7 @@ use borrow.Author.Needs.{needs}
 use Rattle.records.specs.Outcome.{Check, _then_, require}
 use Rattle.records.proofs.Order.{stops, goes, asked}
 use Rattle.scripts.specs.Format.{entryOf, lineOf}
-use Rattle.scripts.specs.Form.{kindFits, unusedFits, termFits, stepFits, rowsCheck}
+use Rattle.scripts.specs.Form.{kindFits, unusedFits, termFits, lineFits, rowsCheck}
 use Rattle.scripts.specs.declared.entry.Entry.{Entry}
 use Rattle.scripts.proofs.form.check_rows.Statement.{statement}
 use Rattle.scripts.proofs.form.check_rows.Tie as tie
@@ -26,7 +26,7 @@ row17 c =
 abbrev row18 : tie.After-read → Check
 row18 c =
     let a = c .before .before .before .before .args in
-    require (stepFits (now (a .v)) (now (a .s)) (a .i) (lineOf (c .read .result))) 18 (a .i)
+    require (lineFits (now (a .v)) (now (a .s)) (a .i) (lineOf (c .read .result))) 18 (a .i)
 
 -- the same, at the record
 abbrev whole : tie.After-read → Check

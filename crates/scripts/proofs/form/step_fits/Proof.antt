@@ -1,8 +1,9 @@
 -- `scripts::form::step_fits` meets its contract. The kind of the record says which rule it is under.
 -- Assumes nothing.
-use mathlib.Core.Path.{refl, sym, _∙_}
+use mathlib.Core.Path.{sym, _∙_}
 use denote.Ref.{now}
 use borrow.Author.Needs.{needs}
+use Rattle.scripts.specs.Format.{queryOf}
 use Rattle.scripts.proofs.Lines.{step-start, step-extension, step-other}
 use Rattle.scripts.proofs.form.step_fits.Statement.{statement}
 use Rattle.scripts.proofs.form.step_fits.Tie as tie
@@ -17,10 +18,9 @@ returns c =
 
 returns-2 : tie.Need-returns-2
 returns-2 c =
-    let b = c .before .before .before .before in
-    let a = b .args in
-    c .extension-fits .ensures
-    ∙ (rw (b .pre .1 .1 .1) refl ∙ step-extension (now (a .v)) (now (a .s)) (a .i) (a .e) (c .before .match .keys2))
+    let a = c .before .before .before .before .args in
+    c .extension-fits .ensures (queryOf (now (a .s)))
+    ∙ step-extension (now (a .v)) (now (a .s)) (a .i) (a .e) (c .before .match .keys2)
 
 returns-3 : tie.Need-returns-3
 returns-3 c =

@@ -13,43 +13,54 @@ use Rattle.records.specs.Answers.{checked}
 use Rattle.records.proofs.Passed.{require-passed}
 use Rattle.records.proofs.Order.{stops, goes, asked}
 use Rattle.columns.specs.Columns.{columnAt}
-use Rattle.columns.specs.Packed.{listed}
-use Rattle.scripts.specs.Format.{queryOf}
+use Rattle.columns.specs.Packed.{literals}
+use Rattle.scripts.specs.Steps.{Extension}
+use Rattle.scripts.specs.Format.{queryOf, extensionOf}
 use Rattle.scripts.specs.Calculus.{without, frameLimit}
-use Rattle.scripts.specs.Run.{isNil}
+use Rattle.scripts.specs.Run.{isNil, meets, leaves}
 use Rattle.scripts.specs.Codes.{opposed}
-use Rattle.scripts.specs.Numbered.{goalNumber, usedNumbers}
+use Rattle.scripts.specs.Numbered.{noNumber, numbered}
 use Rattle.scripts.proofs.Extending.{read-extends}
-use Rattle.scripts.proofs.Stepping.{not-passed, connect-told, room-told, room-left}
+use Rattle.scripts.proofs.Stepping.{not-passed, room-left}
 use Rattle.scripts.proofs.run.test_extension.Statement.{statement}
 use Rattle.scripts.proofs.run.test_extension.Tie as tie
 
--- the column that is named
-abbrev named : tie.Start → List ℕ
-named c = usedNumbers (now (c .args .v)) (now (c .args .s)) (c .args .e .w1) (c .args .e .w2) (c .args .e .w3) (c .args .e .w4)
+-- Places: the start, after the column was found, after row 21 was tried.
+abbrev start : tie.After-used-column → tie.Start
+start c = c .before .before .before
 
-abbrev row21 : tie.Start → List (List ℕ) → Check
-row21 c frames = require (opposed (getD (named c) (c .args .e .w5) 0) (goalNumber frames)) 21 (c .args .i)
+abbrev found : tie.After-pass-if → tie.After-used-column
+found c = c .before .before .before .before
 
-abbrev row23 : tie.Start → List (List ℕ) → Check
-row23 c frames = require (isNil (without (c .args .e .w5) (named c)) || ltb (length frames) frameLimit) 23 (c .args .i)
+abbrev tried : tie.After-pass-if2 → tie.After-pass-if
+tried c = c .before .before .before .before .before
+
+-- the extension, and its two rows
+abbrev named : tie.Start → Extension ℕ
+named c = extensionOf (c .args .e)
+
+abbrev row21 : tie.Start → Check
+row21 c =
+    let a = c .args in
+    require (opposed (meets (numbered (now (a .v)) (now (a .s))) (named c)) (a .goal)) 21 (a .i)
+
+abbrev row23 : tie.Start → Check
+row23 c =
+    let a = c .args in
+    require (isNil (leaves (numbered (now (a .v)) (now (a .s))) (named c)) || ltb (a .depth) frameLimit) 23 (a .i)
 
 used-column-requires : tie.Need-used-column-requires
-used-column-requires c κs = let p = c .before .before .pre in (p .0, (p .1 .0, (p .1 .1 .0, p .1 .1 .1)))
+used-column-requires c κs = let p = c .before .before .pre in (p .0, p .1)
 
 cast-position : tie.Need-cast-position
 cast-position c = search needs
 
--- the column that was found
-abbrev found : tie.After-used-column → List ℕ
-found c = listed (c .used-column .result .first) (c .used-column .result .second) (c .used-column .result .third)
-
--- it has the position
-placed : (c : tie.After-used-column) → c .before .before .before .args .e .w5 < length (found c)
+-- the column has the position
+placed : (c : tie.After-used-column) → start c .args .e .w5 < length (literals (c .used-column .result))
 placed c =
-    let b = c .before .before .before in
+    let b = start c in
     let e = b .args .e in
-    let x = read-extends _ _ _ (b .pre .0) (b .args .i) (b .pre .1 .0) e (b .pre .1 .1 .0) (b .pre .1 .1 .1) in
+    let x = read-extends _ _ _ _ (b .pre .0) (b .args .i) e (b .pre .1) in
     rw (c .used-column .ensures, length-map (columnAt (now (b .args .v)) (queryOf (now (b .args .s))) (e .w1) (e .w2)) _)
     (x .position)
 
@@ -68,31 +79,31 @@ enum-told c = search needs
 enum-told-2 : tie.Need-enum-told-2
 enum-told-2 c = search needs
 
--- the place before the test of row 21
-abbrev start : tie.After-pass-if → tie.Start
-start c = c .before .before .before .before .before .before .before
+none-requires : tie.Need-none-requires
+none-requires c κs = search needs
 
 -- row 21, from the call that tests it
-connected : (c : tie.After-pass-if) (frames : List (List ℕ)) → start c .args .goal ≡ goalNumber frames
-    → checked (c .pass-if .result) ≡ row21 (start c) frames
-connected c frames g =
-    let u = c .before .before .before .before in
-    let b = start c in
+connected : (c : tie.After-pass-if) → checked (c .pass-if .result) ≡ row21 (start (found c))
+connected c =
+    let a = start (found c) .args in
     asked _ _ _ _ _ (c .pass-if .ensures)
-    (connect-told (found u) (named b) (u .used-column .ensures) (b .args .e .w5) _ _ _ frames (c .before .is-opposed .ensures)
-    (c .before .before .literal-at .ensures) g)
+    (c .before .is-opposed .ensures
+    ∙ ap (λ (x : ℕ). opposed x (a .goal))
+    (c .before .before .literal-at .ensures
+    ∙ ap (λ (l : List ℕ). getD l (a .e .w5) noNumber) (found c .used-column .ensures)))
 
 returns : tie.Need-returns
 returns c =
-    let p = c .before .before in
-    let b = start p in
-    let no = not-passed _ _ _ (c .enum-told2 .given .1) in (
-      λ frames g n. stops _ (row21 b frames) (row23 b frames) _ _ (connected p frames g) (c .enum-told2 .given .1),
-      (λ q. absurd (no q), λ q. absurd (no q)),
-    )
+    let refused = c .before .enum-told2 .given .1 in
+    let no = not-passed _ _ _ refused in
+    record {
+      rows = stops _ _ (row23 (start (found (c .before .before .before)))) _ _ (connected (c .before .before .before)) refused;
+      others = λ q. absurd (no q);
+      room = λ q. absurd (no q);
+    }
 
 leave-out-requires : tie.Need-leave-out-requires
-leave-out-requires c κs = placed (c .before .before .before .before .before .before)
+leave-out-requires c κs = placed (found (c .before .before))
 
 has-room-requires : tie.Need-has-room-requires
 has-room-requires c κs = search needs
@@ -100,35 +111,31 @@ has-room-requires c κs = search needs
 pass-if-requires-2 : tie.Need-pass-if-requires-2
 pass-if-requires-2 c κs = search needs
 
--- the place after the test of row 21
-abbrev opened : tie.After-pass-if2 → tie.After-pass-if
-opened c = c .before .before .before .before .before
+-- the column's other literals
+left : (c : tie.After-pass-if2)
+    → let b = start (found (tried c)) in
+    literals (c .before .before .leave-out .result) ≡ leaves (numbered (now (b .args .v)) (now (b .args .s))) (named b)
+left c =
+    let u = found (tried c) in
+    c .before .before .leave-out .ensures ∙ ap (without (start u .args .e .w5)) (u .used-column .ensures)
 
 -- row 23, from the call that tests it
-roomy : (c : tie.After-pass-if2) (frames : List (List ℕ)) → length frames ≡ start (opened c) .args .depth
-    → checked (c .pass-if2 .result) ≡ row23 (start (opened c)) frames
-roomy c frames n =
-    let u = opened c .before .before .before .before in
-    let b = start (opened c) in
-    let l = c .before .before .leave-out in
+roomy : (c : tie.After-pass-if2) → checked (c .pass-if2 .result) ≡ row23 (start (found (tried c)))
+roomy c =
+    let a = start (found (tried c)) .args in
     asked _ _ _ _ _ (c .pass-if2 .ensures)
-    (room-told (found u) (named b) (u .used-column .ensures) (b .args .e .w5) _ (l .result .first) (l .result .second) frames
-    (b .args .depth) (c .before .has-room .ensures) (l .ensures .0) n)
+    (c .before .has-room .ensures ∙ ap (λ (l : List ℕ). isNil l || ltb (a .depth) frameLimit) (left c))
 
 returns-2 : tie.Need-returns-2
 returns-2 c =
-    let p = opened c in
-    let u = p .before .before .before .before in
-    let b = start p in
-    let l = c .before .before .leave-out in (
-      λ frames g n. goes _ (row21 b frames) (row23 b frames) _ (connected p frames g)
-          (c .before .before .before .enum-told .given .1) (roomy c frames n),
-      (
-        λ q. l .ensures .0 ∙ ap (without (b .args .e .w5)) (u .used-column .ensures),
-        λ q. room-left (l .result .first) (l .result .second) (b .args .depth)
-            (sym (c .before .has-room .ensures) ∙ require-passed _ _ _ (sym (c .pass-if2 .ensures) ∙ q)),
-      ),
-    )
+    let l = c .before .before .leave-out .result in
+    let depth = start (found (tried c)) .args .depth in
+    record {
+      rows = goes _ _ _ _ (connected (tried c)) (c .before .before .before .enum-told .given .1) (roomy c);
+      others = λ q. left c;
+      room = λ q. room-left (l .first) (l .second) (l .third) depth
+          (sym (c .before .has-room .ensures) ∙ require-passed _ _ _ (sym (c .pass-if2 .ensures) ∙ q));
+    }
 
 pub test-extension-spec : {M : Type 1} → statement M
 test-extension-spec =
@@ -141,6 +148,7 @@ test-extension-spec =
     pass-if-requires
     enum-told
     enum-told-2
+    none-requires
     returns
     leave-out-requires
     has-room-requires

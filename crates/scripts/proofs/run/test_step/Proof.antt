@@ -1,25 +1,27 @@
 -- `scripts::run::test_step` meets its contract. Row 25 first; then the kind of the record that was read says which rows are next.
 -- Assumes nothing.
-use Prim.Native.Nat.{ℕ, _*_, _-_, _<_}
+use Prim.Native.Nat.{ℕ, _-_, _<_}
 use native.Mathlib.Omega.{arith}
-use mathlib.Core.Path.{_≡_, refl, ap, _∙_}
+use mathlib.Core.Path.{_≡_, refl, sym, ap, subst, _∙_}
 use mathlib.Core.Bool.{not}
 use mathlib.Core.List.{List}
-use lib.ListN.{getD}
+use lib.ListN.{length}
 use denote.Ref.{now}
 use borrow.Author.Needs.{needs}
 use Rattle.records.specs.Outcome.{require}
 use Rattle.records.specs.Answers.{checked}
 use Rattle.records.proofs.Passed.{require-passed, clash}
 use Rattle.records.proofs.Order.{stops, goes, asked, passed}
-use Rattle.columns.specs.Packed.{listed}
-use Rattle.scripts.specs.Run.{isNil, close, extendBy}
+use Rattle.scripts.specs.Format.{extensionOf}
+use Rattle.scripts.specs.Calculus.{frameLimit}
+use Rattle.scripts.specs.Run.{isNil, Frames, extendBy, goal, stepCheck}
 use Rattle.scripts.specs.Machine.{framesFrom}
-use Rattle.scripts.specs.Numbered.{numberCheck, numberStepped}
+use Rattle.scripts.specs.Numbered.{numbered}
 use Rattle.scripts.specs.declared.entry.Entry.{Entry}
-use Rattle.scripts.proofs.Frames.{frames-length}
-use Rattle.scripts.proofs.Stepping.{check-extending, step-extending, check-reducing, step-reducing, check-neither}
-use Rattle.scripts.proofs.Stepping.{open-positive, not-passed, open-told, goal-told}
+use Rattle.scripts.proofs.Frames.{frames-length, listed-none}
+use Rattle.scripts.proofs.Stepping.{open-positive, not-passed, open-told, goal-told, step-extending, step-reducing}
+use Rattle.scripts.proofs.Stepping.{step-neither, extension-rows, reduction-rows, start-rows, extension-after}
+use Rattle.scripts.proofs.Stepping.{reduction-after}
 use Rattle.scripts.proofs.run.test_step.Statement.{statement}
 use Rattle.scripts.proofs.run.test_step.Tie as tie
 
@@ -27,140 +29,158 @@ use Rattle.scripts.proofs.run.test_step.Tie as tie
 four-five : (a b : ℕ) → a ≡ b → a ≡ 4 → b ≡ 5 → ⊥
 four-five a b e h k = omega arith
 
--- with no literals the goal is closed
-open-nothing : (frames : List (List ℕ)) → extendBy (listed 0 0 0) frames ≡ close frames
-unfolding extendBy
-open-nothing frames = refl
+-- Places: the start, after row 25 was tried, where a frame is open, after the record was read, after the goal was found.
+abbrev start : tie.After-pass-if → tie.Start
+start c = c .before .before .before
 
--- Places: b is the start, o where a frame is open, r after the record was read.
-abbrev frames : tie.Start → List (List ℕ)
-frames c = framesFrom (now (c .args .table)) (now (c .args .goals)) (c .args .depth)
+abbrev tried : tie.After-enum-told → tie.After-pass-if
+tried c = c .before .before
+
+abbrev read : tie.After-goal-at → tie.After-read-entry
+read c = c .before .before
+
+abbrev begun : tie.After-goal-at → tie.Start
+begun c = start (tried (read c .before))
+
+abbrev frames : tie.Start → Frames ℕ
+frames c = framesFrom (now (c .args .table)) (now (c .args .closed)) (c .args .depth)
 
 pass-if-requires : tie.Need-pass-if-requires
 pass-if-requires c κs = search needs
 
 -- row 25
 opened : (c : tie.After-pass-if)
-    → let b = c .before .before .before in checked (c .pass-if .result) ≡ require (not (isNil (frames b))) 25 (b .args .i)
+    → checked (c .pass-if .result) ≡ require (not (isNil (frames (start c)))) 25 (start c .args .i)
 opened c =
-    let a = c .before .before .before .args in
-    asked _ _ _ _ _ (c .pass-if .ensures) (open-told (now (a .table)) (now (a .goals)) (a .depth))
+    let a = start c .args in
+    asked _ _ _ _ _ (c .pass-if .ensures) (open-told (now (a .table)) (now (a .closed)) (a .depth))
 
 enum-told : tie.Need-enum-told
 enum-told c = search needs
 
 -- a frame is open
-positive : (c : tie.After-enum-told) → 0 < c .before .before .before .before .before .args .depth
-positive c =
-    open-positive _ (require-passed _ _ _ (passed _ _ (c .before .before .pass-if .ensures) (c .enum-told .given .1)))
-
--- its goal stands in the table
-placed : (c : tie.After-enum-told)
-    → let a = c .before .before .before .before .before .args in getD (now (a .goals)) (a .depth - 1) 0 < 2 * 2048
-placed c =
-    let b = c .before .before .before .before .before in
-    b .pre .1 .1 .1 .below (b .args .depth - 1) (omega (arith, positive c))
+positive : (c : tie.After-enum-told) → 0 < start (tried c) .args .depth
+positive c = open-positive _ (require-passed _ _ _ (passed _ _ (tried c .pass-if .ensures) (c .enum-told .given .1)))
 
 enum-told-2 : tie.Need-enum-told-2
 enum-told-2 c = search needs
 
+none-requires : tie.Need-none-requires
+none-requires c κs = search needs
+
 returns : tie.Need-returns
-unfolding numberCheck numberStepped
+unfolding stepCheck
 returns c =
-    let no = not-passed _ _ _ (c .enum-told2 .given .1) in (
-      stops _ _ _ _ _ (opened (c .before .before)) (c .enum-told2 .given .1),
-      (λ q. absurd (no q), (λ q. absurd (no q), λ k. refl)),
-    )
+    let refused = c .before .enum-told2 .given .1 in
+    let no = not-passed _ _ _ refused in
+    let l = c .none .result in
+    record {
+      rows = stops _ _ _ _ _ (opened (c .before .before .before)) refused;
+      after = λ q. absurd (no q);
+      room = λ q. absurd (no q);
+      reduced = λ k. listed-none (l .first) (l .second) (l .third) (c .none .ensures);
+    }
 
 read-entry-requires : tie.Need-read-entry-requires
-read-entry-requires c κs = omega (arith, c .before .before .before .before .before .pre .1 .0 .within)
+read-entry-requires c κs = omega (arith, start (tried c) .pre .1 .0 .within)
 
 sub-last : tie.Need-sub-last
 sub-last c = omega (arith, positive (c .before))
 
-mul-last : tie.Need-mul-last
-mul-last c = let o = c .before in omega (arith, positive o, o .before .before .before .before .before .pre .1 .1 .0)
+element-copy-out-goal-at : tie.Need-element-copy-out-goal-at
+element-copy-out-goal-at c = omega (arith, positive (c .before), start (tried (c .before)) .pre .1 .1 .deep)
 
-element-copy-out-last : tie.Need-element-copy-out-last
-element-copy-out-last c = let o = c .before in omega (arith, positive o, o .before .before .before .before .before .pre .1 .1 .0)
+goal-at-requires : tie.Need-goal-at-requires
+goal-at-requires c κs =
+    let o = c .before .before in
+    let b = start (tried o) in
+    (omega (arith, positive o, b .pre .1 .1 .deep), b .pre .1 .1 .goals (b .args .depth - 1) (omega (arith, positive o)))
 
-cast-last : tie.Need-cast-last
-cast-last c = omega (arith, placed (c .before .before))
+-- the goal is that of the frames
+aimed : (c : tie.After-goal-at)
+    → let b = begun c in c .goal-at .result ≡ goal (numbered (now (b .args .v)) (now (b .args .s))) (frames b)
+aimed c =
+    let a = begun c .args in
+    goal-told (now (a .table)) (now (a .closed)) (a .depth) (now (a .v)) (now (a .s)) (a .depth - 1) _
+    (positive (read c .before)) refl (c .goal-at .ensures)
 
-mul-goal : tie.Need-mul-goal
-mul-goal c = omega (arith, placed (c .before .before))
-
-element-copy-out-goal : tie.Need-element-copy-out-goal
-element-copy-out-goal c = omega (arith, placed (c .before .before))
+-- how many frames there are
+many : (b : tie.Start) → b .args .depth ≡ length (frames b)
+many b = sym (frames-length (now (b .args .table)) (now (b .args .closed)) (b .args .depth))
 
 test-extension-requires : tie.Need-test-extension-requires
 test-extension-requires c κs =
-    let r = c .before .before .before in
-    let p = r .before .before .before .before .before .before .pre in
-    (p .0, (p .1 .0, (r .read-entry .ensures, c .match2 .keys1)))
+    let b = begun (c .before) in
+    (b .pre .0, record { step = b .pre .1 .0; read = read (c .before) .read-entry .ensures; kind = c .match2 .keys1 })
 
 can-reduce-requires : tie.Need-can-reduce-requires
-can-reduce-requires c κs =
-    let o = c .before .before .before .before in
-    let p = o .before .before .before .before .before .pre in
-    (positive o, (p .1 .1 .0, p .1 .1 .1))
+can-reduce-requires c κs = begun (c .before) .pre .1 .1
 
 pass-if-requires-2 : tie.Need-pass-if-requires-2
 pass-if-requires-2 c κs = search needs
 
+none-requires-2 : tie.Need-none-requires-2
+none-requires-2 c κs = search needs
+
+none-requires-3 : tie.Need-none-requires-3
+none-requires-3 c κs = search needs
+
 returns-2 : tie.Need-returns-2
-unfolding numberCheck numberStepped
 returns-2 c =
-    let r = c .before .before .before .before in
-    let o = r .before in
-    let b = o .before .before .before .before .before in
+    let g = c .before .before in
+    let o = read g .before in
+    let b = begun g in
     let a = b .args in
-    let e = r .read-entry in
+    let e = read g .read-entry in
     let x = c .test-extension .ensures in
     let k = c .before .match2 .keys1 in
-    let goal = goal-told (now (a .table)) (now (a .goals)) (a .depth) 2048 (b .pre .1 .1 .1) (positive o) in (
-      goes _ _ _ _ (opened (o .before .before)) (o .enum-told .given .1)
-          (x .0 (frames b) goal (frames-length (now (a .table)) (now (a .goals)) (a .depth))
-          ∙ check-extending (now (a .v)) (now (a .s)) (a .i) (e .result) (e .ensures) (frames b) k),
-      (
-        λ q. ap (λ (l : List ℕ). extendBy l (frames b)) (x .1 .0 q)
-            ∙ step-extending (now (a .v)) (now (a .s)) (a .i) (e .result) (e .ensures) (frames b) k,
-        (x .1 .1, λ l. absurd (four-five _ _ (ap (λ (h : Entry). h .w0) (e .ensures)) k l)),
-      ),
-    )
+    let step = step-extending (now (a .s)) (a .i) (e .result) (e .ensures) k in
+    record {
+      rows = goes _ _ _ _ (opened (tried o)) (o .enum-told .given .1) (x .rows)
+          ∙ extension-rows (now (a .v)) (now (a .s)) (a .i) (frames b) (extensionOf (e .result)) step _ _ (aimed g) (many b);
+      after = λ q. ap (λ (l : List ℕ). extendBy l (frames b)) (x .others q)
+          ∙ extension-after (now (a .v)) (now (a .s)) (a .i) (frames b) (extensionOf (e .result)) step;
+      room = λ q h. subst (λ (n : ℕ). n < frameLimit) (many b) (x .room q h);
+      reduced = λ l. absurd (four-five _ _ (ap (λ (h : Entry). h .w0) (e .ensures)) k l);
+    }
 
 returns-3 : tie.Need-returns-3
-unfolding numberCheck numberStepped
 returns-3 c =
-    let r = c .before .before .before .before .before in
-    let o = r .before in
-    let b = o .before .before .before .before .before in
+    let m = c .before .before .before in
+    let g = m .before in
+    let o = read g .before in
+    let b = begun g in
     let a = b .args in
-    let e = r .read-entry in
-    let k = c .before .before .match2 .keys2 in (
-      goes _ _ _ _ (opened (o .before .before)) (o .enum-told .given .1)
-          (asked _ _ _ _ _ (c .pass-if2 .ensures) (c .before .can-reduce .ensures)
-          ∙ check-reducing (now (a .v)) (now (a .s)) (a .i) (e .result) (e .ensures) (frames b) k),
-      (
-        λ q. open-nothing (frames b)
-            ∙ step-reducing (now (a .v)) (now (a .s)) (a .i) (e .result) (e .ensures) (frames b) k,
-        (λ q h. absurd (omega (arith, h)), λ l. refl),
-      ),
-    )
+    let e = read g .read-entry in
+    let step = step-reducing (now (a .s)) (a .i) (e .result) (e .ensures) (m .match2 .keys2) in
+    let l = c .none2 .result in
+    let none = listed-none (l .first) (l .second) (l .third) (c .none2 .ensures) in
+    record {
+      rows = goes _ _ _ _ (opened (tried o)) (o .enum-told .given .1)
+          (asked _ _ _ _ _ (c .before .pass-if2 .ensures) (c .before .before .can-reduce .ensures))
+          ∙ reduction-rows (now (a .v)) (now (a .s)) (a .i) (frames b) (e .result .w1) step _ (aimed g);
+      after = λ q. reduction-after (now (a .v)) (now (a .s)) (a .i) (frames b) (e .result .w1) _ step (c .none2 .ensures);
+      room = λ q h. absurd (omega (arith, h, none));
+      reduced = λ k. none;
+    }
 
 returns-4 : tie.Need-returns-4
-unfolding numberCheck numberStepped
 returns-4 c =
-    let r = c .before .before .before in
-    let o = r .before in
-    let b = o .before .before .before .before .before in
+    let m = c .before in
+    let g = m .before in
+    let o = read g .before in
+    let b = begun g in
     let a = b .args in
-    let e = r .read-entry in (
-      goes _ _ _ _ (opened (o .before .before)) (o .enum-told .given .1)
-          (check-neither (now (a .v)) (now (a .s)) (a .i) (e .result) (e .ensures) (frames b)
-          (c .match2 .rest .0 .1) (c .match2 .rest .1)),
-      (λ q. absurd (clash (cc)), (λ q. absurd (clash (cc)), λ k. refl)),
-    )
+    let e = read g .read-entry in
+    let l = c .none3 .result in
+    let starts = step-neither (now (a .s)) (a .i) (e .result) (e .ensures) (m .match2 .rest .0 .1) (m .match2 .rest .1) in
+    record {
+      rows = goes _ _ _ _ (opened (tried o)) (o .enum-told .given .1) refl
+          ∙ start-rows (now (a .v)) (now (a .s)) (a .i) (frames b) starts;
+      after = λ q. absurd (clash (cc));
+      room = λ q. absurd (clash (cc));
+      reduced = λ k. listed-none (l .first) (l .second) (l .third) (c .none3 .ensures);
+    }
 
 pub test-step-spec : {M : Type 1} → statement M
 test-step-spec =
@@ -169,17 +189,17 @@ test-step-spec =
     pass-if-requires
     enum-told
     enum-told-2
+    none-requires
     returns
     read-entry-requires
     sub-last
-    mul-last
-    element-copy-out-last
-    cast-last
-    mul-goal
-    element-copy-out-goal
+    element-copy-out-goal-at
+    goal-at-requires
     test-extension-requires
     can-reduce-requires
     pass-if-requires-2
+    none-requires-2
+    none-requires-3
     returns-2
     returns-3
     returns-4)

@@ -1,7 +1,7 @@
 -- `types::eliminate::enter_offers` meets its contract. The loop's invariant: `cover` holds what the first `j` listed types
 -- offer.
 -- Assumes nothing.
-use Prim.Native.Nat.{_-_, _^_, _≤_, _<_}
+use Prim.Native.Nat.{_-_, _≤_, _<_}
 use native.Mathlib.Omega.{arith}
 use mathlib.Core.Logic.{⊎-elim}
 use mathlib.Core.Path.{_≡_, subst}
@@ -13,10 +13,10 @@ use Rattle.types.proofs.eliminate.enter_offers.Statement.{statement}
 use Rattle.types.proofs.eliminate.enter_offers.Tie as tie
 
 abbrev Inv-loop : tie.InvT-loop
-Inv-loop offers alive live left bits cover₀ j₀ cover j = (j ≤ left) × Entered offers live alive typeLimit (2 ^ bits) cover j
+Inv-loop offers alive live left size cover₀ j₀ cover j = (j ≤ left) × Entered offers live alive typeLimit size cover j
 
 abbrev μ-loop : tie.MeasureT-loop
-μ-loop offers alive live left bits cover₀ j₀ cover j = left - j
+μ-loop offers alive live left size cover₀ j₀ cover j = left - j
 
 clear-words-requires : tie.Need-clear-words-requires Inv-loop μ-loop
 clear-words-requires c κs = c .before .pre .1 .1

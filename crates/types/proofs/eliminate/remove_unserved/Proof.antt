@@ -1,17 +1,26 @@
 -- `types::eliminate::remove_unserved` meets its contract. The table that the sweeps look at is that of the set as the
 -- round began.
 -- Assumes nothing.
+use native.Mathlib.Omega.{arith}
 use mathlib.Core.Path.{_∙_}
 use denote.Ref.{now}
+use Rattle.types.specs.Compare.{atomLimit}
+use Rattle.types.proofs.Spreading.{power, words-room}
 use Rattle.types.proofs.Rounds.{bits-few, offer-in, covers-done}
 use Rattle.types.proofs.eliminate.remove_unserved.Statement.{statement}
 use Rattle.types.proofs.eliminate.remove_unserved.Tie as tie
+
+shl-enter-offers : tie.Need-shl-enter-offers
+shl-enter-offers c = let few = bits-few (c .before .before .pre .0) in omega arith
 
 enter-offers-requires : tie.Need-enter-offers-requires
 enter-offers-requires c κs =
     let start = c .before .before .before in
     let s = start .pre .0 in
-    (s .listed, (offer-in s (now (start .args .offers)) (start .pre .1 .0), (bits-few s, start .pre .1 .1)))
+    let few = bits-few s in (
+      s .listed,
+      (offer-in s (now (start .args .offers)) (start .pre .1 .0), (words-room _ atomLimit few (omega arith), start .pre .1 .1)),
+    )
 
 spread-words-requires : tie.Need-spread-words-requires
 spread-words-requires c κs =
@@ -23,10 +32,11 @@ sweep-roles-requires c κs =
     let spread = c .before .before in
     let entered = spread .before .before in
     let start = entered .before .before .before .before in
-    let s = start .pre .0 in (
+    let s = start .pre .0 in
+    let few = bits-few s in (
       s,
-      covers-done s (now (start .args .offers)) (start .pre .1 .0) _ _ (entered .enter-offers .ensures .1)
-          (spread .spread-words .ensures),
+      covers-done s (now (start .args .offers)) (start .pre .1 .0) _ _ _ (power (start .args .bits) (omega (arith, few)))
+          (entered .enter-offers .ensures .1) (spread .spread-words .ensures),
     )
 
 returns : tie.Need-returns
@@ -36,4 +46,4 @@ returns c =
 
 pub remove-unserved-spec : {M : Type 1} → statement M
 remove-unserved-spec =
-    tie.close (tie.spec enter-offers-requires spread-words-requires sweep-roles-requires returns)
+    tie.close (tie.spec shl-enter-offers enter-offers-requires spread-words-requires sweep-roles-requires returns)

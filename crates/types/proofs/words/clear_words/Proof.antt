@@ -3,27 +3,23 @@
 use Prim.Native.Nat.{_-_, _<_}
 use native.Mathlib.Omega.{arith}
 use mathlib.Core.Path.{refl}
-use Rattle.types.specs.Compare.{atomLimit, typeLimit}
-use Rattle.types.proofs.Spreading.{power, words-room}
+use Rattle.types.specs.Compare.{typeLimit}
 use Rattle.types.proofs.Turns.{Filled, fill-start, fill-turn}
 use Rattle.types.proofs.words.clear_words.Statement.{statement}
 use Rattle.types.proofs.words.clear_words.Tie as tie
 
 abbrev Inv-loop : tie.InvT-loop
-Inv-loop cover₀ bits size x₀ cover x = Filled 0 typeLimit cover (λ y. 0) x
+Inv-loop cover₀ size x₀ cover x = Filled 0 typeLimit cover (λ y. 0) x
 
 abbrev μ-loop : tie.MeasureT-loop
-μ-loop cover₀ bits size x₀ cover x = size - x
-
-shl-size : tie.Need-shl-size Inv-loop μ-loop
-shl-size c = omega arith
+μ-loop cover₀ size x₀ cover x = size - x
 
 loop-holds : tie.Need-loop-holds Inv-loop μ-loop
 loop-holds c = fill-start _ _ _ _ (c .pre .1)
 
 -- the word is in the table
 inside : (c : tie.In-loop Inv-loop μ-loop) → c .before .loop .x < typeLimit
-inside c = omega (arith, c .loop-test .taken, words-room _ atomLimit (c .before .before .pre .0) (omega arith))
+inside c = omega (arith, c .before .before .pre .0)
 
 mul-cover : tie.Need-mul-cover Inv-loop μ-loop
 mul-cover c = omega (arith, inside c)
@@ -43,7 +39,7 @@ loop-again c = fill-turn 0 typeLimit _ _ _ _ (inside c) (c .before .loop .inv) r
 returns : tie.Need-returns Inv-loop μ-loop
 returns c =
     let l = c .before .loop in
-    (l .inv .size, λ y h. l .inv .right y (omega (arith, c .loop-test .left, power (c .before .before .args .bits) (omega arith))))
+    (l .inv .size, λ y h. l .inv .right y (omega arith))
 
 pub clear-words-spec : {M : Type 1} → statement M
 clear-words-spec =
@@ -51,7 +47,6 @@ clear-words-spec =
     (tie.spec
     Inv-loop
     μ-loop
-    shl-size
     loop-holds
     mul-cover
     element-write-cover

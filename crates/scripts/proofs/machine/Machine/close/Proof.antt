@@ -1,75 +1,72 @@
 -- `scripts::machine::Machine::close` meets its contract: the goal is closed. The loop's invariant: closing the goal of the
--- machine as it came is closing that of its first `at` frames, at most 64, whose goals are placed as they were; the array has
--- 64 entries, as owning it tells.
+-- machine as it came is closing that of its first `at` frames, which stand; the array has an entry for each frame, as owning it
+-- tells.
 -- Assumes nothing.
-use Prim.Native.Nat.{ℕ, _-_, _≤_}
+use Prim.Native.Nat.{_-_, _+_, _<_}
 use native.Mathlib.Omega.{arith}
 use mathlib.Core.Path.{_≡_, refl, sym, _∙_}
-use lib.ListN.{length}
+use lib.ListN.{length, getD}
 use denote.Ref.{now}
-use Rattle.scripts.specs.Machine.{framesOf, framesFrom, Placed}
+use Rattle.scripts.specs.Calculus.{frameLimit}
 use Rattle.scripts.specs.Run.{close}
-use Rattle.scripts.proofs.Frames.{entries-length, close-none, close-one, close-two}
-use Rattle.scripts.proofs.Frames.{placed-next, placed-none, placed-part}
+use Rattle.scripts.specs.Machine.{framesOf, framesFrom, Standing}
+use Rattle.scripts.proofs.Frames.{entries-length, goal-few, close-none, close-last, close-next}
+use Rattle.scripts.proofs.Frames.{stands-next, stands-none, stands-part}
 use Rattle.scripts.proofs.machine.Machine.close.Statement.{statement}
 use Rattle.scripts.proofs.machine.Machine.close.Tie as tie
 
 abbrev Inv-loop : tie.InvT-loop
 Inv-loop table self₀ at₀ self at =
-    (close (framesOf table self₀) ≡ close (framesFrom table (self .goals) at))
-    × ((k : ℕ) → Placed table k (self₀ .goals) (self₀ .depth) → Placed table k (self .goals) at)
-    × (at ≤ 64)
-    × (length (self .goals) ≡ 64)
+    (close (framesOf table self₀) ≡ close (framesFrom table (self .closed) at))
+    × Standing table (self .closed) at
+    × (length (self .closed) ≡ frameLimit)
 
 abbrev μ-loop : tie.MeasureT-loop
 μ-loop table self₀ at₀ self at = at
 
 loop-holds : tie.Need-loop-holds Inv-loop μ-loop
-loop-holds c = (
-  refl,
-  λ k p. p,
-  c .pre .0,
-  entries-length (c .args .t1 .goals) _ (c .good .0 .1 .1 .1 .0 .1 .0 .1),
-)
+loop-holds c = (refl, c .pre, entries-length (c .args .t1 .closed) _ (c .good .0 .1 .1 .1 .0 .1 .0 .1))
 
-sub-place : tie.Need-sub-place Inv-loop μ-loop
-sub-place c = omega arith
+sub-closed : tie.Need-sub-closed Inv-loop μ-loop
+sub-closed c = omega arith
 
-mul-place : tie.Need-mul-place Inv-loop μ-loop
-mul-place c = omega arith
+-- Places: l is the loop's state, of whose frames n is the last; t is the table.
+element-copy-out-closed : tie.Need-element-copy-out-closed Inv-loop μ-loop
+element-copy-out-closed c = let l = c .before .loop in omega (arith, l .inv .1 .deep, l .inv .2)
 
-element-copy-out-place : tie.Need-element-copy-out-place Inv-loop μ-loop
-element-copy-out-place c = omega arith
+sub-has-next : tie.Need-sub-has-next Inv-loop μ-loop
+sub-has-next c = omega arith
 
 has-next-requires : tie.Need-has-next-requires Inv-loop μ-loop
 has-next-requires c κs =
-    let w = c .before .before .loop in
-    omega (arith, w .inv .1 2048 (c .before .before .before .pre .1) .below (w .at - 1) (omega arith))
+    let l = c .before .before .loop in
+    (omega (arith, l .inv .1 .deep), l .inv .1 .goals (l .at - 1) (omega arith))
 
 add-self : tie.Need-add-self Inv-loop μ-loop
 add-self c =
-    let w = c .before .before .before .before .loop in
-    omega (arith, w .inv .1 2048 (c .before .before .before .before .before .pre .1) .below (w .at - 1) (omega arith))
+    let l = c .before .before .before .before .loop in
+    let t = now (c .before .before .before .before .before .args .table) in
+    let n = l .at - 1 in
+    omega (arith, goal-few t n (getD (l .self .closed) n 0) (l .inv .1 .goals n (omega arith)))
 
 sub-self : tie.Need-sub-self Inv-loop μ-loop
 sub-self c = omega arith
 
-mul-self : tie.Need-mul-self Inv-loop μ-loop
-mul-self c = omega arith
-
 element-write-self : tie.Need-element-write-self Inv-loop μ-loop
-element-write-self c = omega arith
+element-write-self c = let l = c .before .before .before .before .loop in omega (arith, l .inv .1 .deep, l .inv .2)
 
 returns : tie.Need-returns Inv-loop μ-loop
 returns c =
-    let w = c .before .before .before .before .loop in
+    let l = c .before .before .before .before .loop in
     let t = now (c .before .before .before .before .before .args .table) in
-    let n = w .at - 1 in
+    let n = l .at - 1 in
+    let k = getD (l .self .closed) n 0 + 1 in
     let more = sym (c .before .has-next .ensures) ∙ c .if1 .taken in
-    let there = w .inv .1 2048 (c .before .before .before .before .before .pre .1) .there n (omega arith) in (
-      close-two t (w .self .goals) n (w .at) (omega arith) (omega arith) more there ∙ sym (w .inv .0),
-      (λ k p. placed-next t (w .self .goals) n (w .at) (omega arith) k (omega arith) more (w .inv .1 k p), omega arith),
-    )
+    let room : n < length (l .self .closed) = omega (arith, l .inv .1 .deep, l .inv .2) in
+    record {
+      standing = stands-next t (l .self .closed) n (l .at) (omega arith) k (omega arith) room more (l .inv .1);
+      shown = close-next t (l .self .closed) n (l .at) (omega arith) k (omega arith) room more ∙ sym (l .inv .0);
+    }
 
 sub-at : tie.Need-sub-at Inv-loop μ-loop
 sub-at c = omega arith
@@ -79,23 +76,23 @@ loop-less c = omega arith
 
 loop-again : tie.Need-loop-again Inv-loop μ-loop
 loop-again c =
-    let w = c .before .before .before .before .loop in
+    let l = c .before .before .before .before .loop in
     let t = now (c .before .before .before .before .before .args .table) in
-    let n = w .at - 1 in
+    let n = l .at - 1 in
     let more = sym (c .before .has-next .ensures) ∙ c .if1 .left in (
-      w .inv .0 ∙ close-one t (w .self .goals) n (w .at) (omega arith) more,
-      λ k p. placed-part t (w .self .goals) n (w .at) k (omega arith) (w .inv .1 k p),
-      omega arith,
-      w .inv .3,
+      l .inv .0 ∙ close-last t (l .self .closed) n (l .at) (omega arith) more,
+      stands-part t (l .self .closed) n (l .at) (omega arith) (l .inv .1),
+      l .inv .2,
     )
 
 returns-2 : tie.Need-returns-2 Inv-loop μ-loop
 returns-2 c =
-    let w = c .before .loop in
-    let t = now (c .before .before .args .table) in (
-      close-none t (w .self .goals) (w .at) (omega arith) ∙ sym (w .inv .0),
-      (λ k p. placed-none t k (w .self .goals), omega arith),
-    )
+    let l = c .before .loop in
+    let t = now (c .before .before .args .table) in
+    record {
+      standing = stands-none t (l .self .closed) (l .inv .1 .size);
+      shown = close-none t (l .self .closed) (l .at) (omega arith) ∙ sym (l .inv .0);
+    }
 
 pub close-spec : {M : Type 1} → statement M
 close-spec =
@@ -104,13 +101,12 @@ close-spec =
     Inv-loop
     μ-loop
     loop-holds
-    sub-place
-    mul-place
-    element-copy-out-place
+    sub-closed
+    element-copy-out-closed
+    sub-has-next
     has-next-requires
     add-self
     sub-self
-    mul-self
     element-write-self
     returns
     sub-at

@@ -1,16 +1,42 @@
--- `scripts::machine::Machine::open_frame` meets its contract: the frame at a place is open above those that were. That the
--- array has 64 entries is what owning the machine tells.
+-- `scripts::machine::Machine::open_frame` meets its contract: the column's literals stand above those of the frames that are
+-- open. That the array has an entry for each frame is what owning the machine tells.
 -- Assumes nothing.
 use native.Mathlib.Omega.{arith}
 use mathlib.Core.Path.{_≡_}
 use lib.ListN.{length}
+use denote.Ref.{now}
 use borrow.Author.Needs.{needs}
-use Rattle.scripts.proofs.Frames.{entries-length, frames-open, placed-push}
+use Rattle.scripts.specs.Calculus.{frameLimit}
+use Rattle.scripts.proofs.Frames.{entries-length, listed-some, frames-push, stands-push}
 use Rattle.scripts.proofs.machine.Machine.open_frame.Statement.{statement}
 use Rattle.scripts.proofs.machine.Machine.open_frame.Tie as tie
 
-mul-self : tie.Need-mul-self
-mul-self c = search needs
+mul-place : tie.Need-mul-place
+mul-place c = search needs
+
+mul-table : tie.Need-mul-table
+mul-table c = search needs
+
+element-write-table : tie.Need-element-write-table
+element-write-table c = search needs
+
+add-table : tie.Need-add-table
+add-table c = search needs
+
+mul-table-2 : tie.Need-mul-table-2
+mul-table-2 c = search needs
+
+element-write-table-2 : tie.Need-element-write-table-2
+element-write-table-2 c = search needs
+
+add-table-2 : tie.Need-add-table-2
+add-table-2 c = search needs
+
+mul-table-3 : tie.Need-mul-table-3
+mul-table-3 c = search needs
+
+element-write-table-3 : tie.Need-element-write-table-3
+element-write-table-3 c = search needs
 
 element-write-self : tie.Need-element-write-self
 element-write-self c = search needs
@@ -21,11 +47,31 @@ add-self c = search needs
 returns : tie.Need-returns
 returns c =
     let m = c .args .t1 in
-    let p = c .args .place in
-    let g : length (m .goals) ≡ 64 = entries-length (m .goals) _ (c .good .0 .1 .1 .1 .0 .1 .0 .1) in (
-      λ table h even. frames-open table (m .goals) p (m .depth) _ (omega arith) (omega arith) even,
-      (λ table k h l old. placed-push table (m .goals) p (m .depth) _ k (omega arith) (omega arith) h l old, omega arith),
-    )
+    let l = c .args .column in
+    let t = now (c .args .table) in
+    let s = c .pre .0 in
+    let deep = c .pre .1 .0 in
+    let size : length (m .closed) ≡ frameLimit = entries-length (m .closed) _ (c .good .0 .1 .1 .1 .0 .1 .0 .1) in
+    let some = listed-some (l .first) (l .second) (l .third) (c .pre .1 .1) in
+    record {
+      standing = stands-push t (m .depth) (l .first) (l .second) (l .third) (m .closed) 0 _ (omega arith) deep (omega arith) some s;
+      shown = frames-push t (m .depth) (l .first) (l .second) (l .third) (m .closed) 0 _ (omega arith) (omega arith)
+          (omega (arith, s .size));
+    }
 
 pub open-frame-spec : {M : Type 1} → statement M
-open-frame-spec = tie.close (tie.spec mul-self element-write-self add-self returns)
+open-frame-spec =
+    tie.close
+    (tie.spec
+    mul-place
+    mul-table
+    element-write-table
+    add-table
+    mul-table-2
+    element-write-table-2
+    add-table-2
+    mul-table-3
+    element-write-table-3
+    element-write-self
+    add-self
+    returns)

@@ -1,0 +1,95 @@
+-- `columns::owner::column_shape` meets its contract. Owner 0 is the query; a record that is past the end, or states nothing, has
+-- no column; of another the kind decides.
+-- Assumes nothing.
+use native.Mathlib.Omega.{arith}
+use mathlib.Core.Path.{_≡_, refl, sym, ap, _∙_}
+use lib.ListN.{length, getD}
+use mathlib.Core.List.{[]}
+use denote.Ref.{now}
+use borrow.Author.Needs.{needs}
+use borrow.Author.Tests.{not-true, not-false}
+use Rattle.records.specs.Kinds.{constructOf}
+use Rattle.records.specs.declared.fields.Record.{Record}
+use Rattle.records.proofs.Accepted.{Accepted, accepted-vocabulary}
+use Rattle.columns.specs.Columns.{columnsOf, states, takesY}
+use Rattle.columns.proofs.Owners.{columns-record, columns-silent, columns-past, query-shape, none-shape, record-shape}
+use Rattle.columns.proofs.owner.column_shape.Statement.{statement}
+use Rattle.columns.proofs.owner.column_shape.Tie as tie
+
+good : (c : tie.Start) → Accepted (now (c .args .v))
+good c = accepted-vocabulary _ _ (c .pre .vocabulary)
+
+size-at-requires : tie.Need-size-at-requires
+size-at-requires c κs = search needs
+
+returns : tie.Need-returns
+returns c =
+    let a = c .before .before .before .args in
+    λ q. rw (c .before .if1 .taken) (query-shape (now (a .v)) q (a .n) _ (c .size-at .ensures) refl)
+
+returns-2 : tie.Need-returns-2
+returns-2 c =
+    let e = c .before in
+    let b = e .before .before in
+    let a = b .args in
+    λ q. none-shape (now (a .v)) q (a .n) _ (a .owner)
+    (columns-past (now (a .v)) q (good b) (a .owner) (e .if1 .left) (c .if2 .taken)) refl refl
+
+read-at-requires : tie.Need-read-at-requires
+read-at-requires c κs = search needs
+
+element-copy-out-has-columns : tie.Need-element-copy-out-has-columns
+element-copy-out-has-columns c = omega (arith, good (c .before .before .before .before) .sized .most)
+
+has-columns-requires : tie.Need-has-columns-requires
+has-columns-requires c κs = search needs
+
+-- whether the record states something
+stated : (c : tie.After-has-columns)
+    → let a = c .before .before .before .before .before .before .args in c .has-columns .result ≡ states (now (a .v)) (a .owner)
+stated c =
+    let b = c .before .before .before .before .before .before in
+    let a = b .args in
+    c .has-columns .ensures (now (a .v)) (a .owner) (c .before .before .read-at .ensures) (b .pre .marked (a .owner))
+
+returns-3 : tie.Need-returns-3
+returns-3 c =
+    let h = c .before in
+    let e = h .before .before .before .before in
+    let a = e .before .before .args in
+    λ q. none-shape (now (a .v)) q (a .n) _ (a .owner)
+    (columns-silent (now (a .v)) q (a .owner) (e .if1 .left) (sym (stated h) ∙ not-true _ (c .if3 .taken))) refl refl
+
+group-size-requires : tie.Need-group-size-requires
+group-size-requires c κs = search needs
+
+group-takes-y-requires : tie.Need-group-takes-y-requires
+group-takes-y-requires c κs = search needs
+
+returns-4 : tie.Need-returns-4
+returns-4 c =
+    let h = c .before .before .before in
+    let e = h .before .before .before .before in
+    let a = e .before .before .args in
+    let read = h .before .before .read-at .ensures in
+    λ q. record-shape (now (a .v)) q (a .n) _ (a .owner)
+    (columns-record (now (a .v)) q (a .owner) (e .if1 .left) (sym (stated h) ∙ not-false _ (c .before .before .if3 .left)))
+    (c .before .group-size .ensures (a .owner)
+    ∙ ap (λ (r : Record). length (getD (columnsOf (a .owner) (constructOf r)) (a .n) [])) read)
+    (c .group-takes-y .ensures (a .owner)
+    ∙ ap (λ (r : Record). takesY (getD (columnsOf (a .owner) (constructOf r)) (a .n) [])) read)
+
+pub column-shape-spec : {M : Type 1} → statement M
+column-shape-spec =
+    tie.close
+    (tie.spec
+    size-at-requires
+    returns
+    returns-2
+    read-at-requires
+    element-copy-out-has-columns
+    has-columns-requires
+    returns-3
+    group-size-requires
+    group-takes-y-requires
+    returns-4)

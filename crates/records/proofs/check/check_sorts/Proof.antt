@@ -1,0 +1,63 @@
+-- `records::check::check_sorts` meets its contract. Where not all three fields fit, the smallest row is the first that applies.
+-- Assumes nothing.
+use denote.Ref.{now}
+use borrow.Author.Needs.{needs}
+use Rattle.records.proofs.Rows.{rows-fit, rows-unfit}
+use Rattle.records.proofs.check.check_sorts.Statement.{statement}
+use Rattle.records.proofs.check.check_sorts.Tie as tie
+
+field-fits-requires : tie.Need-field-fits-requires
+field-fits-requires c κs = search needs
+
+field-fits-requires-2 : tie.Need-field-fits-requires-2
+field-fits-requires-2 c κs = search needs
+
+field-fits-requires-3 : tie.Need-field-fits-requires-3
+field-fits-requires-3 c κs = search needs
+
+all-fit-requires : tie.Need-all-fit-requires
+all-fit-requires c κs = search needs
+
+returns : tie.Need-returns
+returns c =
+    let all = c .before in
+    let next = all .before in
+    let b = next .before in
+    let a = b .before in
+    let args = a .before .before .args in
+    rows-fit (now (args .v)) (args .i) (args .sorts) (args .fields) _ _ _ (a .field-fits .ensures) (b .field-fits2 .ensures)
+    (next .field-fits3 .ensures)
+    _
+    (all .all-fit .ensures)
+    (c .if1 .taken)
+
+first-fault-requires : tie.Need-first-fault-requires
+first-fault-requires c κs = search needs
+
+returns-2 : tie.Need-returns-2
+returns-2 c =
+    let test = c .before in
+    let all = test .before in
+    let next = all .before in
+    let b = next .before in
+    let a = b .before in
+    let args = a .before .before .args in
+    rows-unfit (now (args .v)) (args .i) (args .sorts) (args .fields) _ _ _ (a .field-fits .ensures) (b .field-fits2 .ensures)
+    (next .field-fits3 .ensures)
+    _
+    _
+    (all .all-fit .ensures)
+    (test .if1 .left)
+    (c .first-fault .ensures)
+
+pub check-sorts-spec : {M : Type 1} → statement M
+check-sorts-spec =
+    tie.close
+    (tie.spec
+    field-fits-requires
+    field-fits-requires-2
+    field-fits-requires-3
+    all-fit-requires
+    returns
+    first-fault-requires
+    returns-2)

@@ -1,0 +1,59 @@
+-- `records::check::field_fits` meets its contract. What the field holds selects its test.
+-- Assumes nothing.
+use mathlib.Core.Path.{_∙_}
+use borrow.Author.Needs.{needs}
+use Rattle.records.proofs.check.field_fits.Statement.{statement}
+use Rattle.records.proofs.check.field_fits.Tie as tie
+
+enum-told : tie.Need-enum-told
+enum-told c = search needs
+
+enum-told-2 : tie.Need-enum-told-2
+enum-told-2 c = search needs
+
+term-fits-requires : tie.Need-term-fits-requires
+term-fits-requires c κs = search needs
+
+enum-told-3 : tie.Need-enum-told-3
+enum-told-3 c = search needs
+
+enum-told-4 : tie.Need-enum-told-4
+enum-told-4 c = search needs
+
+is-labelled-requires : tie.Need-is-labelled-requires
+is-labelled-requires c κs = search needs
+
+enum-told-5 : tie.Need-enum-told-5
+enum-told-5 c = search needs
+
+returns : tie.Need-returns
+returns c = rw (c .enum-told .given .1)
+
+returns-2 : tie.Need-returns-2
+returns-2 c = c .term-fits .ensures ∙ rw (c .before .enum-told2 .given .1)
+
+returns-3 : tie.Need-returns-3
+returns-3 c = rw (c .before .before .before .pre .1, c .enum-told3 .given .1)
+
+returns-4 : tie.Need-returns-4
+returns-4 c = rw (c .is-labelled .ensures, c .before .enum-told4 .given .1)
+
+returns-5 : tie.Need-returns-5
+returns-5 c = rw (c .enum-told5 .given .1)
+
+pub field-fits-spec : {M : Type 1} → statement M
+field-fits-spec =
+    tie.close
+    (tie.spec
+    enum-told
+    enum-told-2
+    term-fits-requires
+    enum-told-3
+    enum-told-4
+    is-labelled-requires
+    enum-told-5
+    returns
+    returns-2
+    returns-3
+    returns-4
+    returns-5)
