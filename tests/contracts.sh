@@ -13,13 +13,17 @@ trap 'rm -f -- "$told"' EXIT
 # UTF-8, so that characters and not bytes are counted.
 LC_ALL=C.UTF-8 grep -HnE '^.{131,}' "$@" | sed 's/:\([0-9]*\):.*/:\1: over 130 characters/' >> "$told" || :
 
-# The limits of docs/FORMATS.md. An exponent is no limit: 2 ^ 64 is a width.
-grep -HnE '^ *(requires|ensures) ' "$@" | sed 's/\^ [0-9]*//g' |
-    sed -nE 's/^([^:]*:[0-9]*):.*[^0-9](12|64|512|2048|4096|32768)[^0-9].*/\1: the number \2 in a contract, where a name says it/p' \
-    >> "$told"
-
 awk '
 function tell(what) { printf "%s:%d: %s: %s\n", FILENAME, at, name, what }
+# The limits of docs/FORMATS.md, by number. An exponent is no limit: 2 ^ 64 is a width.
+/^ *(requires|ensures) / { contract = 1 }
+contract {
+    line = $0
+    gsub(/\^ [0-9]+/, "", line)
+    if (match(line, /[^0-9](12|64|512|2048|4096|32768)[^0-9]/))
+        printf "%s:%d: the number %s in a contract, where a name says it\n", FILENAME, FNR, substr(line, RSTART + 1, RLENGTH - 2)
+}
+/⌝ }/ { contract = 0 }
 /^ *(pub )?(extern "C" )?fn / {
     at = FNR; name = $0
     sub(/.*fn /, "", name); sub(/\(.*/, "", name)

@@ -66,7 +66,9 @@ fn pack_verdict(differs: bool, element: usize, survivors: usize, rounds: usize) 
 #[no_mangle]
 pub extern "C" fn judge_compare(vocabulary: &[u8], a: u32, b: u32, buffer: &mut [u8]) -> u64
     ensures { λ r. ⌜ r ≡ packedVerdict (comparison (now (vocabulary .entry)) a b (length (now (buffer .entry)))) ⌝ }
-    ensures { λ _. ⌜ now (buffer .exit) ≡ written (comparison (now (vocabulary .entry)) a b (length (now (buffer .entry)))) (now (vocabulary .entry)) (now (buffer .entry)) ⌝ }
+    ensures { λ _. ⌜ now (buffer .exit)
+        ≡ written (comparison (now (vocabulary .entry)) a b (length (now (buffer .entry))))
+        (now (vocabulary .entry)) (now (buffer .entry)) ⌝ }
 {
     let answer = types::compare(vocabulary, a, b, buffer);
     match answer {
