@@ -14,7 +14,7 @@ use mathlib.Core.Path.{_≡_, refl, sym, ap, subst}
 use mathlib.Core.Bool.{Bool, true, Bool·beq}
 use mathlib.Core.List.{List}
 use lib.ListN.{getD, take, drop-of-length-le}
-use Rattle.records.specs.Format.{recordAt, count, roleCount}
+use Rattle.records.specs.Format.{recordSize, recordAt, count, roleCount}
 use Rattle.records.specs.Kinds.{Construct, none, inclusion, constructOf, areAtoms, areRestrictions, areStatements, Class, Kind, noKind, kindOf}
 use Rattle.records.specs.Kinds.{kinds, isAtom, isRestriction, isStatement}
 use Rattle.records.specs.declared.fields.Record.{Record}
@@ -27,7 +27,7 @@ pub use Rattle.records.proofs.Accepted.{RoleBelow}
 pub record-past : (v : List ℕ) (i : ℕ) → Sized v → count v ≤ i → recordAt v i .kind ≡ 0
 unfolding recordAt
 record-past v i s h =
-    ap (λ (l : List ℕ). getD (take 8 l) 0 0) (drop-of-length-le v {i = 8 * i} (omega (arith, s .whole)))
+    ap (λ (l : List ℕ). getD (take recordSize l) 0 0) (drop-of-length-le v {i = recordSize * i} (omega (arith, s .whole)))
 
 -- The operands of what record i says are records before it.
 abbrev pub Earlier : ℕ → Construct → Type 0
