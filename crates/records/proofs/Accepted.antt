@@ -50,7 +50,7 @@ all-map P Q f [] t = tt
 all-map P Q f (x ∷ xs) t = (f x (t .0), all-map P Q f xs (t .1))
 
 -- the same where the entry past the end is known
-all-default : {A : Type 0} (P : A → Type 0) (l : List A) (d : A) → P d → All P l → (k : ℕ) → P (getD l k d)
+pub all-default : {A : Type 0} (P : A → Type 0) (l : List A) (d : A) → P d → All P l → (k : ℕ) → P (getD l k d)
 all-default P [] d p t k = p
 all-default P (x ∷ xs) d p t zero = t .0
 all-default P (x ∷ xs) d p t (suc k) = all-default P xs d p (t .1) k

@@ -10,14 +10,15 @@ use Prim.Native.Nat.{ℕ, zero, suc, _+_, _≤_, _<_}
 use native.Mathlib.Omega.{arith}
 use native.Mathlib.Decide.{decLt}
 use mathlib.Core.Path.{_≡_, refl, sym, ap, subst}
-use mathlib.Core.Bool.{Bool, true, false, not, _&&_, _||_}
+use mathlib.Core.Bool.{Bool, true, false, not, _&&_, _||_, and-false}
 use lib.ListN.{List·getD-eq-default}
-use lib.Dec.{eqb}
+use lib.Dec.{leb, eqb}
+use borrow.Author.Tests.{ne-eqb, lt-leb}
 use Rattle.records.specs.Kinds.{kindOf, constructOf, isAtom}
 use Rattle.records.specs.declared.fields.Record.{Record}
-use Rattle.records.proofs.Ranges.{between}
+use Rattle.records.proofs.Ranges.{between, atom-range}
 use Rattle.records.proofs.Passed.{clash}
-use Rattle.records.proofs.Constructs.{Earlier, kind-past}
+use Rattle.records.proofs.Constructs.{Earlier, says-past}
 use Rattle.types.specs.Below.{bit}
 use Rattle.types.specs.Meaning.{connect}
 use Rattle.types.specs.Rules.{Shape, shape, shapes, shapeOf, ruleOf, firstOf, secondOf, select}
@@ -178,7 +179,7 @@ rule-connects r n z f = at (decLt (r .kind) 10)
             ),
           ),
         ) (r .kind) (omega arith) h
-    at (no m) = rw (shape-past (r .kind) (omega arith), kind-past (r .kind) (omega arith)) (select-never (f n) (f 0) z)
+    at (no m) = rw (shape-past (r .kind) (omega arith), says-past (r .kind) (omega arith) r) (select-never (f n) (f 0) z)
 
 pub operands-earlier : (r : Record) (i n : ℕ) → n ≤ i → Earlier i (constructOf r)
     → (firstOf (r .kind) (r .a) n ≤ i) × (secondOf (r .kind) (r .b) ≤ i)
@@ -230,4 +231,6 @@ rule-atom k = at (decLt k 10)
     at : Dec (k < 10) → Same k
     at (yes h) =
         between Same 10 0 (refl, (refl, (refl, (refl, (refl, (refl, (refl, (refl, (refl, (refl, tt)))))))))) k (omega arith) h
-    at (no n) = rw (shape-past k (omega arith), kind-past k (omega arith))
+    at (no n) =
+        rw (shape-past k (omega arith), atom-range k, ne-eqb k 3 (λ e. n (omega arith)), lt-leb k 8 (omega arith))
+        (sym (and-false (leb 7 k)))
