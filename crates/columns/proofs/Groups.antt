@@ -16,10 +16,10 @@ use lib.ListN.{length, getD, List·getD-eq-default, List·getD-map}
 use lib.Dec.{eqb}
 use borrow.Author.Tests.{ne-eqb}
 use Rattle.records.specs.Kinds.{Construct, negation}
-use Rattle.records.specs.Kinds.{inclusion, Kind, kindOf}
+use Rattle.records.specs.Kinds.{inclusion, kindOf}
 use Rattle.records.specs.declared.fields.Record.{Record}
 use Rattle.records.proofs.Ranges.{between}
-use Rattle.records.proofs.Constructs.{kind-past}
+use Rattle.records.proofs.Constructs.{says-past}
 use Rattle.columns.specs.Literals.{concept}
 use Rattle.columns.specs.Columns.{Column, columnsOf, takesY}
 use Rattle.columns.specs.Packed.{packed, packedAt, constantGroup, junctionGroup, restrictionGroup}
@@ -59,7 +59,7 @@ module _ (r : Record) (i : ℕ) where
   group-name = between (λ k. columnsOf i (saying r k) ≡ []) 1 3 (refl, tt)
 
   pub group-high : (k : ℕ) → 10 ≤ k → columnsOf i (saying r k) ≡ []
-  group-high k h = ap (λ (x : Kind). columnsOf i (x .says r)) (kind-past k h)
+  group-high k h = ap (columnsOf i) (says-past k h r)
 
 module _ (cs : List Column) (nx ny nf n : ℕ) where
   pub past-at : length cs ≤ n → [] ≡ packedAt nx ny nf (getD cs n [])

@@ -17,7 +17,7 @@ use mathlib.Core.Logic.{inl, inr}
 use lib.Dec.{ltb, leb, eqb}
 use borrow.Author.Tests.{ltb-true, leb-true, eqb-true, eq-eqb, not-true}
 use Rattle.records.specs.Outcome.{accepted, pass, _then_, inTurn}
-use Rattle.records.specs.Format.{recordAt, count, firstStatement, roleCount}
+use Rattle.records.specs.Format.{roleLimit, recordAt, count, firstStatement, roleCount}
 use Rattle.records.specs.Kinds.{Construct, none, top, bottom, name, negation, conjunction, disjunction, existential}
 use Rattle.records.specs.Kinds.{universal, inclusion, constructOf, holds, negationFields, restrictionFields}
 use Rattle.records.specs.Kinds.{Class, Silent, Connective, Name, Restriction, Statement, Kind, noKind, kinds, kindOf}
@@ -50,7 +50,7 @@ all-map P Q f [] t = tt
 all-map P Q f (x ∷ xs) t = (f x (t .0), all-map P Q f xs (t .1))
 
 -- the same where the entry past the end is known
-all-default : {A : Type 0} (P : A → Type 0) (l : List A) (d : A) → P d → All P l → (k : ℕ) → P (getD l k d)
+pub all-default : {A : Type 0} (P : A → Type 0) (l : List A) (d : A) → P d → All P l → (k : ℕ) → P (getD l k d)
 all-default P [] d p t k = p
 all-default P (x ∷ xs) d p t zero = t .0
 all-default P (x ∷ xs) d p t (suc k) = all-default P xs d p (t .1) k
@@ -124,7 +124,7 @@ Formed v i c = RoleBelow (roleCount v) c × Over (Operand v i) c
 pub record Accepted (v : List ℕ) : Type 0 where
   pub sized : Sized v
   pub header : recordAt v 0 .kind ≡ 16
-  pub roles : roleCount v ≤ 64
+  pub roles : roleCount v ≤ roleLimit
   pub fields : (i : ℕ) → 0 < i → i < count v → Fields v i (sortsOf (recordAt v i .kind)) (recordAt v i)
   pub labels : (i j : ℕ) → j < i → i < count v
       → recordAt v i .kind ≡ 3 → recordAt v j .kind ≡ 3 → recordAt v i .a ≡ recordAt v j .a → ⊥
@@ -227,15 +227,15 @@ well-formed-vocabulary v e =
     let l = then-passed (headCheck v) links tt (c .1) in
     let r = recordAt v 0 in
     let fit : headerFits r ≡ true = require-passed (headerFits r) 2 0 (b .0) in
-    let after = both-right (eqb (r .kind) 16) (eqb (r .second) 1 && (leb (r .b) 64 && eqb (r .next) 0)) fit in
-    let roles = both-right (eqb (r .second) 1) (leb (r .b) 64 && eqb (r .next) 0) after in
+    let after = both-right (eqb (r .kind) 16) (eqb (r .second) 1 && (leb (r .b) roleLimit && eqb (r .next) 0)) fit in
+    let roles = both-right (eqb (r .second) 1) (leb (r .b) roleLimit && eqb (r .next) 0) after in
     let sized = length-passed v (a .0) in
     let passed : (i : ℕ) → 0 < i → i < count v → recordCheck v i ≡ pass
     = λ i p h. turn-at (recordCheck v) (count v - 1) 1 (c .0) i p (omega arith) in
     record {
       sized = sized;
-      header = eqb-true (r .kind) 16 (both-left (eqb (r .kind) 16) (eqb (r .second) 1 && (leb (r .b) 64 && eqb (r .next) 0)) fit);
-      roles = leb-true (r .b) 64 (both-left (leb (r .b) 64) (eqb (r .next) 0) roles);
+      header = eqb-true (r .kind) 16 (both-left (eqb (r .kind) 16) (eqb (r .second) 1 && (leb (r .b) roleLimit && eqb (r .next) 0)) fit);
+      roles = leb-true (r .b) roleLimit (both-left (leb (r .b) roleLimit) (eqb (r .next) 0) roles);
       fields = λ i p h. record-held v i (passed i p h);
       labels = λ i j p h q k same.
           let clear = record-unlabelled v i (record-held v i (passed i (omega arith) h)) q in

@@ -16,7 +16,7 @@ use lib.ListN.{length}
 use lib.Dec.{ltb}
 use borrow.Author.Tests.{ltb-true}
 use Rattle.records.specs.Outcome.{Outcome, Check, accepted, refused, pass, _then_, require, inTurn}
-use Rattle.records.specs.Format.{count, recordAt, firstStatement}
+use Rattle.records.specs.Format.{recordSize, recordLimit, count, recordAt, firstStatement}
 use Rattle.records.specs.Kinds.{sortsOf}
 use Rattle.records.specs.Check.{lengthFits, lengthCheck, headerFits, headerCheck, kindFits, kindCheck, rowCheck}
 use Rattle.records.specs.Check.{rowFits, recordCheck, linkFits, headCheck, nextFits, linkCheck, linksCheck}
@@ -85,38 +85,38 @@ vocabulary-count v n e =
     let d : accepted (count v) ≡ accepted n = then-passed (recordsCheck v) _ n e .1 in
     cc
 
-pub records-near : (v : List ℕ) → Nearby 512 (recordsCheck v)
+pub records-near : (v : List ℕ) → Nearby recordLimit (recordsCheck v)
 unfolding recordsCheck
 records-near v =
-    let run : (check : ℕ → Check) → Sized v → ((k : ℕ) → k ≤ 512 → Nearby 512 (check k)) → Nearby 512 (inTurn check 1 (count v - 1))
-    = λ check sized near. turns-near 512 check (count v - 1) 1 (omega arith) near in
-    let head : Nearby 512 (headCheck v) = require-near 512 (linkFits v 0 (firstStatement v)) 8 0 (omega arith) in
-    after-near 512 (lengthCheck v) _ (require-near 512 (lengthFits v) 1 0 (omega arith))
+    let run : (check : ℕ → Check) → Sized v → ((k : ℕ) → k ≤ recordLimit → Nearby recordLimit (check k)) → Nearby recordLimit (inTurn check 1 (count v - 1))
+    = λ check sized near. turns-near recordLimit check (count v - 1) 1 (omega arith) near in
+    let head : Nearby recordLimit (headCheck v) = require-near recordLimit (linkFits v 0 (firstStatement v)) 8 0 (omega arith) in
+    after-near recordLimit (lengthCheck v) _ (require-near recordLimit (lengthFits v) 1 0 (omega arith))
     (λ e. let sized = length-passed v e in
-    then-near 512 (headerCheck v) _ (require-near 512 (headerFits (recordAt v 0)) 2 0 (omega arith))
-    (then-near 512 (inTurn (recordCheck v) 1 (count v - 1)) _ (run (recordCheck v) sized (record-near 512 v))
-    (then-near 512 (headCheck v) _ head (run (linkCheck v) sized (link-near 512 v)))))
+    then-near recordLimit (headerCheck v) _ (require-near recordLimit (headerFits (recordAt v 0)) 2 0 (omega arith))
+    (then-near recordLimit (inTurn (recordCheck v) 1 (count v - 1)) _ (run (recordCheck v) sized (record-near recordLimit v))
+    (then-near recordLimit (headCheck v) _ head (run (linkCheck v) sized (link-near recordLimit v)))))
 
-pub vocabulary-small : (v : List ℕ) → Small 512 (vocabularyCheck v)
+pub vocabulary-small : (v : List ℕ) → Small recordLimit (vocabularyCheck v)
 unfolding vocabularyCheck recordsCheck
 vocabulary-small v =
-    then-small 512 (recordsCheck v) _ (records-near v)
+    then-small recordLimit (recordsCheck v) _ (records-near v)
     (λ e. let sized = length-passed v (then-passed (lengthCheck v) _ tt e .0) in omega arith)
 
-pub record-within : (v : List ℕ) (n at : ℕ) → recordCall v n ≡ accepted at → at + 8 ≤ length v
+pub record-within : (v : List ℕ) (n at : ℕ) → recordCall v n ≡ accepted at → at + recordSize ≤ length v
 unfolding recordCall
 record-within v n at e =
     let named = require (ltb n (count v)) 9 n in
-    let after = then-passed (lengthCheck v) (named then accepted (8 * n)) at e .1 in
-    let known = then-passed named (accepted (8 * n)) at after in
+    let after = then-passed (lengthCheck v) (named then accepted (recordSize * n)) at e .1 in
+    let known = then-passed named (accepted (recordSize * n)) at after in
     let below : n < count v = ltb-true _ _ (require-passed (ltb n (count v)) 9 n (known .0)) in
-    let same : 8 * n ≡ at = cc in
+    let same : recordSize * n ≡ at = cc in
     omega arith
 
-pub record-small : (v : List ℕ) (n : ℕ) → Small (max 4096 n) (recordCall v n)
+pub record-small : (v : List ℕ) (n : ℕ) → Small (max (recordSize * recordLimit) n) (recordCall v n)
 unfolding recordCall
 record-small v n =
-    then-small (max 4096 n) (lengthCheck v) _ (require-near (max 4096 n) (lengthFits v) 1 0 (omega arith))
+    then-small (max (recordSize * recordLimit) n) (lengthCheck v) _ (require-near (max (recordSize * recordLimit) n) (lengthFits v) 1 0 (omega arith))
     (λ e. let sized = length-passed v e in
-    then-small (max 4096 n) (require (ltb n (count v)) 9 n) _ (require-near (max 4096 n) (ltb n (count v)) 9 n (omega arith))
+    then-small (max (recordSize * recordLimit) n) (require (ltb n (count v)) 9 n) _ (require-near (max (recordSize * recordLimit) n) (ltb n (count v)) 9 n (omega arith))
     (λ p. let below : n < count v = ltb-true _ _ (require-passed (ltb n (count v)) 9 n p) in omega arith))

@@ -1,5 +1,6 @@
 -- What the records of an accepted vocabulary say.
 --   record-past                    there is nothing past the end
+--   says-past                      kinds past 9 say nothing of an element
 --   construct-over                 what holds of operands, whichever record it is
 --   Earlier, construct-earlier     operands come before the record, whichever record it is
 --   construct-role                 a restriction's role is below the count
@@ -7,27 +8,37 @@
 --   restricting, construct-restriction, stating, construct-statement   restrictions and statements by what they say
 --   construct-inclusion            a statement says that A lies within B
 -- Assumes nothing.
-use Prim.Native.Nat.{ℕ, zero, suc, _*_, _≤_, _<_}
+use Prim.Native.Nat.{ℕ, zero, suc, _+_, _*_, _-_, _≤_, _<_}
 use native.Mathlib.Omega.{arith}
 use native.Mathlib.Decide.{decLt}
 use mathlib.Core.Path.{_≡_, refl, sym, ap, subst}
 use mathlib.Core.Bool.{Bool, true, Bool·beq}
 use mathlib.Core.List.{List}
-use lib.ListN.{getD, take, drop-of-length-le}
-use Rattle.records.specs.Format.{recordAt, count, roleCount}
+use lib.ListN.{getD, take, drop, drop-of-length-le}
+use lib.Seq.{getD-drop}
+use Rattle.records.specs.Format.{recordSize, recordAt, count, roleCount}
 use Rattle.records.specs.Kinds.{Construct, none, inclusion, constructOf, areAtoms, areRestrictions, areStatements, Class, Kind, noKind, kindOf}
 use Rattle.records.specs.Kinds.{kinds, isAtom, isRestriction, isStatement}
 use Rattle.records.specs.declared.fields.Record.{Record}
 use Rattle.records.proofs.Passed.{Sized}
 use Rattle.records.proofs.Ranges.{tested, kind-tested, same-true}
-use Rattle.records.proofs.Accepted.{Accepted, Formed, Operand, Over, over-map, partsOf, fields-formed}
+use Rattle.records.proofs.Accepted.{Accepted, all-default, Formed, Operand, Over, over-map, partsOf, fields-formed}
 pub use Rattle.records.proofs.Ranges.{kind-past}
 pub use Rattle.records.proofs.Accepted.{RoleBelow}
 
 pub record-past : (v : List ℕ) (i : ℕ) → Sized v → count v ≤ i → recordAt v i .kind ≡ 0
 unfolding recordAt
 record-past v i s h =
-    ap (λ (l : List ℕ). getD (take 8 l) 0 0) (drop-of-length-le v {i = 8 * i} (omega (arith, s .whole)))
+    ap (λ (l : List ℕ). getD (take recordSize l) 0 0) (drop-of-length-le v {i = recordSize * i} (omega (arith, s .whole)))
+
+-- Kinds past 9 say nothing of an element: none of the table, and none past it.
+pub says-past : (k : ℕ) → 9 < k → (r : Record) → kindOf k .says r ≡ none
+unfolding kindOf
+says-past k h r =
+    let same : 10 + (k - 10) ≡ k = omega arith in
+    subst (λ (n : ℕ). getD kinds n noKind .says r ≡ none) same
+    (subst (λ (e : Kind). e .says r ≡ none) (getD-drop 10 kinds (k - 10) noKind)
+    (all-default (λ e. e .says r ≡ none) (drop 10 kinds) noKind refl tt (k - 10)))
 
 -- The operands of what record i says are records before it.
 abbrev pub Earlier : ℕ → Construct → Type 0

@@ -5,7 +5,7 @@
 --   turn-at, any-at                                    each check of a run that passed; each test of a search that failed
 --   length-passed                                      row 1
 -- Assumes nothing.
-use Prim.Native.Nat.{ℕ, zero, suc, _+_, _%_, _<_, _≤_}
+use Prim.Native.Nat.{ℕ, zero, suc, _+_, _*_, _%_, _<_, _≤_}
 use native.Mathlib.Omega.{arith}
 use native.Mathlib.Decide.{ℕ-discrete}
 use mathlib.Core.Path.{_≡_, refl, sym, subst}
@@ -15,6 +15,7 @@ use lib.ListN.{length}
 use lib.Dec.{leb, eqb}
 use borrow.Author.Tests.{leb-true, eqb-true}
 use Rattle.records.specs.Outcome.{Outcome, Check, accepted, refused, pass, _then_, require, inTurn}
+use Rattle.records.specs.Format.{recordSize, recordLimit}
 use Rattle.records.specs.Check.{anyBelow, lengthCheck, lengthFits}
 
 -- what two different constructors would show, were they equal
@@ -67,16 +68,16 @@ any-at test (suc n) e k h =
 
 -- Row 1 passed: 8 to 4,096 bytes, a multiple of 8.
 pub record Sized (v : List ℕ) : Type 0 where
-  pub least : 8 ≤ length v
-  pub most : length v ≤ 4096
-  pub whole : length v % 8 ≡ 0
+  pub least : recordSize ≤ length v
+  pub most : length v ≤ recordSize * recordLimit
+  pub whole : length v % recordSize ≡ 0
 
 pub length-passed : (v : List ℕ) → lengthCheck v ≡ pass → Sized v
 length-passed v e =
     let fit : lengthFits v ≡ true = require-passed (lengthFits v) 1 0 e in
-    let rest = both-right (leb 8 (length v)) (leb (length v) 4096 && eqb (length v % 8) 0) fit in
+    let rest = both-right (leb recordSize (length v)) (leb (length v) (recordSize * recordLimit) && eqb (length v % recordSize) 0) fit in
     record {
-      least = leb-true _ _ (both-left (leb 8 (length v)) (leb (length v) 4096 && eqb (length v % 8) 0) fit);
-      most = leb-true _ _ (both-left (leb (length v) 4096) (eqb (length v % 8) 0) rest);
-      whole = eqb-true _ _ (both-right (leb (length v) 4096) (eqb (length v % 8) 0) rest);
+      least = leb-true _ _ (both-left (leb recordSize (length v)) (leb (length v) (recordSize * recordLimit) && eqb (length v % recordSize) 0) fit);
+      most = leb-true _ _ (both-left (leb (length v) (recordSize * recordLimit)) (eqb (length v % recordSize) 0) rest);
+      whole = eqb-true _ _ (both-right (leb (length v) (recordSize * recordLimit)) (eqb (length v % recordSize) 0) rest);
     }

@@ -4,16 +4,16 @@ use mathlib.Core.List.{List, []}
 use lib.ListN.{take, drop}
 use lib.Dec.{ltb}
 use Rattle.records.specs.Outcome.{Outcome, accepted, refused, _then_, require}
-use Rattle.records.specs.Format.{count}
+use Rattle.records.specs.Format.{recordSize, count}
 use Rattle.records.specs.Check.{lengthCheck}
 
 -- Row 9, "Record call, after 1": "number past the end", place the number
 unfoldable pub recordCall : List ℕ → ℕ → Outcome ℕ
-recordCall v number = lengthCheck v then require (ltb number (count v)) 9 number then accepted (8 * number)
+recordCall v number = lengthCheck v then require (ltb number (count v)) 9 number then accepted (recordSize * number)
 
 -- "The record call hands back the eight bytes as part of the lent vocabulary; refused, an empty part."
 abbrev pub partFor : Outcome ℕ → List ℕ → List ℕ
-partFor (accepted at) v = take 8 (drop at v)
+partFor (accepted at) v = take recordSize (drop at v)
 partFor (refused n p) v = []
 
 abbrev pub recordPart : List ℕ → ℕ → List ℕ

@@ -1,12 +1,12 @@
 -- Rows 1 to 8 of the table of refusals, and the vocabulary check.
-use Prim.Native.Nat.{ℕ, zero, suc, _-_, _%_, min}
+use Prim.Native.Nat.{ℕ, zero, suc, _-_, _*_, _%_, _≤_, min}
 use mathlib.Core.Path.{_≡_}
 use mathlib.Core.Bool.{Bool, false, cond, not, _&&_, _||_}
 use mathlib.Core.List.{List}
 use lib.ListN.{length}
 use lib.Dec.{ltb, leb, eqb}
 use Rattle.records.specs.Outcome.{Outcome, Check, accepted, pass, _then_, require, inTurn}
-use Rattle.records.specs.Format.{recordAt, count, firstStatement, roleCount}
+use Rattle.records.specs.Format.{recordSize, recordLimit, roleLimit, recordAt, count, firstStatement, roleCount}
 use Rattle.records.specs.Kinds.{isTerm, isStatement, sortsOf, kinds}
 use Rattle.records.specs.declared.fields.Record.{Record}
 use Rattle.records.specs.declared.kinds.Sort.{Sort}
@@ -15,14 +15,15 @@ use Rattle.records.specs.declared.kinds.Sorts.{Sorts}
 
 -- Row 1: "under 8, over 4,096 or no multiple of 8"; "At most 512 records, header included."
 abbrev pub lengthFits : List ℕ → Bool
-lengthFits v = leb 8 (length v) && (leb (length v) 4096 && eqb (length v % 8) 0)
+lengthFits v =
+    leb recordSize (length v) && (leb (length v) (recordSize * recordLimit) && eqb (length v % recordSize) 0)
 
 abbrev pub lengthCheck : List ℕ → Check
 lengthCheck v = require (lengthFits v) 1 0
 
 -- Row 2: "kind, second byte, role count or next" of the header: "kind 16, second byte 1, .. B the number of roles (0 to 64), next 0"
 abbrev pub headerFits : Record → Bool
-headerFits r = eqb (r .kind) 16 && (eqb (r .second) 1 && (leb (r .b) 64 && eqb (r .next) 0))
+headerFits r = eqb (r .kind) 16 && (eqb (r .second) 1 && (leb (r .b) roleLimit && eqb (r .next) 0))
 
 abbrev pub headerCheck : List ℕ → Check
 headerCheck v = require (headerFits (recordAt v 0)) 2 0
@@ -96,6 +97,11 @@ noFault = 255
 
 abbrev pub firstOf : Sorts → Bool → Bool → Bool → ℕ
 firstOf s a b next = min (cond a noFault (row (s .a))) (min (cond b noFault (row (s .b))) (cond next noFault (row (s .next))))
+
+-- What the check of record i may use: the records before it can be read, and how many roles there are.
+pub record AtRecord (v : List ℕ) (i roles : ℕ) : Type 0 where
+  pub earlier : recordSize * i ≤ length v
+  pub counted : roles ≡ roleCount v
 
 -- Rows 3 to 7
 abbrev pub fieldsCheck : List ℕ → ℕ → Record → Check

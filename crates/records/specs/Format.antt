@@ -4,9 +4,17 @@ use mathlib.Core.List.{List}
 use lib.ListN.{length, getD, take, drop}
 use Rattle.records.specs.declared.fields.Record.{Record}
 
+-- "A record is 8 bytes"
+abbrev pub recordSize : ℕ
+recordSize = 8
+
 -- "At most 512 records, header included."
 abbrev pub recordLimit : ℕ
 recordLimit = 512
+
+-- "the number of roles (0 to 64)"
+abbrev pub roleLimit : ℕ
+roleLimit = 64
 
 -- "Numbers in files are 16-bit, low byte first."
 abbrev pub wordAt : List ℕ → ℕ → ℕ
@@ -16,16 +24,16 @@ wordAt s i = getD s i 0 + 256 * getD s (i + 1) 0
 abbrev pub recordOf : List ℕ → Record
 recordOf s = record { kind = getD s 0 0; second = getD s 1 0; a = wordAt s 2; b = wordAt s 4; next = wordAt s 6 }
 
--- the eight bytes of record i
+-- the bytes of record i
 abbrev pub partAt : List ℕ → ℕ → List ℕ
-partAt v i = take 8 (drop (8 * i) v)
+partAt v i = take recordSize (drop (recordSize * i) v)
 
 unfoldable pub recordAt : List ℕ → ℕ → Record
 recordAt v i = recordOf (partAt v i)
 
 -- the number of records, header included
 abbrev pub count : List ℕ → ℕ
-count v = length v / 8
+count v = length v / recordSize
 
 -- "Record 0 is the header: .. A the first statement or 0, B the number of roles"
 abbrev pub firstStatement : List ℕ → ℕ

@@ -7,6 +7,7 @@ use crate::fields::Record;
 use crate::fields::read_at;
 use crate::kinds::Sort;
 use crate::kinds::Sorts;
+use crate::kinds::holds;
 use crate::kinds::is_statement;
 use crate::kinds::is_term;
 ghost use mathlib.Core.Path.{_≡_};
@@ -15,11 +16,11 @@ ghost use mathlib.Core.Bool.{cond, _&&_};
 ghost use lib.ListN.{length};
 ghost use Rattle.records.specs.Outcome.{inTurn};
 ghost use Rattle.records.specs.Answers.{checked, counted};
-ghost use Rattle.records.specs.Format.{recordAt, recordOf, roleCount, count};
+ghost use Rattle.records.specs.Format.{recordSize, recordAt, recordOf, roleCount, count};
 ghost use Rattle.records.specs.Kinds.{sortsOf};
 ghost use Rattle.records.specs.Check.{lengthFits, lengthCheck, headerFits, headerCheck, kindFits, kindCheck, named};
 ghost use Rattle.records.specs.Check.{labelled, termFits, linkFits, fieldFits, row, noFault, firstOf, rowsCheck, fieldsCheck, recordCheck, linkCheck};
-ghost use Rattle.records.specs.Check.{linksCheck, recordsCheck, vocabularyCheck};
+ghost use Rattle.records.specs.Check.{linksCheck, recordsCheck, vocabularyCheck, AtRecord};
 
 // Row 1: the length.
 fn length_fits(v: &[u8]) -> bool
@@ -57,7 +58,7 @@ fn header_fits(header: Record) -> bool
 }
 
 fn check_header(v: &[u8]) -> Checked
-    requires { ⌜ 8 ≤ length (now v) ⌝ }
+    requires { ⌜ recordSize ≤ length (now v) ⌝ }
     ensures { λ r. ⌜ checked r ≡ headerCheck (now (v .entry)) ⌝ }
 {
     pass_if(header_fits(read_at(v, 0)), 2, 0)
@@ -91,7 +92,7 @@ fn key_of(kind: u8, a: u16) -> u32
 
 // Whether record j is a name with this label.
 fn is_named(v: &[u8], label: u16, j: usize) -> bool
-    requires { ⌜ 8 * j + 8 ≤ length (now v) ⌝ }
+    requires { ⌜ recordSize * j + recordSize ≤ length (now v) ⌝ }
     ensures { λ r. ⌜ r ≡ named (now (v .entry)) label j ⌝ }
 {
     let fields = read_at(v, j);
@@ -101,7 +102,7 @@ fn is_named(v: &[u8], label: u16, j: usize) -> bool
 // Row 7: whether an earlier name than record i has this label. The loop has no way out before its end, so that the
 // compiler compares several records at once.
 fn is_labelled(v: &[u8], i: usize, label: u16) -> bool
-    requires { ⌜ 8 * i ≤ length (now v) ⌝ }
+    requires { ⌜ recordSize * i ≤ length (now v) ⌝ }
     ensures { λ r. ⌜ r ≡ labelled (now (v .entry)) i label ⌝ }
 {
     let mut found = false;
@@ -117,7 +118,7 @@ fn is_labelled(v: &[u8], i: usize, label: u16) -> bool
 
 // Row 5: a term number of record i.
 fn term_fits(v: &[u8], i: usize, number: u16) -> bool
-    requires { ⌜ 8 * i ≤ length (now v) ⌝ }
+    requires { ⌜ recordSize * i ≤ length (now v) ⌝ }
     ensures { λ r. ⌜ r ≡ termFits (now (v .entry)) i number ⌝ }
 {
     let at = number as usize;
@@ -149,8 +150,7 @@ fn link_fits(v: &[u8], i: usize, next: u16) -> bool
 
 // One field of record i: whether rows 4 to 7 have nothing against x where this sort is held. Row 8 comes after all records.
 fn field_fits(v: &[u8], i: usize, roles: u16, sort: Sort, x: u16) -> bool
-    requires { ⌜ 8 * i ≤ length (now v) ⌝ }
-    requires { ⌜ roles ≡ roleCount (now v) ⌝ }
+    requires { ⌜ AtRecord (now v) i roles ⌝ }
     ensures { λ r. ⌜ r ≡ fieldFits (now (v .entry)) i sort x ⌝ }
 {
     match sort {
@@ -216,8 +216,7 @@ fn all_fit(a: bool, b: bool, next: bool) -> bool
 
 // Rows 4 to 7 at a record whose fields hold these sorts.
 fn check_sorts(v: &[u8], i: usize, roles: u16, fields: Record, sorts: Sorts) -> Checked
-    requires { ⌜ 8 * i ≤ length (now v) ⌝ }
-    requires { ⌜ roles ≡ roleCount (now v) ⌝ }
+    requires { ⌜ AtRecord (now v) i roles ⌝ }
     ensures { λ r. ⌜ checked r ≡ rowsCheck (now (v .entry)) i sorts fields ⌝ }
 {
     let first = sorts.a;
@@ -235,8 +234,7 @@ fn check_sorts(v: &[u8], i: usize, roles: u16, fields: Record, sorts: Sorts) -> 
 
 // Rows 4 to 7: the kind selects what the fields hold. (An arm for each, so that the compiler makes a check of its own of it.)
 fn check_rows(v: &[u8], i: usize, roles: u16, fields: Record) -> Checked
-    requires { ⌜ 8 * i ≤ length (now v) ⌝ }
-    requires { ⌜ roles ≡ roleCount (now v) ⌝ }
+    requires { ⌜ AtRecord (now v) i roles ⌝ }
     ensures { λ r. ⌜ checked r ≡ rowsCheck (now (v .entry)) i (sortsOf (fields .kind)) fields ⌝ }
 {
     let kind = fields.kind;
@@ -246,75 +244,50 @@ fn check_rows(v: &[u8], i: usize, roles: u16, fields: Record) -> Checked
             i,
             roles,
             fields,
-            Sorts {
-                a: Sort::Label,
-                b: Sort::Spare,
-                next: Sort::Spare,
-            },
+            holds(Sort::Label, Sort::Spare, Sort::Spare),
         ),
         4 => check_sorts(
             v,
             i,
             roles,
             fields,
-            Sorts {
-                a: Sort::Term,
-                b: Sort::Spare,
-                next: Sort::Spare,
-            },
+            holds(Sort::Term, Sort::Spare, Sort::Spare),
         ),
         5..=6 => check_sorts(
             v,
             i,
             roles,
             fields,
-            Sorts {
-                a: Sort::Term,
-                b: Sort::Term,
-                next: Sort::Spare,
-            },
+            holds(Sort::Term, Sort::Term, Sort::Spare),
         ),
         7..=8 => check_sorts(
             v,
             i,
             roles,
             fields,
-            Sorts {
-                a: Sort::Role,
-                b: Sort::Term,
-                next: Sort::Spare,
-            },
+            holds(Sort::Role, Sort::Term, Sort::Spare),
         ),
         9 => check_sorts(
             v,
             i,
             roles,
             fields,
-            Sorts {
-                a: Sort::Term,
-                b: Sort::Term,
-                next: Sort::Link,
-            },
+            holds(Sort::Term, Sort::Term, Sort::Link),
         ),
         _ => check_sorts(
             v,
             i,
             roles,
             fields,
-            Sorts {
-                a: Sort::Spare,
-                b: Sort::Spare,
-                next: Sort::Spare,
-            },
+            holds(Sort::Spare, Sort::Spare, Sort::Spare),
         ),
     }
 }
 
 // Rows 3 to 7 at record i, whose eight bytes are `part`.
 fn check_fields(v: &[u8], part: &[u8], i: usize, roles: u16) -> Checked
-    requires { ⌜ length (now part) ≡ 8 ⌝ }
-    requires { ⌜ 8 * i ≤ length (now v) ⌝ }
-    requires { ⌜ roles ≡ roleCount (now v) ⌝ }
+    requires { ⌜ length (now part) ≡ recordSize ⌝ }
+    requires { ⌜ AtRecord (now v) i roles ⌝ }
     ensures { λ r. ⌜ checked r ≡ fieldsCheck (now (v .entry)) i (recordOf (now (part .entry))) ⌝ }
 {
     let fields = Record::read(part);
@@ -326,7 +299,7 @@ fn check_fields(v: &[u8], part: &[u8], i: usize, roles: u16) -> Checked
 }
 
 fn check_record(v: &[u8], i: usize, roles: u16) -> Checked
-    requires { ⌜ 8 * i + 8 ≤ length (now v) ⌝ }
+    requires { ⌜ recordSize * i + recordSize ≤ length (now v) ⌝ }
     requires { ⌜ roles ≡ roleCount (now v) ⌝ }
     ensures { λ r. ⌜ checked r ≡ recordCheck (now (v .entry)) i ⌝ }
 {
@@ -337,7 +310,7 @@ fn check_record(v: &[u8], i: usize, roles: u16) -> Checked
 
 // Rows 3 to 7 at each record in turn.
 fn check_each(v: &[u8]) -> Checked
-    requires { ⌜ 8 ≤ length (now v) ⌝ }
+    requires { ⌜ recordSize ≤ length (now v) ⌝ }
     ensures { λ r. ⌜ checked r ≡ inTurn (recordCheck (now (v .entry))) 1 (count (now (v .entry)) - 1) ⌝ }
 {
     let records = v.len() / Record::SIZE;
@@ -355,7 +328,7 @@ fn check_each(v: &[u8]) -> Checked
 
 // Row 8 at record i, where that is a statement.
 fn check_link(v: &[u8], i: usize) -> Checked
-    requires { ⌜ 8 * i + 8 ≤ length (now v) ⌝ }
+    requires { ⌜ recordSize * i + recordSize ≤ length (now v) ⌝ }
     ensures { λ r. ⌜ checked r ≡ linkCheck (now (v .entry)) i ⌝ }
 {
     let fields = read_at(v, i);
@@ -367,7 +340,7 @@ fn check_link(v: &[u8], i: usize) -> Checked
 
 // The header's A, then each statement's next, on the chain or off it.
 fn check_links(v: &[u8]) -> Checked
-    requires { ⌜ 8 ≤ length (now v) ⌝ }
+    requires { ⌜ recordSize ≤ length (now v) ⌝ }
     ensures { λ r. ⌜ checked r ≡ linksCheck (now (v .entry)) ⌝ }
 {
     let first = read_at(v, 0).a;

@@ -2,7 +2,7 @@
 ghost use mathlib.Core.Path.{_≡_};
 ghost use Prim.Native.Nat.{_+_, _*_, _≤_};
 ghost use lib.ListN.{length};
-ghost use Rattle.records.specs.Format.{recordOf, recordAt};
+ghost use Rattle.records.specs.Format.{recordSize, recordOf, recordAt};
 
 pub struct Record {
     pub kind: u8,
@@ -22,7 +22,7 @@ impl Record {
 
     // The record that eight bytes hold.
     pub fn read(part: &[u8]) -> Self
-        requires { ⌜ length (now part) ≡ 8 ⌝ }
+        requires { ⌜ length (now part) ≡ recordSize ⌝ }
         ensures { λ r. ⌜ r ≡ recordOf (now (part .entry)) ⌝ }
     {
         Record {
@@ -44,7 +44,7 @@ pub fn word(low: u8, high: u8) -> u16
 
 // Record i of a vocabulary that has it.
 pub fn read_at(v: &[u8], i: usize) -> Record
-    requires { ⌜ 8 * i + 8 ≤ length (now v) ⌝ }
+    requires { ⌜ recordSize * i + recordSize ≤ length (now v) ⌝ }
     ensures { λ r. ⌜ r ≡ recordAt (now (v .entry)) i ⌝ }
 {
     let at = Record::SIZE * i;

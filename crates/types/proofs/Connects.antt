@@ -8,14 +8,15 @@ use Prim.Native.Nat.{ℕ, zero, suc, _+_, _≤_, _<_}
 use native.Mathlib.Omega.{arith}
 use native.Mathlib.Decide.{decLt}
 use mathlib.Core.Path.{_≡_, refl, sym, ap, subst}
-use mathlib.Core.Bool.{Bool, true, false, not, _&&_, _||_}
+use mathlib.Core.Bool.{Bool, true, false, not, _&&_, _||_, and-false}
 use lib.ListN.{List·getD-eq-default}
-use lib.Dec.{eqb}
+use lib.Dec.{leb, eqb}
+use borrow.Author.Tests.{ne-eqb, lt-leb}
 use Rattle.records.specs.Kinds.{kindOf, constructOf, isAtom}
 use Rattle.records.specs.declared.fields.Record.{Record}
-use Rattle.records.proofs.Ranges.{between}
+use Rattle.records.proofs.Ranges.{between, atom-range}
 use Rattle.records.proofs.Passed.{clash}
-use Rattle.records.proofs.Constructs.{Earlier, kind-past}
+use Rattle.records.proofs.Constructs.{Earlier, says-past}
 use Rattle.types.specs.Below.{bit}
 use Rattle.types.specs.Meaning.{connect}
 use Rattle.types.specs.Rules.{Shape, shape, shapes, shapeOf, ruleOf, firstOf, secondOf, select}
@@ -151,7 +152,7 @@ rule-connects r n f = at (decLt (r .kind) 10)
             ),
           ),
         ) (r .kind) (omega arith) h
-    at (no m) = rw (shape-past (r .kind) (omega arith), kind-past (r .kind) (omega arith)) (select-never (f n) (f 0))
+    at (no m) = rw (shape-past (r .kind) (omega arith), says-past (r .kind) (omega arith) r) (select-never (f n) (f 0))
 
 pub operands-earlier : (r : Record) (i n : ℕ) → n ≤ i → Earlier i (constructOf r)
     → (firstOf (r .kind) (r .a) n ≤ i) × (secondOf (r .kind) (r .b) ≤ i)

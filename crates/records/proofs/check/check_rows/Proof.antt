@@ -2,7 +2,7 @@
 -- Assumes nothing.
 use native.Mathlib.Omega.{arith}
 use mathlib.Core.Logic.{⊎-elim}
-use mathlib.Core.Path.{_≡_, refl, sym, ap}
+use mathlib.Core.Path.{_≡_, refl, sym, ap, _∙_}
 use denote.Ref.{now}
 use borrow.Author.Needs.{needs}
 use Rattle.records.specs.Kinds.{Kind, kindOf, sortsOf, constantFields, junctionFields, restrictionFields}
@@ -11,20 +11,38 @@ use Rattle.records.proofs.Rows.{rows-at}
 use Rattle.records.proofs.check.check_rows.Statement.{statement}
 use Rattle.records.proofs.check.check_rows.Tie as tie
 
+holds-requires : tie.Need-holds-requires
+holds-requires c κs = search needs
+
 check-sorts-requires : tie.Need-check-sorts-requires
 check-sorts-requires c κs = search needs
+
+holds-requires-2 : tie.Need-holds-requires-2
+holds-requires-2 c κs = search needs
 
 check-sorts-requires-2 : tie.Need-check-sorts-requires-2
 check-sorts-requires-2 c κs = search needs
 
+holds-requires-3 : tie.Need-holds-requires-3
+holds-requires-3 c κs = search needs
+
 check-sorts-requires-3 : tie.Need-check-sorts-requires-3
 check-sorts-requires-3 c κs = search needs
+
+holds-requires-4 : tie.Need-holds-requires-4
+holds-requires-4 c κs = search needs
 
 check-sorts-requires-4 : tie.Need-check-sorts-requires-4
 check-sorts-requires-4 c κs = search needs
 
+holds-requires-5 : tie.Need-holds-requires-5
+holds-requires-5 c κs = search needs
+
 check-sorts-requires-5 : tie.Need-check-sorts-requires-5
 check-sorts-requires-5 c κs = search needs
+
+holds-requires-6 : tie.Need-holds-requires-6
+holds-requires-6 c κs = search needs
 
 check-sorts-requires-6 : tie.Need-check-sorts-requires-6
 check-sorts-requires-6 c κs = search needs
@@ -32,54 +50,63 @@ check-sorts-requires-6 c κs = search needs
 returns : tie.Need-returns
 unfolding kindOf
 returns c =
-    let a = c .before .before .before .args in
-    rows-at (now (a .v)) (a .i) (a .fields) _ _ (c .check-sorts .ensures) (ap sortsOf (sym (c .before .match .keys1)))
+    let a = c .before .before .before .before .args in
+    rows-at (now (a .v)) (a .i) (a .fields) _ _ (c .check-sorts .ensures)
+    (c .before .holds .ensures ∙ ap sortsOf (sym (c .before .before .match .keys1)))
 
 returns-2 : tie.Need-returns-2
 unfolding kindOf
 returns-2 c =
-    let a = c .before .before .before .args in
-    rows-at (now (a .v)) (a .i) (a .fields) _ _ (c .check-sorts2 .ensures) (ap sortsOf (sym (c .before .match .keys2)))
+    let a = c .before .before .before .before .args in
+    rows-at (now (a .v)) (a .i) (a .fields) _ _ (c .check-sorts2 .ensures)
+    (c .before .holds2 .ensures ∙ ap sortsOf (sym (c .before .before .match .keys2)))
 
 returns-3 : tie.Need-returns-3
 unfolding kindOf
 returns-3 c =
-    let a = c .before .before .before .args in
-    rows-at (now (a .v)) (a .i) (a .fields) _ _ (c .check-sorts3 .ensures) (ap sortsOf (sym (c .before .match .keys3)))
+    let a = c .before .before .before .before .args in
+    rows-at (now (a .v)) (a .i) (a .fields) _ _ (c .check-sorts3 .ensures)
+    (c .before .holds3 .ensures ∙ ap sortsOf (sym (c .before .before .match .keys3)))
 
 returns-4 : tie.Need-returns-4
 unfolding kindOf
 returns-4 c =
-    let a = c .before .before .before .before .before .args in
+    let a = c .before .before .before .before .before .before .args in
     rows-at (now (a .v)) (a .i) (a .fields) _ _ (c .check-sorts4 .ensures)
-    (between (λ k. junctionFields ≡ sortsOf k) 2 5 (refl, (refl, tt)) (a .fields .kind) (omega arith) (omega arith))
+    (c .before .holds4 .ensures ∙ between (λ k. junctionFields ≡ sortsOf k) 2 5 (refl, (refl, tt)) (a .fields .kind) (omega arith) (omega arith))
 
 returns-5 : tie.Need-returns-5
 unfolding kindOf
 returns-5 c =
-    let a = c .before .before .before .before .before .before .args in
+    let a = c .before .before .before .before .before .before .before .args in
     rows-at (now (a .v)) (a .i) (a .fields) _ _ (c .check-sorts5 .ensures)
-    (between (λ k. restrictionFields ≡ sortsOf k) 2 7 (refl, (refl, tt)) (a .fields .kind) (omega arith) (omega arith))
+    (c .before .holds5 .ensures ∙ between (λ k. restrictionFields ≡ sortsOf k) 2 7 (refl, (refl, tt)) (a .fields .kind) (omega arith) (omega arith))
 
 returns-6 : tie.Need-returns-6
 unfolding kindOf
 returns-6 c =
-    let a = c .before .before .before .before .args in
+    let a = c .before .before .before .before .before .args in
     rows-at (now (a .v)) (a .i) (a .fields) _ _ (c .check-sorts6 .ensures)
-    (⊎-elim
+    (c .before .holds6 .ensures ∙ ⊎-elim
     (λ w. between (λ k. constantFields ≡ sortsOf k) 3 0 (refl, (refl, (refl, tt))) (a .fields .kind) (omega arith) (omega arith))
     (λ w. sym (ap (λ (k : Kind). k .fields) (kind-past (a .fields .kind) (omega arith))))
-    (c .before .if1 .came))
+    (c .before .before .if1 .came))
 
 pub check-rows-spec : {M : Type 1} → statement M
 check-rows-spec =
     tie.close
     (tie.spec
+    holds-requires
     check-sorts-requires
+    holds-requires-2
     check-sorts-requires-2
+    holds-requires-3
     check-sorts-requires-3
+    holds-requires-4
     check-sorts-requires-4
+    holds-requires-5
     check-sorts-requires-5
+    holds-requires-6
     check-sorts-requires-6
     returns
     returns-2

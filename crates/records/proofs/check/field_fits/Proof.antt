@@ -33,7 +33,7 @@ returns-2 : tie.Need-returns-2
 returns-2 c = c .term-fits .ensures ∙ rw (c .before .enum-told2 .given .1)
 
 returns-3 : tie.Need-returns-3
-returns-3 c = rw (c .before .before .before .pre .1, c .enum-told3 .given .1)
+returns-3 c = rw (c .before .before .before .pre .counted, c .enum-told3 .given .1)
 
 returns-4 : tie.Need-returns-4
 returns-4 c = rw (c .is-labelled .ensures, c .before .enum-told4 .given .1)

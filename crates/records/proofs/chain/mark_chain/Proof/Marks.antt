@@ -11,14 +11,14 @@ use lib.ListN.{length, getD, set, replicate, length-set, length-replicate}
 use lib.Seq.{getD-set-same, getD-set-other}
 use lib.Dec.{eqb}
 use borrow.Author.Tests.{eq-eqb, ne-eqb}
-use Rattle.records.specs.Format.{recordAt, count, firstStatement}
+use Rattle.records.specs.Format.{recordLimit, recordAt, count, firstStatement}
 use Rattle.records.specs.Chain.{nextStatement, chainFrom, occurs, chained}
 use Rattle.records.proofs.Accepted.{Accepted, IsStatement, Later, Linked}
 use Rattle.records.proofs.Chains.{chain-step}
 use Rattle.records.proofs.Following.{follow-nil, left, left-falls, onward-from}
 
 pub record Marking (v : List ℕ) (marks : List Bool) (at : ℕ) : Type 0 where
-  pub size : length marks ≡ 512
+  pub size : length marks ≡ recordLimit
   pub linked : Linked v 0 at
   pub marked : (i : ℕ) → (getD marks i false || occurs i (chainFrom v at)) ≡ chained v i
 
@@ -28,12 +28,12 @@ unmarked (suc n) zero = refl
 unmarked (suc n) (suc i) = unmarked n i
 
 module _ (v : List ℕ) (good : Accepted v) where
-  pub start : (at : ℕ) → at ≡ firstStatement v → Marking v (replicate 512 false) at
+  pub start : (at : ℕ) → at ≡ firstStatement v → Marking v (replicate recordLimit false) at
   start at e =
       record {
-        size = length-replicate 512 false;
+        size = length-replicate recordLimit false;
         linked = subst (Linked v 0) (sym e) (good .first);
-        marked = λ i. rw (unmarked 512 i, e);
+        marked = λ i. rw (unmarked recordLimit i, e);
       }
 
   -- the statement that a walk stands at
