@@ -23,6 +23,7 @@ pub mod Agreement
 pub mod Outcomes
 pub mod Scripts
 pub mod Denials
+pub mod Refusals
 pub mod Rowed
 pub mod Demands
 pub mod Bounds

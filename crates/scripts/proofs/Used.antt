@@ -10,7 +10,6 @@ use native.Mathlib.Omega.{arith}
 use mathlib.Core.Path.{_≡_, refl, sym, ap, ap₂}
 use mathlib.Core.Bool.{Bool, true, false}
 use mathlib.Core.List.{List, [], _∷_, map}
-use mathlib.Core.Logic.{inl}
 use Rattle.records.proofs.Accepted.{Accepted, All}
 use Rattle.columns.specs.Literals.{SkolemTerm, constant, apply, Literal, concept, role, substitute}
 use Rattle.columns.specs.Columns.{Argument, x, y, fx, a, Column, columnsAt, columnAt, arguments, instanceAt}
