@@ -139,7 +139,8 @@ script-rows v s =
     let ran = chainCheck (writtenOut v (queryOf s)) (stepAt s) (chain s) in
     let vocabulary = vocabulary-rows (13 ∷ 14 ∷ 10 ∷ 15 ∷ 16 ∷ 17 ∷ 18 ∷ 19 ∷ 25 ∷ 20 ∷ 21 ∷ 22 ∷ 23 ∷ 24 ∷ []) v in
     let form = of-rows (formCheck v s) (form-refusals Row (λ i. Unit {0}) any-place v s refl refl tt (λ e i h. tt)) in
-    let chained = chain-refusals Row (λ i. Unit {0}) any-place (writtenOut v (queryOf s)) (stepAt s) (chain s) tt (each (chain s)) in
+    let paper = writtenOut v (queryOf s) in
+    let chained = chain-refusals Row (λ i. Unit {0}) any-place paper (stepAt s) (chain s) tt (each (chain s)) in
     then-rows scriptRows (vocabularyCheck v) _ vocabulary
     (then-rows scriptRows (formCheck v s) _ form
     (then-rows scriptRows ran (accepted (length (chain s))) (of-rows ran chained) tt))

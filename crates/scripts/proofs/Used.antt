@@ -32,7 +32,8 @@ pub record Means (s : List ℕ) (n : ℕ) (l : Literal SkolemTerm) : Type 0 wher
   pub number : n ≡ packed literal
   pub meant : l ≡ substitute (codeTerm s) literal
 
-pub about-constant : (s : List ℕ) (b : Bool) (i : ℕ) → i < predicateLimit → Means s (packed (concept b i 0)) (concept b i constant)
+pub about-constant : (s : List ℕ) (b : Bool) (i : ℕ) → i < predicateLimit
+    → Means s (packed (concept b i 0)) (concept b i constant)
 about-constant s b i h =
     record {
       literal = concept b i 0;
