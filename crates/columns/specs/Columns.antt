@@ -52,6 +52,9 @@ pub record Query : Type 0 where
   pub a : ℕ
   pub b : ℕ
 
+abbrev pub within : ℕ → ℕ → Query
+within m n = record { a = m; b = n }
+
 -- "Query "A within B", owner 0: {¬CA(a)}; {CB(a)}."
 abbrev pub queryColumns : Query → List Column
 queryColumns q = (isNot (q .a) a ∷ []) ∷ (is (q .b) a ∷ []) ∷ []

@@ -16,12 +16,12 @@ ghost use Prim.Native.Nat.{ℕ};
 ghost use lib.ListN.{getD};
 ghost use Rattle.records.specs.Format.{recordAt};
 ghost use Rattle.records.specs.Chain.{chained};
-ghost use Rattle.columns.specs.Columns.{Query, queryColumns, states, columnAt};
+ghost use Rattle.columns.specs.Columns.{Query, within, queryColumns, states, columnAt};
 ghost use Rattle.columns.specs.Packed.{Marked, Fitting, HasShape, packedAt, packedBy, literals};
 
 // Column n of the query "a within b": it speaks of the constant, whatever x and y are.
 pub fn query_column(a: u16, b: u16, n: u16) -> Column
-    ensures { λ r. ⌜ ((nx ny nf : ℕ) → literals r ≡ packedAt nx ny nf (getD (queryColumns record { a = a; b = b }) n [])) ⌝ }
+    ensures { λ r. ⌜ ((nx ny nf : ℕ) → literals r ≡ packedAt nx ny nf (getD (queryColumns (within a b)) n [])) ⌝ }
 {
     match n {
         0 => Column {
@@ -60,7 +60,7 @@ pub fn find_column(
 ) -> Column
     requires { ⌜ Marked (now v) (now marks) ⌝ }
     requires { ⌜ Fitting at ⌝ }
-    ensures { λ r. ⌜ literals r ≡ packedBy at (columnAt (now (v .entry)) record { a = a; b = b } owner n) ⌝ }
+    ensures { λ r. ⌜ literals r ≡ packedBy at (columnAt (now (v .entry)) (within a b) owner n) ⌝ }
 {
     if owner == 0 {
         return query_column(a, b, n);

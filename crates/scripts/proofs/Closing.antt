@@ -1,6 +1,6 @@
 -- A step at the goal: what it takes to pass, and what it leaves. The frames are `(l ∷ c) ∷ frames`: the goal is l, and c stays
 -- open beside it.
---   Literals, goals                      a column's open literals; the path that the goals of frames make
+--   Literals, OpenFrames, Steps, goals    a column's open literals; frames of them; steps; the path that goals of frames make
 --   room, room-under                     a column may open above n frames: an empty one always, any other under the limit
 --   close-goal, goal-below               the goal closed, c is open; a frame's goal, counted as the path counts
 --   complement-true                      a literal that is the complement passes the test
@@ -30,11 +30,17 @@ use Rattle.scripts.proofs.Played.{fits, plays}
 abbrev pub Literals : Type 0
 Literals = List (Literal SkolemTerm)
 
+abbrev pub OpenFrames : Type 0
+OpenFrames = Frames (Literal SkolemTerm)
+
+abbrev pub Steps : Type 0
+Steps = List (Step SkolemTerm)
+
 -- a frame's goal
 abbrev first-open : Literals → Literal SkolemTerm
 first-open frame = getD frame 0 noLiteral
 
-abbrev pub goals : Frames (Literal SkolemTerm) → Literals
+abbrev pub goals : OpenFrames → Literals
 goals frames = map first-open frames
 
 abbrev pub room : Literals → ℕ → Bool
@@ -44,16 +50,16 @@ pub room-under : (c : Literals) (n : ℕ) → n < frameLimit → room c n ≡ tr
 room-under [] n h = refl
 room-under (l ∷ c) n h = lt-ltb n frameLimit h
 
-pub close-goal : (l : Literal SkolemTerm) (c : Literals) (frames : Frames (Literal SkolemTerm)) → close ((l ∷ c) ∷ frames) ≡ extendBy c frames
+pub close-goal : (l : Literal SkolemTerm) (c : Literals) (frames : OpenFrames) → close ((l ∷ c) ∷ frames) ≡ extendBy c frames
 unfolding close extendBy
 close-goal l [] frames = refl
 close-goal l (m ∷ c) frames = refl
 
 -- the goal of frame f, frames being counted from the start
-abbrev goal-at : Frames (Literal SkolemTerm) → ℕ → Literal SkolemTerm
+abbrev goal-at : OpenFrames → ℕ → Literal SkolemTerm
 goal-at frames f = first-open (getD frames (length frames - suc f) [])
 
-goal-below : (frame : Literals) (frames : Frames (Literal SkolemTerm)) (f : ℕ) → f < length (goals frames)
+goal-below : (frame : Literals) (frames : OpenFrames) (f : ℕ) → f < length (goals frames)
     → goal-at (frame ∷ frames) f ≡ onPath (goals frames) f
 goal-below frame frames f h =
     let e : suc (length frames) - suc f ≡ suc (length frames - suc f) = omega (arith, length-map frames first-open) in
@@ -62,7 +68,7 @@ goal-below frame frames f h =
 complement-true : (m l : Literal SkolemTerm) → m ≡ complement l → complementary m l ≡ true
 complement-true m l e = rw e (complementary-complement l)
 
-module _ (v : List ℕ) (q : Query) (l : Literal SkolemTerm) (c : Literals) (frames : Frames (Literal SkolemTerm)) where
+module _ (v : List ℕ) (q : Query) (l : Literal SkolemTerm) (c : Literals) (frames : OpenFrames) where
   -- what row 22 asks of a reduction
   abbrev below : ℕ → Bool
   below f = ltb (suc f) (suc (length frames))
@@ -76,14 +82,15 @@ module _ (v : List ℕ) (q : Query) (l : Literal SkolemTerm) (c : Literals) (fra
       let m : below f ≡ true = lt-ltb (suc f) (suc (length frames)) (omega (arith, length-map frames first-open)) in
       rw (m, complement-true (goal-at ((l ∷ c) ∷ frames) f) l (goal-below (l ∷ c) frames f h ∙ e))
 
-  pub reduction-plays : (f : ℕ) (rest : List (Step SkolemTerm)) → f < length (goals frames) → onPath (goals frames) f ≡ complement l
+  pub reduction-plays : (f : ℕ) (rest : Steps) → f < length (goals frames) → onPath (goals frames) f ≡ complement l
       → plays (writtenOut v q) (reduction f ∷ rest) ((l ∷ c) ∷ frames) ≡ plays (writtenOut v q) rest (extendBy c frames)
   unfolding plays stepped
   reduction-plays f rest h e = rw (reduction-fits f h e, close-goal l c frames)
 
-  pub extension-plays : (e : Extension SkolemTerm) (rest : List (Step SkolemTerm)) → connected v q e ≡ complement l
+  pub extension-plays : (e : Extension SkolemTerm) (rest : Steps) → connected v q e ≡ complement l
       → room (others v q e) (suc (length frames)) ≡ true
-      → plays (writtenOut v q) (extension e ∷ rest) ((l ∷ c) ∷ frames) ≡ plays (writtenOut v q) rest (extendBy (others v q e) ((l ∷ c) ∷ frames))
+      → plays (writtenOut v q) (extension e ∷ rest) ((l ∷ c) ∷ frames)
+      ≡ plays (writtenOut v q) rest (extendBy (others v q e) ((l ∷ c) ∷ frames))
   unfolding plays stepped
   extension-plays e rest p r = rw (complement-true (connected v q e) l p, r)
 
@@ -96,13 +103,16 @@ module _ (v : List ℕ) (q : Query) (l : Literal SkolemTerm) (c : Literals) (fra
       let k = complementary-true (goal-at ((l ∷ c) ∷ frames) f) l (both-right (below f) (reduces-goal f) e) in
       (h, sym (goal-below (l ∷ c) frames f h) ∙ k)
 
-  pub reduction-played : (f : ℕ) (rest : List (Step SkolemTerm)) → plays (writtenOut v q) (reduction f ∷ rest) ((l ∷ c) ∷ frames) ≡ true
-      → ((f < length (goals frames)) × (onPath (goals frames) f ≡ complement l)) × (plays (writtenOut v q) rest (extendBy c frames) ≡ true)
+  pub reduction-played : (f : ℕ) (rest : Steps) → plays (writtenOut v q) (reduction f ∷ rest) ((l ∷ c) ∷ frames) ≡ true
+      → ((f < length (goals frames)) × (onPath (goals frames) f ≡ complement l))
+      × (plays (writtenOut v q) rest (extendBy c frames) ≡ true)
   unfolding plays stepped
   reduction-played f rest p =
       let fit = fits (writtenOut v q) ((l ∷ c) ∷ frames) (reduction f) in
-      let next = plays (writtenOut v q) rest (close ((l ∷ c) ∷ frames)) in
-      (fits-reduction f (both-left fit next p), ap (plays (writtenOut v q) rest) (sym (close-goal l c frames)) ∙ both-right fit next p)
+      let next = plays (writtenOut v q) rest (close ((l ∷ c) ∷ frames)) in (
+        fits-reduction f (both-left fit next p),
+        ap (plays (writtenOut v q) rest) (sym (close-goal l c frames)) ∙ both-right fit next p,
+      )
 
   fits-extension : (e : Extension SkolemTerm) → fits (writtenOut v q) ((l ∷ c) ∷ frames) (extension e) ≡ true
       → (connected v q e ≡ complement l) × (room (others v q e) (suc (length frames)) ≡ true)
@@ -111,7 +121,8 @@ module _ (v : List ℕ) (q : Query) (l : Literal SkolemTerm) (c : Literals) (fra
       let free = room (others v q e) (suc (length frames)) in
       (complementary-true (connected v q e) l (both-left connects free p), both-right connects free p)
 
-  pub extension-played : (e : Extension SkolemTerm) (rest : List (Step SkolemTerm)) → plays (writtenOut v q) (extension e ∷ rest) ((l ∷ c) ∷ frames) ≡ true
+  pub extension-played : (e : Extension SkolemTerm) (rest : Steps)
+      → plays (writtenOut v q) (extension e ∷ rest) ((l ∷ c) ∷ frames) ≡ true
       → ((connected v q e ≡ complement l) × (room (others v q e) (suc (length frames)) ≡ true))
       × (plays (writtenOut v q) rest (extendBy (others v q e) ((l ∷ c) ∷ frames)) ≡ true)
   unfolding plays stepped
@@ -120,7 +131,8 @@ module _ (v : List ℕ) (q : Query) (l : Literal SkolemTerm) (c : Literals) (fra
       let next = plays (writtenOut v q) rest (extendBy (others v q e) ((l ∷ c) ∷ frames)) in
       (fits-extension e (both-left fit next p), both-right fit next p)
 
-pub start-open : (v : List ℕ) (q : Query) (n : ℕ) → n ≤ 1 → stepped (writtenOut v q) [] (start n) ≡ extendBy (startColumn v q n) []
+pub start-open : (v : List ℕ) (q : Query) (n : ℕ) → n ≤ 1
+    → stepped (writtenOut v q) [] (start n) ≡ extendBy (startColumn v q n) []
 unfolding stepped extendBy columnsAt
 start-open v q zero h = refl
 start-open v q (suc zero) h = refl

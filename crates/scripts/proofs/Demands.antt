@@ -1,6 +1,5 @@
 -- The three demands, proved: specs/Demands.antt states them.
 -- Assumes nothing.
-use mathlib.Core.Path.{refl}
 use mathlib.Core.List.{[]}
 use lib.ListN.{length}
 use Rattle.types.specs.Compare.{verdict}

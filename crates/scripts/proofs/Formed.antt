@@ -32,7 +32,8 @@ use Rattle.scripts.specs.Steps.{Step, start, extension, reduction, stepB
 use Rattle.scripts.specs.Format.{entrySize, entryLimit, entryAt, entries, queryOf, firstStep, Line, blank, named}
 use Rattle.scripts.specs.Format.{applied, step, lineOf, lineAt, isStep, stepOf, recordStep, nextStep, chain, termAt}
 use Rattle.scripts.specs.Form.{lengthFits, lengthCheck, allZero, headerFits, headerCheck, queryCheck, kindFits, unusedFits}
-use Rattle.scripts.specs.Form.{termFits, stepFits, lineFits, xFits, yFits, rowsCheck, entryCheck, entriesCheck, linkFits, nextFits}
+use Rattle.scripts.specs.Form.{termFits, stepFits, lineFits, xFits, yFits, rowsCheck, entryCheck, entriesCheck}
+use Rattle.scripts.specs.Form.{linkFits, nextFits}
 use Rattle.scripts.specs.Form.{linkCheck, linksCheck, formCheck}
 use Rattle.scripts.specs.Run.{stepAt}
 use Rattle.scripts.proofs.Readings.{StepListed, AllListed}

@@ -6,7 +6,6 @@
 --   step-start, step-extension, step-other      the rule for steps
 --   repeat-same                                 a key made of kind, function and inner term
 --   link-made, link-none                        row 19 at a step, and at another record
---   length-passed                               row 13
 -- Assumes nothing.
 use Prim.Native.Nat.{ℕ, _+_, _*_, _%_, _^_, _≤_, _<_}
 use native.Mathlib.Omega.{arith}
@@ -14,15 +13,14 @@ use native.Mathlib.Decide.{ℕ-discrete, decLt}
 use mathlib.Core.Path.{_≡_, refl, sym, ap, subst, _∙_}
 use mathlib.Core.Bool.{Bool, true, false, _&&_}
 use mathlib.Core.List.{List, [], _∷_}
-use lib.ListN.{length, List·getD-eq-default}
+use lib.ListN.{List·getD-eq-default}
 use lib.Dec.{leb, eqb}
-use borrow.Author.Tests.{leb-true, eq-eqb, ne-eqb}
+use borrow.Author.Tests.{eq-eqb, ne-eqb}
 use Rattle.records.specs.Outcome.{pass, require}
-use Rattle.records.proofs.Passed.{both-left, require-passed}
 use Rattle.records.proofs.Ranges.{Run, between}
 use Rattle.scripts.specs.Steps.{extension}
-use Rattle.scripts.specs.Format.{entrySize, entryLimit, extensionOf, entryAt, applied, step, Kind, noKind, kinds, kindOf, lineOf, isStep}
-use Rattle.scripts.specs.Form.{lengthFits, lengthCheck, allZero, isNamed, functionFits, lineFits, linkFits, linkCheck}
+use Rattle.scripts.specs.Format.{extensionOf, entryAt, applied, step, Kind, noKind, kinds, kindOf, lineOf, isStep}
+use Rattle.scripts.specs.Form.{allZero, isNamed, functionFits, lineFits, linkFits, linkCheck}
 use Rattle.scripts.specs.declared.entry.Entry.{Entry}
 
 -- a sum of two numbers that is zero
@@ -131,10 +129,3 @@ module _ (s : List ℕ) (i : ℕ) (e : Entry) (read : e ≡ entryAt s i) (t : Bo
   pub link-none : t ≡ false → pass ≡ linkCheck s i
   unfolding linkCheck
   link-none h = rw (← read, ← told, h)
-
--- Row 13 passed: there is a header.
-pub length-passed : (s : List ℕ) → lengthCheck s ≡ pass → entrySize ≤ length s
-length-passed s e =
-    leb-true entrySize (length s)
-    (both-left (leb entrySize (length s)) (leb (length s) (entrySize * entryLimit) && eqb (length s % entrySize) 0)
-    (require-passed (lengthFits s) 13 0 e))

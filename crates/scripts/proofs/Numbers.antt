@@ -98,7 +98,8 @@ role-low r t u h = omega arith
 role-middle : (r t u : ℕ) → r < predicateLimit → t < termLimit → roleBody r t u / 2 ^ 11 % 2 ^ 20 ≡ t
 role-middle r t u h k = let e : roleBody r t u / 2 ^ 11 ≡ t + 2 ^ 20 * u = omega arith in rw e (omega arith)
 
-concept-same : (i t j u : ℕ) → i < predicateLimit → j < predicateLimit → eqb (conceptBody i t) (conceptBody j u) ≡ (eqb i j && eqb t u)
+concept-same : (i t j u : ℕ) → i < predicateLimit → j < predicateLimit
+    → eqb (conceptBody i t) (conceptBody j u) ≡ (eqb i j && eqb t u)
 concept-same i t j u h k = at (ℕ-discrete i j) (ℕ-discrete t u)
   where
     low : conceptBody i t ≡ conceptBody j u → 2 * i + 1 ≡ 2 * j + 1
@@ -171,13 +172,14 @@ small-junction i j m h e =
     let d : m < predicateLimit = omega (arith, e .1) in
     ((h, (g, tt)), ((h, (d, tt)), ((h, (g, (d, tt))), tt)))
 
-small-restriction : (i r j : ℕ) → i < predicateLimit → r < 64 → j < i → AllSmall (columnsOf i (existential r j))
+small-restriction : (i r j : ℕ) → i < predicateLimit → r < predicateLimit → j < i → AllSmall (columnsOf i (existential r j))
 small-restriction i r j h k e =
     let g : j < predicateLimit = omega arith in
     let d : r < predicateLimit = omega arith in
     ((h, (d, tt)), ((h, (g, tt)), ((h, (d, (g, tt))), tt)))
 
-small-columns : (i n : ℕ) (c : Construct) → i < predicateLimit → n ≤ 64 → Earlier i c → RoleBelow n c → AllSmall (columnsOf i c)
+small-columns : (i n : ℕ) (c : Construct) → i < predicateLimit → n ≤ predicateLimit → Earlier i c → RoleBelow n c
+    → AllSmall (columnsOf i c)
 small-columns i n none h k e l = tt
 small-columns i n top h k e l = ((h, tt), tt)
 small-columns i n bottom h k e l = ((h, tt), tt)
@@ -216,7 +218,7 @@ module _ (v s : List ℕ) (good : Accepted v) (f : Formed v s) where
           subst AllSmall (sym (columns-record v (queryOf s) (suc i) positive e))
           (small-columns (suc i) (roleCount v) (constructOf (recordAt v (suc i)))
           (omega (arith, good .sized .most))
-          (good .roles)
+          (omega (arith, good .roles))
           (construct-earlier v good (suc i))
           (construct-role v good (suc i) (omega arith) h))
       at (yes h) false e = subst AllSmall (sym (columns-silent v (queryOf s) (suc i) positive e)) tt

@@ -6,7 +6,6 @@
 use Prim.Native.Nat.{ℕ}
 use mathlib.Core.Path.{_≡_, sym, ap, _∙_}
 use mathlib.Core.List.{List}
-use lib.ListN.{length}
 use Rattle.records.specs.Outcome.{Outcome, accepted, refused, pass, _then_}
 use Rattle.records.specs.Format as format
 use Rattle.records.specs.Check.{vocabularyCheck, IsAccepted}
@@ -17,7 +16,6 @@ use Rattle.records.specs.declared.answers.Counted.{Counted}
 use Rattle.records.specs.declared.answers.Counted.the-variants as count
 use Rattle.records.proofs.Bounds.{vocabulary-count}
 use Rattle.records.proofs.Accepted.{accepted-vocabulary}
-use Rattle.scripts.specs.Format.{chain}
 use Rattle.scripts.specs.Form.{lengthCheck, formCheck}
 use Rattle.scripts.specs.Run.{scriptCheck}
 use Rattle.scripts.specs.Tested.{chainOutcome}

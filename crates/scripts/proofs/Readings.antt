@@ -24,9 +24,10 @@ use Rattle.scripts.specs.Format.{queryOf}
 use Rattle.scripts.specs.Steps.{Extension, Step, start, extension, reduction}
 use Rattle.scripts.specs.Calculus.{connected, others, Listed, onPath}
 use Rattle.scripts.specs.Calculus.{Derivation, ended, reduced, extended, steps, height, frameLimit, startColumn, Derives}
-use Rattle.scripts.specs.Run.{Frames, close, extendBy, stepped, chainCheck, writtenOut, stepAt}
+use Rattle.scripts.specs.Run.{close, extendBy, stepped, chainCheck, writtenOut, stepAt}
 use Rattle.scripts.proofs.Played.{passes, plays, begins, chain-begins}
-use Rattle.scripts.proofs.Closing.{Literals, goals, room, room-under, close-goal, reduction-played, extension-played}
+use Rattle.scripts.proofs.Closing.{Literals, OpenFrames, Steps, goals, room, room-under, close-goal}
+use Rattle.scripts.proofs.Closing.{reduction-played, extension-played}
 use Rattle.scripts.proofs.Closing.{start-open}
 
 abbrev pub StepListed : List ℕ → Query → Step SkolemTerm → Type 0
@@ -34,24 +35,24 @@ StepListed v q (start n) = n ≤ 1
 StepListed v q (extension e) = Listed v q e
 StepListed v q (reduction f) = Unit {0}
 
-abbrev pub AllListed : List ℕ → Query → List (Step SkolemTerm) → Type 0
+abbrev pub AllListed : List ℕ → Query → Steps → Type 0
 AllListed v q [] = Unit {0}
 AllListed v q (step ∷ rest) = StepListed v q step × AllListed v q rest
 
-record Reading (v : List ℕ) (q : Query) (c : Literals) (frames : Frames (Literal SkolemTerm)) (list : List (Step SkolemTerm)) : Type 0 where
+record Reading (v : List ℕ) (q : Query) (c : Literals) (frames : OpenFrames) (list : Steps) : Type 0 where
   derivation : Derivation v q c (goals frames)
-  rest : List (Step SkolemTerm)
+  rest : Steps
   same : list ≡ steps derivation ++ rest
   bounded : height derivation ≤ frameLimit - length frames
   listed : AllListed v q rest
   played : plays (writtenOut v q) rest (extendBy [] frames) ≡ true
 
 module _ (v : List ℕ) (q : Query) where
-  rest-shorter : {c : Literals} {frames : Frames (Literal SkolemTerm)} {list : List (Step SkolemTerm)} (r : Reading v q c frames list)
+  rest-shorter : {c : Literals} {frames : OpenFrames} {list : Steps} (r : Reading v q c frames list)
       → length (r .rest) ≤ length list
   rest-shorter r = omega (arith, ap length (r .same), length-append (steps (r .derivation)) (r .rest))
 
-  module _ (l : Literal SkolemTerm) (c : Literals) (frames : Frames (Literal SkolemTerm)) (list : List (Step SkolemTerm)) where
+  module _ (l : Literal SkolemTerm) (c : Literals) (frames : OpenFrames) (list : Steps) where
     read-reduction : (f : ℕ) → length frames < frameLimit → f < length (goals frames) → onPath (goals frames) f ≡ complement l
         → Reading v q c frames list → Reading v q (l ∷ c) frames (reduction f ∷ list)
     unfolding steps height
@@ -59,7 +60,7 @@ module _ (v : List ℕ) (q : Query) where
         record {
           derivation = reduced f k m (r .derivation);
           rest = r .rest;
-          same = ap (λ (x : List (Step SkolemTerm)). reduction f ∷ x) (r .same);
+          same = ap (λ (x : Steps). reduction f ∷ x) (r .same);
           bounded = omega arith;
           listed = r .listed;
           played = r .played;
@@ -74,22 +75,22 @@ module _ (v : List ℕ) (q : Query) where
           derivation = extended e k m (r .derivation) (t .derivation);
           rest = t .rest;
           same =
-              ap (λ (x : List (Step SkolemTerm)). extension e ∷ x)
+              ap (λ (x : Steps). extension e ∷ x)
               (r .same
-              ∙ ap (λ (x : List (Step SkolemTerm)). steps (r .derivation) ++ x) (t .same)
+              ∙ ap (λ (x : Steps). steps (r .derivation) ++ x) (t .same)
               ∙ sym (append-assoc (steps (r .derivation)) (steps (t .derivation)) (t .rest)));
           bounded = omega arith;
           listed = t .listed;
           played = t .played;
         }
 
-  abbrev Readable : List (Step SkolemTerm) → Type 0
+  abbrev Readable : Steps → Type 0
   Readable list =
-      (c : Literals) (frames : Frames (Literal SkolemTerm)) → room c (length frames) ≡ true → AllListed v q list
+      (c : Literals) (frames : OpenFrames) → room c (length frames) ≡ true → AllListed v q list
       → plays (writtenOut v q) list (extendBy c frames) ≡ true → Reading v q c frames list
 
-  read-step : (c : Literals) (list : List (Step SkolemTerm)) (frames : Frames (Literal SkolemTerm))
-      → ((rest : List (Step SkolemTerm)) → length rest < length list → Readable rest)
+  read-step : (c : Literals) (list : Steps) (frames : OpenFrames)
+      → ((rest : Steps) → length rest < length list → Readable rest)
       → room c (length frames) ≡ true → AllListed v q list → plays (writtenOut v q) list (extendBy c frames) ≡ true
       → Reading v q c frames list
   unfolding plays extendBy steps height
@@ -110,16 +111,17 @@ module _ (v : List ℕ) (q : Query) where
       read-extension l c frames list e k (a .0) (s .0 .0) r
       (h (r .rest) (omega (arith, rest-shorter r)) c frames (room-under c (length frames) k) (r .listed) left)
 
-  reads : (n : ℕ) (list : List (Step SkolemTerm)) → length list ≤ n → Readable list
+  reads : (n : ℕ) (list : Steps) → length list ≤ n → Readable list
   reads zero list h c frames = read-step c list frames (λ rest k. absurd (omega arith))
   reads (suc n) list h c frames = read-step c list frames (λ rest k. reads n rest (omega arith))
 
-  closed-plays : (list : List (Step SkolemTerm)) → plays (writtenOut v q) list (extendBy [] []) ≡ true → list ≡ []
+  closed-plays : (list : Steps) → plays (writtenOut v q) list (extendBy [] []) ≡ true → list ≡ []
   unfolding plays extendBy close
   closed-plays [] p = refl
   closed-plays (step ∷ list) p = absurd (clash (cc))
 
-  start-derives : (n : ℕ) (list : List (Step SkolemTerm)) → n ≤ 1 → AllListed v q list → plays (writtenOut v q) list (stepped (writtenOut v q) [] (start n)) ≡ true
+  start-derives : (n : ℕ) (list : Steps) → n ≤ 1 → AllListed v q list
+      → plays (writtenOut v q) list (stepped (writtenOut v q) [] (start n)) ≡ true
       → Derives v q (start n ∷ list)
   start-derives n list h a p =
       let space = room-under (startColumn v q n) 0 (omega arith) in
@@ -130,14 +132,14 @@ module _ (v : List ℕ) (q : Query) where
         listed = h;
         derivation = r .derivation;
         same =
-            ap (λ (x : List (Step SkolemTerm)). start n ∷ x)
+            ap (λ (x : Steps). start n ∷ x)
             (r .same
-            ∙ ap (λ (x : List (Step SkolemTerm)). steps (r .derivation) ++ x) (closed-plays (r .rest) (r .played))
+            ∙ ap (λ (x : Steps). steps (r .derivation) ++ x) (closed-plays (r .rest) (r .played))
             ∙ append-nil (steps (r .derivation)));
         frames = r .bounded;
       }
 
-  begins-derives : (list : List (Step SkolemTerm)) → AllListed v q list → begins (writtenOut v q) list ≡ true → Derives v q list
+  begins-derives : (list : Steps) → AllListed v q list → begins (writtenOut v q) list ≡ true → Derives v q list
   begins-derives [] a p = absurd (clash (cc))
   begins-derives (start n ∷ list) a p = start-derives n list (a .0) (a .1) p
   begins-derives (extension e ∷ list) a p = absurd (clash (cc))

@@ -3,11 +3,13 @@
 --   vocabulary-rows, record-rows, comparison-rows, script-rows   the four calls
 -- Assumes nothing.
 use Prim.Native.Nat.{ℕ, zero, suc, _*_, _-_}
+use native.Mathlib.Omega.{arith}
 use mathlib.Core.Path.{_≡_, refl}
-use mathlib.Core.Bool.{Bool, true, false, not, _&&_, _||_}
+use mathlib.Core.Bool.{Bool, true, false, _&&_, _||_}
 use mathlib.Core.List.{List, [], _∷_, _++_}
 use lib.ListN.{length}
 use lib.Dec.{ltb, leb, eqb}
+use borrow.Author.Tests.{leb-true}
 use Rattle.records.specs.Outcome.{Outcome, Check, accepted, refused, _then_, require, inTurn}
 use Rattle.records.specs.Format.{count, recordAt, firstStatement}
 use Rattle.records.specs.Kinds.{sortsOf, isTerm}
@@ -15,15 +17,16 @@ use Rattle.records.specs.Check.{lengthFits, lengthCheck, headerFits, headerChec
 use Rattle.records.specs.Check.{recordCheck, linkFits, headCheck, nextFits, linkCheck, linksCheck, recordsCheck, vocabularyCheck}
 use Rattle.records.specs.Call.{recordCall}
 use Rattle.records.specs.Chain.{occurs}
-use Rattle.records.proofs.Passed.{clash}
+use Rattle.records.proofs.Passed.{clash, both-left, both-right}
+use Rattle.records.proofs.Ranges.{between}
+use Rattle.records.proofs.Accepted.{All}
 use Rattle.records.specs.Atoms.{atoms}
 use Rattle.types.specs.Compare.{verdict, atomLimit, formBytes, termCheck, atomsCheck, lentCheck, queryCheck, comparison}
-use Rattle.scripts.specs.Format.{entryAt, entries, queryOf, firstStep, lineOf, chain}
-use Rattle.scripts.specs.Form as script
-use Rattle.scripts.specs.Steps.{Step}
-use Rattle.scripts.specs.Run.{Frames, isNil, isStart, Setting, connects, reduces, hasRoom, stepCheck, stepped, run}
+use Rattle.scripts.specs.Format.{queryOf, chain}
+use Rattle.scripts.specs.Form.{formCheck}
 use Rattle.scripts.specs.Run.{chainCheck, writtenOut, stepAt, scriptCheck}
 use Rattle.scripts.specs.Demands.{OfRows, vocabularyRows, comparisonRows, scriptRows}
+use Rattle.scripts.proofs.Refusals.{Refusals, isRow, form-refusals, chain-refusals}
 
 module _ (rows : List ℕ) where
   require-rows : (b : Bool) (n p : ℕ) → occurs n rows ≡ true → OfRows rows (require b n p)
@@ -106,72 +109,39 @@ comparison-rows v a b lent =
     (require-rows comparisonRows (leb (atoms v) atomLimit) 11 (atoms v) refl)
     (require-rows comparisonRows (leb formBytes lent) 12 0 refl)))) tt)
 
--- the script check's own rows
-own : (b : Bool) (n p : ℕ) → occurs n scriptRows ≡ true → OfRows scriptRows (require b n p)
-own = require-rows scriptRows
+-- rows 13 to 25 are the script check's own
+script-row : (n : ℕ) → isRow n ≡ true → occurs n scriptRows ≡ true
+unfolding occurs
+script-row n h =
+    between (λ n. occurs n scriptRows ≡ true) 13 13
+    (refl, (refl, (refl, (refl, (refl, (refl, (refl, (refl, (refl, (refl, (refl, (refl, (refl, tt)))))))))))))
+    n
+    (leb-true 13 n (both-left (leb 13 n) (leb n 25) h))
+    (omega (arith, leb-true n 25 (both-right (leb 13 n) (leb n 25) h)))
 
-module _ (v s : List ℕ) where
-  entry-rows : (i : ℕ) → OfRows scriptRows (script.entryCheck v s i)
-  unfolding script.entryCheck occurs
-  entry-rows i =
-      let e = entryAt s i in
-      then-rows scriptRows (require (script.kindFits e) 15 i) _ (own (script.kindFits e) 15 i refl)
-      (then-rows scriptRows (require (script.unusedFits e) 16 i) _ (own (script.unusedFits e) 16 i refl)
-      (then-rows scriptRows (require (script.termFits v s i (lineOf e)) 17 i) _ (own (script.termFits v s i (lineOf e)) 17 i refl)
-      (own (script.lineFits v s i (lineOf e)) 18 i refl)))
+-- at whatever places
+abbrev Row : ℕ → ℕ → Type 0
+Row n p = occurs n scriptRows ≡ true
 
-  next-rows : (i : ℕ) → OfRows scriptRows (script.linkCheck s i)
-  unfolding script.linkCheck occurs
-  next-rows i = own (script.nextFits s i) 19 i refl
+any-place : (n i : ℕ) → isRow n ≡ true → Unit {0} → Row n i
+any-place n i h q = script-row n h
 
-  form-rows : OfRows scriptRows (script.formCheck v s)
-  unfolding script.formCheck occurs
-  form-rows =
-      let q = queryOf s in
-      let entered = turns-rows scriptRows (script.entryCheck v s) (entries s - 1) 1 entry-rows in
-      let linked = turns-rows scriptRows (script.linkCheck s) (entries s - 1) 1 next-rows in
-      then-rows scriptRows (script.lengthCheck s) _ (own (script.lengthFits s) 13 0 refl)
-      (then-rows scriptRows (script.headerCheck s) _ (own (script.headerFits (entryAt s 0)) 14 0 refl)
-      (then-rows scriptRows (script.queryCheck v q) _
-      (then-rows scriptRows (termCheck v (q .a)) _ (term-rows scriptRows refl v (q .a)) (term-rows scriptRows refl v (q .b)))
-      (then-rows scriptRows (script.entriesCheck v s) _
-      (then-rows scriptRows (require (ltb 1 (entries s)) 17 1) _ (own (ltb 1 (entries s)) 17 1 refl) entered)
-      (then-rows scriptRows (require (script.linkFits s 0 (firstStep s)) 19 0) _
-      (own (script.linkFits s 0 (firstStep s)) 19 0 refl)
-      linked))))
+each : (is : List ℕ) → All (λ i. Unit {0}) is
+each [] = tt
+each (i ∷ is) = (tt, each is)
 
--- a run over any literals
-module _ {A L : Type 0} (g : Setting A L) where
-  step-rows : (i : ℕ) (frames : Frames L) (step : Step A) → OfRows scriptRows (stepCheck g i frames step)
-  unfolding stepCheck occurs
-  step-rows i frames step =
-      then-rows scriptRows (require (not (isNil frames)) 25 i) _ (own (not (isNil frames)) 25 i refl)
-      (then-rows scriptRows (require (not (isStart step)) 20 i) _ (own (not (isStart step)) 20 i refl)
-      (then-rows scriptRows (require (connects g frames step) 21 i) _ (own (connects g frames step) 21 i refl)
-      (then-rows scriptRows (require (reduces g frames step) 22 i) _ (own (reduces g frames step) 22 i refl)
-      (own (hasRoom g frames step) 23 i refl))))
-
-  module _ (steps : ℕ → Step A) where
-    run-rows : (is : List ℕ) (frames : Frames L) (last : ℕ) → OfRows scriptRows (run g steps frames last is)
-    unfolding run occurs
-    run-rows [] frames last = own (isNil frames) 24 last refl
-    run-rows (i ∷ is) frames last =
-        then-rows scriptRows (stepCheck g i frames (steps i)) _ (step-rows i frames (steps i))
-        (run-rows is (stepped g frames (steps i)) i)
-
-    chain-rows : (is : List ℕ) → OfRows scriptRows (chainCheck g steps is)
-    unfolding chainCheck occurs
-    chain-rows [] = refl
-    chain-rows (i ∷ is) =
-        then-rows scriptRows (require (isStart (steps i)) 20 i) _ (own (isStart (steps i)) 20 i refl)
-        (run-rows is (stepped g [] (steps i)) i)
+of-rows : (c : Check) → Refusals Row c → OfRows scriptRows c
+of-rows (accepted x) h = tt
+of-rows (refused n p) h = h
 
 pub script-rows : (v s : List ℕ) → OfRows scriptRows (scriptCheck v s)
-unfolding scriptCheck
+unfolding scriptCheck occurs
 script-rows v s =
+    let ran = chainCheck (writtenOut v (queryOf s)) (stepAt s) (chain s) in
+    let vocabulary = vocabulary-rows (13 ∷ 14 ∷ 10 ∷ 15 ∷ 16 ∷ 17 ∷ 18 ∷ 19 ∷ 25 ∷ 20 ∷ 21 ∷ 22 ∷ 23 ∷ 24 ∷ []) v in
+    let form = of-rows (formCheck v s) (form-refusals Row (λ i. Unit {0}) any-place v s refl refl tt (λ e i h. tt)) in
     let paper = writtenOut v (queryOf s) in
-    let first = vocabulary-rows (13 ∷ 14 ∷ 10 ∷ 15 ∷ 16 ∷ 17 ∷ 18 ∷ 19 ∷ 25 ∷ 20 ∷ 21 ∷ 22 ∷ 23 ∷ 24 ∷ []) v in
-    then-rows scriptRows (vocabularyCheck v) _ first
-    (then-rows scriptRows (script.formCheck v s) _ (form-rows v s)
-    (then-rows scriptRows (chainCheck paper (stepAt s) (chain s)) (accepted (length (chain s)))
-    (chain-rows paper (stepAt s) (chain s)) tt))
+    let chained = chain-refusals Row (λ i. Unit {0}) any-place paper (stepAt s) (chain s) tt (each (chain s)) in
+    then-rows scriptRows (vocabularyCheck v) _ vocabulary
+    (then-rows scriptRows (formCheck v s) _ form
+    (then-rows scriptRows ran (accepted (length (chain s))) (of-rows ran chained) tt))

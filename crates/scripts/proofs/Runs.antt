@@ -12,15 +12,16 @@ use mathlib.Core.List.{List, [], _∷_, map, _++_, append-assoc, append-nil}
 use lib.ListN.{length}
 use borrow.Author.Tests.{lt-ltb}
 use Rattle.records.specs.Outcome.{pass}
-use Rattle.columns.specs.Literals.{SkolemTerm, Literal, complement}
+use Rattle.columns.specs.Literals.{complement}
 use Rattle.columns.specs.Columns.{Query}
 use Rattle.scripts.specs.Format.{queryOf}
-use Rattle.scripts.specs.Steps.{Step, start}
+use Rattle.scripts.specs.Steps.{start}
 use Rattle.scripts.specs.Calculus.{onPath, Derivation, ended, reduced, extended, steps, height, frameLimit}
 use Rattle.scripts.specs.Calculus.{startColumn, Derives}
-use Rattle.scripts.specs.Run.{Frames, close, extendBy, chainCheck, writtenOut, stepAt}
+use Rattle.scripts.specs.Run.{close, extendBy, chainCheck, writtenOut, stepAt}
 use Rattle.scripts.proofs.Played.{passes-true, plays, begins, chain-begins}
-use Rattle.scripts.proofs.Closing.{Literals, goals, room, close-goal, reduction-plays, extension-plays, start-open}
+use Rattle.scripts.proofs.Closing.{Literals, OpenFrames, Steps, goals, room, close-goal, reduction-plays}
+use Rattle.scripts.proofs.Closing.{extension-plays, start-open}
 
 module _ (v : List ℕ) (q : Query) where
   height-room : {c path : Literals} (n : ℕ) (d : Derivation v q c path) → height d ≤ frameLimit - n → room c n ≡ true
@@ -29,7 +30,7 @@ module _ (v : List ℕ) (q : Query) where
   height-room n (reduced f l p d) h = lt-ltb n frameLimit (omega arith)
   height-room n (extended e l p above d) h = lt-ltb n frameLimit (omega arith)
 
-  runs : {c path : Literals} (d : Derivation v q c path) (frames : Frames (Literal SkolemTerm)) (rest : List (Step SkolemTerm)) → path ≡ goals frames
+  runs : {c path : Literals} (d : Derivation v q c path) (frames : OpenFrames) (rest : Steps) → path ≡ goals frames
       → height d ≤ frameLimit - length frames
       → plays (writtenOut v q) (steps d ++ rest) (extendBy c frames) ≡ plays (writtenOut v q) rest (extendBy [] frames)
   unfolding steps height extendBy
@@ -52,7 +53,7 @@ module _ (v : List ℕ) (q : Query) where
   unfolding plays extendBy close
   start-begins n d h k =
       ap (plays (writtenOut v q) (steps d)) (start-open v q n h)
-      ∙ ap (λ (list : List (Step SkolemTerm)). plays (writtenOut v q) list (extendBy (startColumn v q n) [])) (sym (append-nil (steps d)))
+      ∙ ap (λ (list : Steps). plays (writtenOut v q) list (extendBy (startColumn v q n) [])) (sym (append-nil (steps d)))
       ∙ runs d [] [] refl k
 
 pub derives-chain : (v s : List ℕ) (is : List ℕ) → Derives v (queryOf s) (map (stepAt s) is)

@@ -8,7 +8,7 @@ use Prim.Native.Nat.{ℕ}
 use mathlib.Core.Path.{_≡_, refl}
 use mathlib.Core.List.{List, map}
 use lib.ListN.{length}
-use Rattle.records.specs.Outcome.{Outcome, Check, accepted, refused, pass, _then_}
+use Rattle.records.specs.Outcome.{Outcome, accepted, refused, pass, _then_}
 use Rattle.records.specs.Check.{vocabularyCheck}
 use Rattle.records.proofs.Passed.{clash, then-passed}
 use Rattle.records.proofs.Accepted.{accepted-vocabulary}

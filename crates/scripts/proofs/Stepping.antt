@@ -23,9 +23,9 @@ use Rattle.records.specs.declared.answers.Checked.the-variants.{Refused}
 use Rattle.records.proofs.Passed.{clash, both-right}
 use Rattle.columns.specs.Packed.{listed}
 use Rattle.scripts.specs.Steps.{Extension, start, extension, reduction}
-use Rattle.scripts.specs.Format.{entryAt, extensionOf, kindOf, lineOf, isStep, stepOf, recordStep}
+use Rattle.scripts.specs.Format.{entryAt, extensionOf, kindOf, isStep, stepOf, recordStep}
 use Rattle.scripts.specs.Calculus.{frameLimit}
-use Rattle.scripts.specs.Run.{isNil, isStart, Frames, close, extendBy, goal, leaves, stepCheck, stepped}
+use Rattle.scripts.specs.Run.{isNil, isStart, Frames, extendBy, goal, leaves, stepCheck, stepped}
 use Rattle.scripts.specs.Codes.{opposed}
 use Rattle.scripts.specs.Machine.{opened, framesFrom}
 use Rattle.scripts.specs.Numbered.{noNumber, numbered}

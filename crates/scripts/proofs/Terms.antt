@@ -11,11 +11,10 @@
 --   term-first, term-applied                 their terms
 --   apply-valid, apply-small, apply-term     the code of a function at a term record
 --   code-valid, code-small, code-term        the code of a term record
---   first-record, first-term                 record 1 is a term record, the constant's
 --   apply-unique, unique-step, term-unique   no two term records have one term
 --   code-apply, code-unique, code-same       two codes are equal if their terms are
 -- Assumes nothing.
-use Prim.Native.Nat.{ℕ, zero, suc, _+_, _*_, _/_, _%_, _≤_, _<_}
+use Prim.Native.Nat.{ℕ, zero, suc, _*_, _/_, _%_, _≤_, _<_}
 use native.Mathlib.Omega.{arith}
 use native.Mathlib.Decide.{decLt}
 use mathlib.Core.Path.{_≡_, refl, sym, ap, subst, _∙_}
@@ -28,7 +27,6 @@ use borrow.Author.Tests.{ltb-true, eqb-true, eq-eqb, ne-eqb, not-true}
 use Rattle.records.specs.Format.{recordAt, count, wordAt}
 use Rattle.records.specs.Kinds as vocabulary
 use Rattle.records.proofs.Passed.{clash, both-left, both-right, any-at}
-use Rattle.records.proofs.Ranges.{between}
 use Rattle.records.proofs.Accepted.{Accepted}
 use Rattle.types.proofs.InOrder.{in-order}
 use Rattle.types.proofs.Tests.{same-truth}
@@ -40,7 +38,6 @@ use Rattle.scripts.specs.Format.{Kind, kindOf, lineAt, isTerm, termOf, t
 use Rattle.scripts.specs.Form.{allZero, unusedFits, earlierTerm, isFunction, repeats, repeated, isNamed, functionFits}
 use Rattle.scripts.specs.Form.{termFits}
 use Rattle.scripts.specs.Codes.{functionLimit, codeOf, codeAt, codeTerm}
-use Rattle.scripts.specs.declared.entry.Entry.{Entry}
 use Rattle.scripts.proofs.Lines.{kind-past}
 use Rattle.scripts.proofs.Formed.{Formed}
 
@@ -109,19 +106,6 @@ term-kind k e = at (eqb k 1) refl e
 same-true : (b : Bool) → Bool·beq true b ≡ true → b ≡ true
 same-true true e = refl
 same-true false e = e
-
-same-as-true : (b : Bool) → Bool·beq b true ≡ true → b ≡ true
-same-as-true true e = refl
-same-as-true false e = e
-
--- of the kinds 1 to 5, only 1 says `named`
-named-kind : (e : Entry) (k : ℕ) → 1 ≤ k → k < 6 → isNamed (kindOf k .says e) ≡ true → k ≡ 1
-unfolding kindOf
-named-kind e =
-    between (λ k. isNamed (kindOf k .says e) ≡ true → k ≡ 1) 5 1 (
-      λ q. refl,
-      (λ q. absurd (clash (cc)), (λ q. absurd (clash (cc)), (λ q. absurd (clash (cc)), (λ q. absurd (clash (cc)), tt)))),
-    )
 
 module _ (s : List ℕ) (n : ℕ) where
   -- what a term record says
@@ -286,22 +270,6 @@ module _ (v s : List ℕ) (good : Accepted v) (f : Formed v s) where
       at (inl r) = ap (codeTerm s) (first-code n r) ∙ code-zero s ∙ sym (term-first n r)
       at (inr r) =
           apply-term (entryAt s n .w1) (entryAt s n .w2) (r .positive) (r .small) (r .inner) ∙ sym (term-applied n r)
-
-  pub first-record : TermRecord s 1
-  first-record =
-      let l = lineAt s 1 in
-      let fit = f .terms 1 (omega arith) (f .present) in
-      let is = both-left (Bool·beq (isNamed l) true) (functionFits v s 1 l) fit in
-      let range = f .kinds 1 (omega arith) (f .present) in
-      let kind = named-kind (entryAt s 1) (entryAt s 1 .w0) (range .0) (omega (arith, range .1)) (same-as-true (isNamed l) is) in
-      record { within = f .present; term = rw kind }
-
-  pub first-term : termAt s 1 ≡ constant
-  first-term = at (term-record 1 first-record)
-    where
-      at : First s 1 ⊎ Applied v s 1 → termAt s 1 ≡ constant
-      at (inl r) = term-first 1 r
-      at (inr r) = absurd (omega (arith, term-positive (entryAt s 1 .w2) (r .inner), r .earlier))
 
   module _ (n m : ℕ) (e : termAt s n ≡ termAt s m) where
     -- two terms are one where their parts are

@@ -10,7 +10,6 @@ use native.Mathlib.Omega.{arith}
 use mathlib.Core.Path.{_≡_, refl, sym, ap, ap₂}
 use mathlib.Core.Bool.{Bool, true, false}
 use mathlib.Core.List.{List, [], _∷_, map}
-use mathlib.Core.Logic.{inl}
 use Rattle.records.proofs.Accepted.{Accepted, All}
 use Rattle.columns.specs.Literals.{SkolemTerm, constant, apply, Literal, concept, role, substitute}
 use Rattle.columns.specs.Columns.{Argument, x, y, fx, a, Column, columnsAt, columnAt, arguments, instanceAt}
@@ -33,7 +32,8 @@ pub record Means (s : List ℕ) (n : ℕ) (l : Literal SkolemTerm) : Type 0 wher
   pub number : n ≡ packed literal
   pub meant : l ≡ substitute (codeTerm s) literal
 
-pub about-constant : (s : List ℕ) (b : Bool) (i : ℕ) → i < predicateLimit → Means s (packed (concept b i 0)) (concept b i constant)
+pub about-constant : (s : List ℕ) (b : Bool) (i : ℕ) → i < predicateLimit
+    → Means s (packed (concept b i 0)) (concept b i constant)
 about-constant s b i h =
     record {
       literal = concept b i 0;

@@ -44,7 +44,8 @@ pub data Derivation (v : List ℕ) (q : Query) : List (Literal SkolemTerm) → L
       → Derivation v q (others v q e) (l ∷ path) → Derivation v q c path → Derivation v q (l ∷ c) path
 
 -- Its steps, in the order in which they close goals: "The goal is always the first open literal of the last frame."
-unfoldable pub steps : {v : List ℕ} {q : Query} {c path : List (Literal SkolemTerm)} → Derivation v q c path → List (Step SkolemTerm)
+unfoldable pub steps : {v : List ℕ} {q : Query} {c path : List (Literal SkolemTerm)} → Derivation v q c path
+    → List (Step SkolemTerm)
 steps ended = []
 steps (reduced f l p d) = reduction f ∷ steps d
 steps (extended e l p above d) = extension e ∷ steps above ++ steps d

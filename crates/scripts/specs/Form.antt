@@ -87,14 +87,17 @@ yFits s i true y = earlierTerm s i y
 yFits s i false y = eqb y 0
 
 -- "extension's owner, column or position not one that exists", "or a statement off the chain": that one has no column.
-abbrev pub extensionFits : List ℕ → ℕ → Extension ℕ → Column → Bool
-extensionFits s i e c =
+abbrev pub columnFits : List ℕ → ℕ → Extension ℕ → Column → Bool
+columnFits s i e c =
     ltb (e .position) (length c) && (xFits s i (e .owner) (e .first) && yFits s i (takesY c) (e .second))
+
+abbrev pub extensionFits : List ℕ → List ℕ → ℕ → Query → Extension ℕ → Bool
+extensionFits v s i q e = columnFits s i e (columnAt v q (e .owner) (e .column))
 
 -- Row 18; "start's w1 over 1"
 abbrev pub stepFits : List ℕ → List ℕ → ℕ → Step ℕ → Bool
 stepFits v s i (start n) = leb n 1
-stepFits v s i (extension e) = extensionFits s i e (columnAt v (queryOf s) (e .owner) (e .column))
+stepFits v s i (extension e) = extensionFits v s i (queryOf s) e
 stepFits v s i (reduction f) = true
 
 abbrev pub lineFits : List ℕ → List ℕ → ℕ → Line → Bool

@@ -8,7 +8,7 @@ use Rattle.records.specs.Format.{wordAt}
 use Rattle.records.specs.Chain.{follow}
 use Rattle.types.specs.Below.{inRecordOrder}
 use Rattle.columns.specs.Literals.{SkolemTerm, constant, apply}
-use Rattle.columns.specs.Columns.{Query}
+use Rattle.columns.specs.Columns.{Query, within}
 use Rattle.scripts.specs.Steps.{Extension, Step, start, extension, reduction}
 use Rattle.scripts.specs.declared.entry.Entry.{Entry}
 
@@ -46,7 +46,7 @@ entryLimit = 2048
 
 -- "Record 0: .. w1 and w2 the query's A and B, w3 the first step or 0."
 abbrev pub queryIn : Entry → Query
-queryIn e = record { a = e .w1; b = e .w2 }
+queryIn e = within (e .w1) (e .w2)
 
 abbrev pub queryOf : List ℕ → Query
 queryOf s = queryIn (entryAt s 0)

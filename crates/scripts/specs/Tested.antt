@@ -13,6 +13,7 @@ use Rattle.scripts.specs.Format.{entryAt, nextStep, recordStep, chainFro
 use Rattle.scripts.specs.Calculus.{frameLimit}
 use Rattle.scripts.specs.Run.{Frames, isNil, extendBy, meets, leaves, stepCheck, stepped, run, chainCheck}
 use Rattle.scripts.specs.Codes.{opposed}
+use Rattle.scripts.specs.Machine.{framesFrom}
 use Rattle.scripts.specs.Numbered.{noNumber, numbered}
 use Rattle.scripts.specs.declared.run.Tested.{Tested}
 
@@ -40,6 +41,10 @@ pub record StepTested (v s : List ℕ) (i : ℕ) (frames : Frames ℕ) (t : Test
       → extendBy (literals (t .others)) frames ≡ stepped (numbered v s) frames (recordStep s i)
   pub room : checked (t .answer) ≡ pass → 0 < t .others .first → length frames < frameLimit
   pub reduced : entryAt s i .w0 ≡ 5 → t .others .first ≡ 0
+
+-- The same where the frames are a machine's.
+abbrev pub TestedAt : List ℕ → List ℕ → ℕ → List ℕ → List ℕ → ℕ → Tested → Type 0
+TestedAt v s i table closed depth t = StepTested v s i (framesFrom table closed depth) t
 
 -- The steps after record i, and the outcome of a run over them.
 abbrev pub stepsAfter : List ℕ → ℕ → List ℕ

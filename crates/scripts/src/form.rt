@@ -15,7 +15,7 @@ ghost use mathlib.Core.List.{[], _∷_};
 ghost use Prim.Native.Nat.{_+_, _*_, _^_};
 ghost use lib.ListN.{length};
 ghost use Rattle.records.specs.Answers.{checked};
-ghost use Rattle.columns.specs.Columns.{Query, columnAt};
+ghost use Rattle.columns.specs.Columns.{Query};
 ghost use Rattle.columns.specs.Packed.{Marked};
 ghost use Rattle.scripts.specs.Format.{entrySize, entryOf, queryIn, firstStep, extensionOf, lineOf};
 ghost use Rattle.scripts.specs.Form.{lengthFits, allZero, headerFits, queryCheck, kindFits};
@@ -214,7 +214,7 @@ fn y_fits(s: &[u8], i: usize, taken: bool, y: u16) -> bool
 fn extension_fits(v: &[u8], marks: &[bool; Record::LIMIT], s: &[u8], i: usize, e: Entry) -> bool
     requires { ⌜ Marked (now v) (now marks) ⌝ }
     requires { ⌜ HasBefore (now s) i ⌝ }
-    ensures { λ r. ⌜ ((q : Query) → r ≡ extensionFits (now (s .entry)) i (extensionOf e) (columnAt (now (v .entry)) q (e .w1) (e .w2))) ⌝ }
+    ensures { λ r. ⌜ ((q : Query) → r ≡ extensionFits (now (v .entry)) (now (s .entry)) i q (extensionOf e)) ⌝ }
 {
     let shape = column_shape(v, marks, e.w1, e.w2);
     if e.w5 as usize >= shape.size {

@@ -24,10 +24,10 @@ ghost use Rattle.columns.specs.Packed.{literals};
 ghost use Rattle.scripts.specs.Format.{extensionOf};
 ghost use Rattle.scripts.specs.Calculus.{frameLimit};
 ghost use Rattle.scripts.specs.Run.{isNil, extendBy};
-ghost use Rattle.scripts.specs.Codes.{codeAt, opposed};
+ghost use Rattle.scripts.specs.Codes.{codeOf, codeAt, opposed};
 ghost use Rattle.scripts.specs.Machine.{places, framesFrom, framesOf, Standing, Shows};
 ghost use Rattle.scripts.specs.Numbered.{secondCode, usedNumbers};
-ghost use Rattle.scripts.specs.Tested.{reducesTo, ExtensionTested, StepTested, runAfter, chainOutcome};
+ghost use Rattle.scripts.specs.Tested.{reducesTo, ExtensionTested, TestedAt, runAfter, chainOutcome};
 ghost use Rattle.scripts.specs.Answers.{judged};
 ghost use Rattle.scripts.specs.Ready.{HasEntry, Ready, IsStep, IsExtension};
 
@@ -38,13 +38,20 @@ pub struct Tested {
     pub others: Column,
 }
 
-// The term of a record as a number (specs/Codes.antt).
+// Function f at the term of record t as a number (specs/Codes.antt).
+fn code_of(f: u16, t: u16) -> u32
+    ensures { λ r. ⌜ r ≡ codeOf f t ⌝ }
+{
+    f as u32 + 512 * (t as u32)
+}
+
+// The term of a record as a number.
 fn term_code(s: &[u8], n: u16) -> u32
     requires { ⌜ HasEntry (now s) n ⌝ }
     ensures { λ r. ⌜ r ≡ codeAt (now (s .entry)) n ⌝ }
 {
     let e = read_entry(s, n as usize);
-    e.w1 as u32 + 512 * (e.w2 as u32)
+    code_of(e.w1, e.w2)
 }
 
 fn second_code(s: &[u8], n: u16) -> u32
@@ -72,7 +79,7 @@ fn used_column(
 {
     let x = term_code(s, e.w3);
     let y = second_code(s, e.w4);
-    let fx = e.w1 as u32 + 512 * (e.w3 as u32);
+    let fx = code_of(e.w1, e.w3);
     find_column(
         v,
         marks,
@@ -165,7 +172,7 @@ fn test_step(
     requires { ⌜ Ready (now v) (now s) (now marks) header ⌝ }
     requires { ⌜ IsStep (now s) i ⌝ }
     requires { ⌜ Standing (now table) (now closed) depth ⌝ }
-    ensures { λ r. ⌜ StepTested (now (v .entry)) (now (s .entry)) i (framesFrom (now (table .entry)) (now (closed .entry)) depth) r ⌝ }
+    ensures { λ r. ⌜ TestedAt (now (v .entry)) (now (s .entry)) i (now (table .entry)) (now (closed .entry)) depth r ⌝ }
 {
     let answer = pass_if(depth != 0, 25, i);
     let Checked::Fine = answer else {

@@ -8,13 +8,11 @@ use Prim.Native.Nat.{ℕ, zero, suc, _+_, _≤_, _<_}
 use native.Mathlib.Omega.{arith}
 use native.Mathlib.Decide.{decLt}
 use mathlib.Core.Path.{_≡_, refl, sym, ap, subst}
-use mathlib.Core.Bool.{Bool, true, false, not, _&&_, _||_, and-false}
+use mathlib.Core.Bool.{Bool, true, false, not, _&&_, _||_}
 use lib.ListN.{List·getD-eq-default}
-use lib.Dec.{leb, eqb}
-use borrow.Author.Tests.{ne-eqb, lt-leb}
-use Rattle.records.specs.Kinds.{kindOf, constructOf, isAtom}
+use Rattle.records.specs.Kinds.{kindOf, constructOf}
 use Rattle.records.specs.declared.fields.Record.{Record}
-use Rattle.records.proofs.Ranges.{between, atom-range}
+use Rattle.records.proofs.Ranges.{between}
 use Rattle.records.proofs.Passed.{clash}
 use Rattle.records.proofs.Constructs.{Earlier, says-past}
 use Rattle.types.specs.Below.{bit}

@@ -44,19 +44,24 @@ element-copy-out-has-columns c = omega (arith, good (c .before .before .before .
 has-columns-requires : tie.Need-has-columns-requires
 has-columns-requires c κs = search needs
 
+-- Places: the start, where the owner is a record.
+abbrev owned : tie.After-has-columns → tie.Else1
+owned c = c .before .before .before .before
+
+abbrev start : tie.After-has-columns → tie.Start
+start c = owned c .before .before
+
 -- whether the record states something
-stated : (c : tie.After-has-columns)
-    → let a = c .before .before .before .before .before .before .args in c .has-columns .result ≡ states (now (a .v)) (a .owner)
+stated : (c : tie.After-has-columns) → let a = start c .args in c .has-columns .result ≡ states (now (a .v)) (a .owner)
 stated c =
-    let b = c .before .before .before .before .before .before in
-    let a = b .args in
-    c .has-columns .ensures (now (a .v)) (a .owner) (c .before .before .read-at .ensures) (b .pre .marked (a .owner))
+    let a = start c .args in
+    c .has-columns .ensures (now (a .v)) (a .owner) (c .before .before .read-at .ensures) (start c .pre .marked (a .owner))
 
 returns-3 : tie.Need-returns-3
 returns-3 c =
     let h = c .before in
-    let e = h .before .before .before .before in
-    let a = e .before .before .args in
+    let e = owned h in
+    let a = start h .args in
     λ q. none-shape (now (a .v)) q (a .n) _ (a .owner)
     (columns-silent (now (a .v)) q (a .owner) (e .if1 .left) (sym (stated h) ∙ not-true _ (c .if3 .taken))) refl refl
 
@@ -69,8 +74,8 @@ group-takes-y-requires c κs = search needs
 returns-4 : tie.Need-returns-4
 returns-4 c =
     let h = c .before .before .before in
-    let e = h .before .before .before .before in
-    let a = e .before .before .args in
+    let e = owned h in
+    let a = start h .args in
     let read = h .before .before .read-at .ensures in
     λ q. record-shape (now (a .v)) q (a .n) _ (a .owner)
     (columns-record (now (a .v)) q (a .owner) (e .if1 .left) (sym (stated h) ∙ not-false _ (c .before .before .if3 .left)))

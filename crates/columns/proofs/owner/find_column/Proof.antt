@@ -44,13 +44,18 @@ element-copy-out-has-columns c = omega (arith, good (c .before .before .before .
 has-columns-requires : tie.Need-has-columns-requires
 has-columns-requires c κs = search needs
 
+-- Places: the start, where the owner is a record.
+abbrev owned : tie.After-has-columns → tie.Else1
+owned c = c .before .before .before .before
+
+abbrev start : tie.After-has-columns → tie.Start
+start c = owned c .before .before
+
 -- whether the record states something
-stated : (c : tie.After-has-columns)
-    → let a = c .before .before .before .before .before .before .args in c .has-columns .result ≡ states (now (a .v)) (a .owner)
+stated : (c : tie.After-has-columns) → let a = start c .args in c .has-columns .result ≡ states (now (a .v)) (a .owner)
 stated c =
-    let b = c .before .before .before .before .before .before in
-    let a = b .args in
-    c .has-columns .ensures (now (a .v)) (a .owner) (c .before .before .read-at .ensures) (b .pre .0 .marked (a .owner))
+    let a = start c .args in
+    c .has-columns .ensures (now (a .v)) (a .owner) (c .before .before .read-at .ensures) (start c .pre .0 .marked (a .owner))
 
 none-requires-2 : tie.Need-none-requires-2
 none-requires-2 c κs = search needs
@@ -58,8 +63,8 @@ none-requires-2 c κs = search needs
 returns-3 : tie.Need-returns-3
 returns-3 c =
     let h = c .before .before in
-    let e = h .before .before .before .before in
-    let a = e .before .before .args in
+    let e = owned h in
+    let a = start h .args in
     c .none2 .ensures
     ∙ none-at _ _ _ _ _
     (columns-silent (now (a .v)) record { a = a .a; b = a .b } (a .owner) (e .if1 .left)
@@ -71,8 +76,8 @@ group-column-requires c κs = search needs
 returns-4 : tie.Need-returns-4
 returns-4 c =
     let h = c .before .before in
-    let e = h .before .before .before .before in
-    let a = e .before .before .args in
+    let e = owned h in
+    let a = start h .args in
     c .group-column .ensures
     ∙ rw (h .before .before .read-at .ensures)
     (same-at _ _ _ _ _ _

@@ -10,8 +10,7 @@ use Rattle.records.specs.Answers.{checked}
 use Rattle.records.proofs.Accepted.{accepted-well-formed}
 use Rattle.records.proofs.Order.{asked, passed}
 use Rattle.scripts.specs.Form.{lengthCheck, formCheck}
-use Rattle.scripts.specs.Ready.{Begun}
-use Rattle.scripts.proofs.Lines.{length-passed}
+use Rattle.scripts.proofs.Formed.{length-sized}
 use Rattle.scripts.proofs.Outcomes.{vocabulary-at, refused-vocabulary, refused-length, refused-form, decided}
 use Rattle.scripts.proofs.call.check_script.Statement.{statement}
 use Rattle.scripts.proofs.call.check_script.Tie as tie
@@ -90,7 +89,7 @@ mark-chain-requires c κs = accepted-well-formed _ _ (accepts (taken (long c)))
 
 read-entry-requires : tie.Need-read-entry-requires
 read-entry-requires c κs =
-    let s = now (start (taken (long (c .before))) .args .s) in omega (arith, length-passed s (sized (c .before)))
+    let s = now (start (taken (long (c .before))) .args .s) in omega (arith, length-sized s (sized (c .before)) .least)
 
 check-form-requires : tie.Need-check-form-requires
 check-form-requires c κs =

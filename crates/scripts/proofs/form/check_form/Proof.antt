@@ -47,7 +47,8 @@ head : (c : tie.After-pass-if) → checked (c .pass-if .result) ≡ require (hea
 head c = asked _ _ _ _ _ (c .pass-if .ensures) (c .before .header-fits .ensures)
 
 decides : (b : tie.Start) → let a = b .args in
-    (require (headerFits (a .header)) 14 0 then asking (now (a .v)) (now (a .s)) (a .header)) ≡ formCheck (now (a .v)) (now (a .s))
+    (require (headerFits (a .header)) 14 0 then asking (now (a .v)) (now (a .s)) (a .header))
+    ≡ formCheck (now (a .v)) (now (a .s))
 decides b = form-left (now (b .args .v)) (now (b .args .s)) (b .args .header) (b .pre .sized) (b .pre .read)
 
 past-header : (c : tie.After-enum-told) (o : Check)

@@ -1,6 +1,6 @@
 -- `scripts::form::extension_fits` meets its contract. The column's shape tells whether the position exists and a y is needed.
 -- Assumes nothing.
-use mathlib.Core.Path.{_≡_, ap, _∙_}
+use mathlib.Core.Path.{ap, _∙_}
 use mathlib.Core.Bool.{Bool}
 use denote.Ref.{now}
 use borrow.Author.Needs.{needs}

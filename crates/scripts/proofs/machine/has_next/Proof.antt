@@ -1,6 +1,5 @@
 -- `scripts::machine::has_next` meets its contract: it tells whether a literal is open after the goal.
 -- Assumes nothing.
-use native.Mathlib.Omega.{arith}
 use denote.Ref.{now}
 use borrow.Author.Needs.{needs}
 use Rattle.scripts.proofs.Frames.{goal-next, goal-last}

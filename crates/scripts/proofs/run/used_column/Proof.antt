@@ -29,10 +29,10 @@ second-within s n (inl z) h = rw z h
 second-within s n (inr t) h = omega (arith, t .within)
 
 -- the column at the codes that were found
-used-as : (v s : List ℕ) (h : Entry) (e : Extension ℕ) (cx cy : ℕ) → h ≡ entryAt s 0 → cx ≡ codeAt s (e .first)
-    → cy ≡ secondCode s (e .second)
-    → packedAt cx cy (codeOf (e .owner) (e .first)) (columnAt v (queryIn h) (e .owner) (e .column)) ≡ usedNumbers v s e
-used-as v s h e cx cy r p q = rw (r, p, q)
+used-as : (v s : List ℕ) (h : Entry) (e : Extension ℕ) (cx cy cf : ℕ) → h ≡ entryAt s 0 → cx ≡ codeAt s (e .first)
+    → cy ≡ secondCode s (e .second) → cf ≡ codeOf (e .owner) (e .first)
+    → packedAt cx cy cf (columnAt v (queryIn h) (e .owner) (e .column)) ≡ usedNumbers v s e
+used-as v s h e cx cy cf r p q i = rw (r, p, q, i)
 
 good : (c : tie.Start) → Accepted (now (c .args .v))
 good c = accepted-vocabulary _ _ (c .pre .0 .begun .marked .vocabulary)
@@ -51,17 +51,8 @@ second-code-requires : tie.Need-second-code-requires
 second-code-requires c κs =
     let b = c .before .before .before in second-within _ _ (extends b .second) (form b .sized .least)
 
-cast-fx : tie.Need-cast-fx
-cast-fx c = search needs
-
-cast-fx-2 : tie.Need-cast-fx-2
-cast-fx-2 c = search needs
-
-mul-fx : tie.Need-mul-fx
-mul-fx c = search needs
-
-add-fx : tie.Need-add-fx
-add-fx c = search needs
+code-of-requires : tie.Need-code-of-requires
+code-of-requires c κs = search needs
 
 -- the codes of the two terms
 first-small : (c : tie.After-term-code) → c .term-code .result < termLimit
@@ -76,24 +67,24 @@ second-small c =
 
 find-column-requires : tie.Need-find-column-requires
 find-column-requires c κs =
-    let y = c .before .before in
+    let y = c .before in
     let b = y .before .before .before .before in
     let x = extends b in (
       b .pre .0 .begun .marked,
       record {
         first = first-small (y .before);
         second = second-small y;
-        inner = omega (arith, x .small, x .first .within, form b .sized .most);
+        inner = omega (arith, c .code-of .ensures, x .small, x .first .within, form b .sized .most);
       },
     )
 
 returns : tie.Need-returns
 returns c =
-    let y = c .before .before .before in
+    let y = c .before .before in
     let b = y .before .before .before .before in
     c .find-column .ensures
-    ∙ used-as (now (b .args .v)) (now (b .args .s)) (b .args .header) (extensionOf (b .args .e)) _ _
-    (b .pre .0 .begun .read) (y .before .term-code .ensures) (y .second-code .ensures)
+    ∙ used-as (now (b .args .v)) (now (b .args .s)) (b .args .header) (extensionOf (b .args .e)) _ _ _
+    (b .pre .0 .begun .read) (y .before .term-code .ensures) (y .second-code .ensures) (c .before .code-of .ensures)
 
 pub used-column-spec : {M : Type 1} → statement M
 used-column-spec =
@@ -101,9 +92,6 @@ used-column-spec =
     (tie.spec
     term-code-requires
     second-code-requires
-    cast-fx
-    cast-fx-2
-    mul-fx
-    add-fx
+    code-of-requires
     find-column-requires
     returns)

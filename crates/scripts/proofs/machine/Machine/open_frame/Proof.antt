@@ -54,7 +54,8 @@ returns c =
     let size : length (m .closed) ≡ frameLimit = entries-length (m .closed) _ (c .good .0 .1 .1 .1 .0 .1 .0 .1) in
     let some = listed-some (l .first) (l .second) (l .third) (c .pre .1 .1) in
     record {
-      standing = stands-push t (m .depth) (l .first) (l .second) (l .third) (m .closed) 0 _ (omega arith) deep (omega arith) some s;
+      standing = stands-push t (m .depth) (l .first) (l .second) (l .third) (m .closed) 0 _ (omega arith) deep (omega arith)
+          some s;
       shown = frames-push t (m .depth) (l .first) (l .second) (l .third) (m .closed) 0 _ (omega arith) (omega arith)
           (omega (arith, s .size));
     }

@@ -2,12 +2,11 @@
 -- Assumes nothing.
 use Prim.Native.Nat.{ℕ}
 use native.Mathlib.Omega.{arith}
-use mathlib.Core.Path.{_≡_, sym, ap, subst, _∙_}
-use mathlib.Core.List.{List, [], _∷_}
-use denote.Ref.{now}
+use mathlib.Core.Path.{sym, ap, subst, _∙_}
+use mathlib.Core.List.{_∷_}
 use Rattle.columns.specs.Packed.{literals}
 use Rattle.scripts.specs.Run.{Frames}
-use Rattle.scripts.specs.Machine.{framesFrom, Standing}
+use Rattle.scripts.specs.Machine.{Standing}
 use Rattle.scripts.proofs.Frames.{frames-none, stands-none}
 use Rattle.scripts.proofs.machine.Machine.start.Statement.{statement}
 use Rattle.scripts.proofs.machine.Machine.start.Tie as tie
