@@ -5,9 +5,8 @@ use records::fields::Record;
 use records::fields::read_at;
 ghost use mathlib.Core.Path.{_≡_};
 ghost use Prim.Native.Nat.{ℕ, _<_, _≤_};
-ghost use mathlib.Core.Bool.{false, not};
+ghost use mathlib.Core.Bool.{false};
 ghost use lib.ListN.{getD};
-ghost use lib.Dec.{eqb};
 ghost use Rattle.records.specs.Check.{IsAccepted};
 ghost use Rattle.types.specs.Below.{number};
 ghost use Rattle.types.specs.Words.{isRestriction, width, signed, Listed, Fillers, Roles, Signs};
@@ -108,20 +107,6 @@ pub fn word_of(
         m -= 1;
         let at = places[m] as usize;
         word = digit(apply_sign(signs[m], done[at])) + 2 * word;
-    }
-    word
-}
-
-// The word of the restrictions of other roles than this.
-pub fn others_of(roles: &[u16; Profile::ATOMS], bits: usize, role: u16) -> u16
-    requires { ⌜ bits ≤ atomLimit ⌝ }
-    ensures { λ r. ⌜ r ≡ number bits (λ m. not (eqb (getD (now (roles .entry)) m 0) role)) ⌝ }
-{
-    let mut word = 0;
-    let mut m = bits;
-    while m > 0 {
-        m -= 1;
-        word = digit(roles[m] != role) + 2 * word;
     }
     word
 }
