@@ -26,7 +26,6 @@ pub mod Connects
 pub mod Turns
 pub mod Spreading
 pub mod Listing
-pub mod Masks
 pub mod Sweeps
 pub mod Counted
 pub mod Profiles

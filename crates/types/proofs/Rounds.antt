@@ -1,5 +1,5 @@
 -- A round by sweeps over the roles, and the rounds one after the other.
---   full-word                                         a power of two, as the code makes it in 16 bits
+--   others-done, full-word                            the words of the other roles, and of all bits, as the code makes them
 --   AfterRoles, roles-start, roles-skip, roles-turn   what is left after the roles below r
 --   round-same, removes-same                          a round goes by the set, not by its table
 --   stage-ends, survivors-end, round-rests            a set that has nothing past the types; a round that removes nothing
@@ -25,14 +25,15 @@ use Rattle.records.specs.Check.{anyBelow}
 use Rattle.records.proofs.Passed.{clash, both-left, both-right, any-at}
 use Rattle.records.proofs.Search.{any-intro, any-elim, any-cong}
 use Rattle.records.proofs.Accepted.{Accepted, accepted-vocabulary}
-use Rattle.types.specs.Below.{allBelow, has}
+use Rattle.types.specs.Below.{allBelow, has, number}
 use Rattle.types.specs.Types.{types, served}
 use Rattle.types.specs.Survivors.{fits, round, removes, stage, rounds, survivors}
 use Rattle.types.specs.Compare.{atomLimit, typeLimit}
-use Rattle.types.specs.Words.{width, offer, reached, offered, spread, roleServed, Offers, SameSet}
-use Rattle.types.specs.Elimination.{Enters, SpreadTo, Covers, metAt, Keeps, Eliminating, AfterRound}
+use Rattle.types.specs.Words.{width, others, offer, reached, offered, spread, roleServed, Roles, Offers, SameSet}
+use Rattle.types.specs.Elimination.{otherRole, Enters, SpreadTo, Covers, metAt, Keeps, Eliminating, AfterRound}
 use Rattle.types.proofs.Tests.{same-truth, both-true, unless-false}
 use Rattle.types.proofs.Sets.{Within, table-at, table-past, table-cong}
+use Rattle.types.proofs.Bits.{number-cong}
 use Rattle.types.proofs.Largest.{has-table, Removing, stage-falls, rounds-is}
 use Rattle.types.proofs.Spread.{spread-cong}
 use Rattle.types.proofs.Turns.{Ends, types-bound}
@@ -40,6 +41,11 @@ use Rattle.types.proofs.Restrictions.{width-bound}
 use Rattle.types.proofs.Cover.{reached-small, offer-small}
 use Rattle.types.proofs.Served.{served-by-words, served-cong, role-unused}
 use Rattle.types.proofs.Sweeps.{keeps-all, keeps-both, keeps-cong, covering-less}
+
+pub others-done : (v roles : List ℕ) (bits role : ℕ) → bits ≡ width v → Roles v roles
+    → number bits (otherRole roles role) ≡ others v role
+unfolding others
+others-done v roles bits role e r = rw e (number-cong (width v) _ _ (λ m h. ap (λ (x : ℕ). not (eqb x role)) (r m h)))
 
 pub full-word : (bits : ℕ) → bits < 16 → (1 * 2 ^ bits) % 2 ^ 16 ≡ 2 ^ bits
 full-word bits h = shl-exact {a = 1} 1 bits 16 (omega arith) (omega arith) ∙ omega arith

@@ -16,13 +16,9 @@ use Rattle.types.specs.Survivors.{round, removes}
 use Rattle.types.specs.Compare.{atomLimit, typeLimit}
 use Rattle.types.specs.Words.{width, others, spread, cover, Demands, SameSet}
 
--- The roles of a vocabulary: "B the number of roles (0 to 64)".
-abbrev pub roleLimit : ℕ
-roleLimit = 64
-
--- Whether restriction m is of another role than q; a table of the words of that, one for each role.
+-- Whether restriction m is of another role than r; a table of the words of that, one for each role.
 abbrev pub otherRole : List ℕ → ℕ → ℕ → Bool
-otherRole roles q m = not (eqb (getD roles m 0) q)
+otherRole roles r m = not (eqb (getD roles m 0) r)
 
 abbrev pub Masks : List ℕ → List ℕ → Type 0
 Masks v masks = (r : ℕ) → r < roleCount v → getD masks r 0 ≡ others v r

@@ -1,5 +1,6 @@
 // Type elimination: rounds over a table of the types that are left.
 use crate::profile::Profile;
+use crate::restrict::others_of;
 use crate::words::clear_words;
 use crate::words::spread_words;
 use records::fields::Record;
@@ -11,28 +12,27 @@ ghost use lib.ListN.{length, getD};
 ghost use lib.Bits.{bitOr};
 ghost use Rattle.records.specs.Check.{IsAccepted};
 ghost use Rattle.records.specs.Atoms.{atoms};
-ghost use Rattle.types.specs.Below.{has, number};
+ghost use Rattle.types.specs.Below.{has};
 ghost use Rattle.types.specs.Types.{types};
 ghost use Rattle.types.specs.Survivors.{stage, rounds, survivors};
 ghost use Rattle.types.specs.Words.{width, Roles, Demands, Offers, SameSet};
-ghost use Rattle.types.specs.Elimination.{roleLimit, otherRole, Covering, Covers, Enters, Eliminating};
-ghost use Rattle.types.specs.Elimination.{AfterRound, Keeps, metBy, metAt};
+ghost use Rattle.types.specs.Elimination.{Masks, Covering, Covers, Enters, Eliminating, AfterRound, Keeps, metBy, metAt};
 ghost use Rattle.types.specs.Compare.{atomLimit, typeLimit};
 
-// The words of the other roles, for each role: no round works them out again. Each restriction's bit is taken out of its
-// own role's word.
-fn list_masks(roles: &[u16; Profile::ATOMS], bits: usize) -> [u16; Record::ROLES as usize]
-    requires { ⌜ bits ≤ atomLimit ⌝ }
-    requires { ⌜ ((m : ℕ) → m < bits → getD (now roles) m 0 < roleLimit) ⌝ }
-    ensures { λ r. ⌜ ((q : ℕ) → q < roleLimit → getD r q 0 ≡ number bits (otherRole (now (roles .entry)) q)) ⌝ }
+// The words of the other roles, for each role: no round works them out again.
+fn list_masks(v: &[u8], roles: &[u16; Profile::ATOMS], bits: usize) -> [u16; Record::ROLES as usize]
+    requires { ⌜ IsAccepted (now v) ⌝ }
+    requires { ⌜ atoms (now v) ≤ atomLimit ⌝ }
+    requires { ⌜ bits ≡ width (now v) ⌝ }
+    requires { ⌜ Roles (now v) (now roles) ⌝ }
+    ensures { λ r. ⌜ Masks (now (v .entry)) r ⌝ }
 {
-    let full = (1 << bits) - 1;
-    let mut masks = [full; Record::ROLES as usize];
-    let mut m = 0;
-    while m < bits {
-        let role = roles[m] as usize;
-        masks[role] = masks[role] - (1 << m);
-        m += 1;
+    let count = read_at(v, 0).b;
+    let mut masks = [0; Record::ROLES as usize];
+    let mut role = 0;
+    while role < count {
+        masks[role as usize] = others_of(roles, bits, role);
+        role += 1;
     }
     masks
 }
@@ -233,7 +233,7 @@ pub fn eliminate(
     ensures { λ _. ⌜ SameSet (now (alive .exit)) (survivors (now (v .entry))) ⌝ }
     ensures { λ r. ⌜ r ≡ rounds (now (v .entry)) ⌝ }
 {
-    let masks = list_masks(roles, bits);
+    let masks = list_masks(v, roles, bits);
     let mut live = [0; Profile::TYPES];
     let left = list_live(alive, size, &mut live);
     let mut cover = [0; Profile::TYPES];

@@ -10,6 +10,7 @@ ghost use lib.ListN.{getD};
 ghost use Rattle.records.specs.Check.{IsAccepted};
 ghost use Rattle.types.specs.Below.{number};
 ghost use Rattle.types.specs.Words.{isRestriction, width, signed, Listed, Fillers, Roles, Signs};
+ghost use Rattle.types.specs.Elimination.{otherRole};
 ghost use Rattle.records.specs.Format.{recordLimit};
 ghost use Rattle.records.specs.Atoms.{atoms};
 ghost use Rattle.types.specs.Compare.{atomLimit};
@@ -107,6 +108,20 @@ pub fn word_of(
         m -= 1;
         let at = places[m] as usize;
         word = digit(apply_sign(signs[m], done[at])) + 2 * word;
+    }
+    word
+}
+
+// The word of the restrictions of other roles than this.
+pub fn others_of(roles: &[u16; Profile::ATOMS], bits: usize, role: u16) -> u16
+    requires { ⌜ bits ≤ atomLimit ⌝ }
+    ensures { λ r. ⌜ r ≡ number bits (otherRole (now (roles .entry)) role) ⌝ }
+{
+    let mut word = 0;
+    let mut m = bits;
+    while m > 0 {
+        m -= 1;
+        word = digit(roles[m] != role) + 2 * word;
     }
     word
 }

@@ -4,20 +4,13 @@ use native.Mathlib.Omega.{arith}
 use mathlib.Core.Path.{refl, _∙_}
 use borrow.Author.Needs.{needs}
 use denote.Ref.{now}
-use Rattle.types.proofs.Masks.{roles-in, masks-done}
-use Rattle.types.proofs.Restrictions.{width-bound}
 use Rattle.types.proofs.Rounds.{stage-ends}
 use Rattle.types.proofs.Turns.{types-bound}
 use Rattle.types.proofs.eliminate.eliminate.Statement.{statement}
 use Rattle.types.proofs.eliminate.eliminate.Tie as tie
 
 list-masks-requires : tie.Need-list-masks-requires
-list-masks-requires c κs =
-    let start = c .before in
-    let p = start .pre in (
-      omega (arith, p .1 .1 .0, p .1 .0, width-bound (now (start .args .v))),
-      roles-in (now (start .args .v)) (now (start .args .roles)) (start .args .bits) (p .0) (p .1 .1 .0) (p .1 .1 .1 .0),
-    )
+list-masks-requires c κs = search needs
 
 list-live-requires : tie.Need-list-live-requires
 list-live-requires c κs =
@@ -40,8 +33,7 @@ count-rounds-requires c κs =
         accepts = p .0;
         few = p .1 .0;
         wide = p .1 .1 .0;
-        masked = masks-done (now (start .args .v)) (now (start .args .roles)) (start .args .bits) (p .0) (p .1 .1 .0)
-            (p .1 .1 .1 .0) (masked .list-masks .result) (masked .list-masks .ensures);
+        masked = masked .list-masks .ensures;
         demanded = p .1 .1 .1 .1 .0;
         listed = listed .list-live .ensures;
         ends = λ t h. same t ∙ stage-ends (now (start .args .v)) 0 t h;

@@ -1,89 +1,77 @@
--- `types::eliminate::list_masks` meets its contract. The loop's invariant: the restrictions below `m` are taken out.
+-- `types::eliminate::list_masks` meets its contract. The loop's invariant: the words of the roles below `role` are right.
 -- Assumes nothing.
-use Prim.Native.Nat.{_-_, _<_}
+use Prim.Native.Nat.{ℕ, _-_, _≤_, _<_}
 use native.Mathlib.Omega.{arith}
-use lib.ListN.{getD}
-use lib.Pow.{pow-pos}
+use mathlib.Core.Path.{_≡_, refl, ap, _∙_}
 use denote.Ref.{now}
-use Rattle.types.specs.Elimination.{roleLimit}
-use Rattle.types.proofs.Masks.{Marked, mark-start, mark-enough, mark-turn, mark-end}
-use Rattle.types.proofs.Rounds.{full-word}
+use Rattle.records.specs.Format.{roleCount, count}
+use Rattle.records.specs.declared.fields.Record.{Record}
+use Rattle.records.proofs.Accepted.{accepted-vocabulary}
+use Rattle.types.specs.Words.{others}
+use Rattle.types.proofs.Restrictions.{width-bound}
+use Rattle.types.proofs.Rounds.{others-done}
+use Rattle.types.proofs.Turns.{Filled, fill-start, fill-turn}
 use Rattle.types.proofs.eliminate.list_masks.Statement.{statement}
 use Rattle.types.proofs.eliminate.list_masks.Tie as tie
 
+-- the entries of the table
+abbrev room : ℕ
+room = 64
+
 abbrev Inv-loop : tie.InvT-loop
-Inv-loop roles bits full masks₀ m₀ masks m = Marked roleLimit bits roles masks m
+Inv-loop v roles bits count masks₀ role₀ masks role = (role ≤ roleCount v) × Filled 0 room masks (others v) role
 
 abbrev μ-loop : tie.MeasureT-loop
-μ-loop roles bits full masks₀ m₀ masks m = bits - m
+μ-loop v roles bits count masks₀ role₀ masks role = count - role
 
-cast-full : tie.Need-cast-full Inv-loop μ-loop
-cast-full c = omega arith
-
-shl-full : tie.Need-shl-full Inv-loop μ-loop
-shl-full c = omega arith
-
-sub-full : tie.Need-sub-full Inv-loop μ-loop
-sub-full c = omega (arith, full-word (c .args .bits) (omega arith), pow-pos (c .args .bits))
+read-at-requires : tie.Need-read-at-requires Inv-loop μ-loop
+read-at-requires c κs = omega (arith, accepted-vocabulary (now (c .before .args .v)) _ (c .before .pre .0) .sized .least)
 
 loop-holds : tie.Need-loop-holds Inv-loop μ-loop
-loop-holds c = mark-start roleLimit _ _ _ (omega (arith, full-word (c .args .bits) (omega arith)))
+loop-holds c = (omega arith, fill-start 0 room _ _ refl)
 
--- the restriction's role has a word
-inside : (c : tie.In-loop Inv-loop μ-loop) → getD (now (c .before .before .args .roles)) (c .before .loop .m) 0 < roleLimit
-inside c = c .before .before .pre .1 _ (c .loop-test .taken)
+others-of-requires : tie.Need-others-of-requires Inv-loop μ-loop
+others-of-requires c κs =
+    let start = c .before .before .before .before in
+    omega (arith, start .pre .1 .1 .0, start .pre .1 .0, width-bound (now (start .args .v)))
 
-mul-role : tie.Need-mul-role Inv-loop μ-loop
-mul-role c = omega arith
+-- the role is one of the vocabulary's, so of the table's
+below : (c : tie.In-loop Inv-loop μ-loop) → c .before .loop .role < roleCount (now (c .before .before .before .before .args .v))
+below c = omega (arith, c .loop-test .taken, ap (λ (r : Record). r .b) (c .before .before .read-at .ensures))
 
-element-copy-out-role : tie.Need-element-copy-out-role Inv-loop μ-loop
-element-copy-out-role c = omega arith
+inside : (c : tie.In-loop Inv-loop μ-loop) → c .before .loop .role < room
+inside c =
+    let start = c .before .before .before .before in
+    omega (arith, below c, accepted-vocabulary (now (start .args .v)) _ (start .pre .0) .roles)
 
-cast-role : tie.Need-cast-role Inv-loop μ-loop
-cast-role c = omega (arith, inside (c .before))
+cast-masks : tie.Need-cast-masks Inv-loop μ-loop
+cast-masks c = omega (arith, inside (c .before))
 
 mul-masks : tie.Need-mul-masks Inv-loop μ-loop
 mul-masks c = omega (arith, inside (c .before))
 
-array-read-masks : tie.Need-array-read-masks Inv-loop μ-loop
-array-read-masks c = omega (arith, inside (c .before))
-
-cast-masks : tie.Need-cast-masks Inv-loop μ-loop
-cast-masks c = omega arith
-
-shl-masks : tie.Need-shl-masks Inv-loop μ-loop
-shl-masks c = omega arith
-
-sub-masks : tie.Need-sub-masks Inv-loop μ-loop
-sub-masks c =
-    let turn = c .before in
-    let l = turn .before .loop in
-    omega (
-      arith,
-      full-word (l .m) (omega arith),
-      mark-enough _ _ _ _ _ (l .inv) (turn .loop-test .taken) (inside turn),
-    )
-
-mul-masks-2 : tie.Need-mul-masks-2 Inv-loop μ-loop
-mul-masks-2 c = omega (arith, inside (c .before))
-
 array-write-masks : tie.Need-array-write-masks Inv-loop μ-loop
 array-write-masks c = omega (arith, inside (c .before))
 
-add-m : tie.Need-add-m Inv-loop μ-loop
-add-m c = omega arith
+add-role : tie.Need-add-role Inv-loop μ-loop
+add-role c = omega (arith, inside (c .before))
 
 loop-less : tie.Need-loop-less Inv-loop μ-loop
 loop-less c = omega arith
 
 loop-again : tie.Need-loop-again Inv-loop μ-loop
 loop-again c =
-    let turn = c .before in
-    let l = turn .before .loop in
-    rw (full-word (l .m) (omega arith)) (mark-turn _ _ _ _ _ (l .inv) (turn .loop-test .taken) (inside turn))
+    let loop = c .before .before .loop in
+    let start = c .before .before .before .before .before in
+    let made = c .others-of .ensures ∙ others-done (now (start .args .v)) (now (start .args .roles)) (start .args .bits) (loop .role)
+    (start .pre .1 .1 .0) (start .pre .1 .1 .1) in
+    (omega (arith, below (c .before)), fill-turn 0 room _ _ _ _ (inside (c .before)) (loop .inv .1) made)
 
 returns : tie.Need-returns Inv-loop μ-loop
-returns c = mark-end _ _ _ _ _ (c .before .loop .inv) (c .loop-test .left)
+returns c =
+    let loop = c .before .loop in
+    λ r h. loop .inv .1 .right r
+    (omega (arith, c .loop-test .left, ap (λ (r : Record). r .b) (c .before .before .read-at .ensures)))
 
 pub list-masks-spec : {M : Type 1} → statement M
 list-masks-spec =
@@ -91,21 +79,13 @@ list-masks-spec =
     (tie.spec
     Inv-loop
     μ-loop
-    cast-full
-    shl-full
-    sub-full
+    read-at-requires
     loop-holds
-    mul-role
-    element-copy-out-role
-    cast-role
-    mul-masks
-    array-read-masks
+    others-of-requires
     cast-masks
-    shl-masks
-    sub-masks
-    mul-masks-2
+    mul-masks
     array-write-masks
-    add-m
+    add-role
     loop-less
     loop-again
     returns)
