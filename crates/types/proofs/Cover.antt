@@ -2,7 +2,7 @@
 --   demand-bit, offer-bit, others-bit, reached-bit           the bits of a word
 --   demand-small, offer-small, others-small, reached-small   it has no more bits than there are restrictions
 --   Offering, cover-intro, cover-elim                        the bits of a cover
---   cover-small, cover-cong                                  it has no more; it depends on what is in the set
+--   cover-small                                              it has no more
 -- Assumes nothing.
 use Prim.Native.Nat.{ℕ, _^_, _≤_, _<_}
 use native.Mathlib.Omega.{arith}
@@ -14,14 +14,14 @@ use lib.Bits.{or-lt}
 use borrow.Author.Tests.{eqb-true, eq-eqb}
 use Rattle.records.specs.Check.{anyBelow}
 use Rattle.records.proofs.Passed.{clash, both-left, both-right}
-use Rattle.records.proofs.Search.{any-intro, any-elim, any-cong}
+use Rattle.records.proofs.Search.{any-intro, any-elim}
 use Rattle.types.specs.Below.{has, bit}
 use Rattle.types.specs.Types.{types}
 use Rattle.types.specs.Words.{width, restriction, demand, offer, others, offered, cover, reached}
 use Rattle.types.proofs.Bits.{bit-number, number-small, bit-or}
 use Rattle.types.proofs.Width.{bit-past, bit-zero}
 use Rattle.types.proofs.Signed.{wants, gives, apart}
-use Rattle.types.proofs.Spread.{Inside, Under, spread-intro, spread-elim, spread-small, spread-cong}
+use Rattle.types.proofs.Spread.{Inside, Under, spread-intro, spread-elim, spread-small}
 
 -- A type of the set offers a word within x that has bit j.
 pub record Offering (v : List ℕ) (S : List Bool) (x j : ℕ) : Type 0 where
@@ -114,11 +114,3 @@ module _ (v : List ℕ) where
       at : (b : Bool) (y : ℕ) → y ≤ x → cond b y 0 < 2 ^ width v
       at true y l = omega arith
       at false y l = omega arith
-
-  pub cover-cong : (S R : List Bool) (x : ℕ) → ((s : ℕ) → s < types v → has S s ≡ has R s) → cover v S x ≡ cover v R x
-  cover-cong S R x h = spread-cong (offered v S) (offered v R) (width v) x (λ y l. at y)
-    where
-      at : (y : ℕ) → offered v S y ≡ offered v R y
-      at y =
-          ap (λ (b : Bool). cond b y 0)
-          (any-cong (offers S y) (offers R y) (types v) (λ s l. ap (λ (b : Bool). b && eqb (offer v s) y) (h s l)))

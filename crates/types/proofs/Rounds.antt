@@ -30,7 +30,7 @@ use Rattle.types.specs.Types.{types, served}
 use Rattle.types.specs.Survivors.{fits, round, removes, stage, rounds, survivors}
 use Rattle.types.specs.Compare.{atomLimit, typeLimit}
 use Rattle.types.specs.Words.{width, others, offer, reached, offered, spread, roleServed, Roles, Offers, SameSet}
-use Rattle.types.specs.Elimination.{Enters, SpreadTo, Covers, metAt, Keeps, Eliminating, AfterRound}
+use Rattle.types.specs.Elimination.{otherRole, Enters, SpreadTo, Covers, metAt, Keeps, Eliminating, AfterRound}
 use Rattle.types.proofs.Tests.{same-truth, both-true, unless-false}
 use Rattle.types.proofs.Sets.{Within, table-at, table-past, table-cong}
 use Rattle.types.proofs.Bits.{number-cong}
@@ -43,7 +43,7 @@ use Rattle.types.proofs.Served.{served-by-words, served-cong, role-unus
 use Rattle.types.proofs.Sweeps.{keeps-all, keeps-both, keeps-cong, covering-less}
 
 pub others-done : (v roles : List ℕ) (bits role : ℕ) → bits ≡ width v → Roles v roles
-    → number bits (λ m. not (eqb (getD roles m 0) role)) ≡ others v role
+    → number bits (otherRole roles role) ≡ others v role
 unfolding others
 others-done v roles bits role e r = rw e (number-cong (width v) _ _ (λ m h. ap (λ (x : ℕ). not (eqb x role)) (r m h)))
 
@@ -69,9 +69,6 @@ module _ (v : List ℕ) (S : List Bool) where
   below-turn r t = rw (add-one r)
 
   module _ (r : ℕ) (R : List Bool) (removed : Bool) (w : AfterRoles r R removed) where
-    pub roles-within : Within R S
-    roles-within t h = both-left (has S t) (below r t) (sym (w .kept t) ∙ h)
-
     pub roles-skip : ((t : ℕ) → roleServed v S t r ≡ true) → AfterRoles (r + 1) R removed
     roles-skip all =
         keeps-cong (below r) (below (r + 1)) S R removed w

@@ -27,7 +27,7 @@ use Rattle.types.proofs.Restrictions.{restriction-sound, restrictions-i
 use Rattle.types.proofs.Signed.{gives, met-plain, met-signed, role-below}
 use Rattle.types.proofs.Allowed.{allowed-inside, inside-allowed}
 use Rattle.types.proofs.Cover.{Offering, demand-bit, offer-bit, others-bit, others-small}
-use Rattle.types.proofs.Cover.{reached-small, cover-intro, cover-elim, cover-small, cover-cong}
+use Rattle.types.proofs.Cover.{reached-small, cover-intro, cover-elim, cover-small}
 
 -- covered or other, demanded or other: the same, if they are where the restriction is no other's
 agree : (c o d : Bool) → (c ≡ true → (d || o) ≡ true) → (o ≡ false → d ≡ true → c ≡ true) → (c || o) ≡ (d || o)

@@ -1,14 +1,15 @@
 -- One turn of the loops of type elimination, over plain values.
 --   list-covering, covering-less                              the members of a set, listed, cover it and each smaller set
 --   Entered, enter-start, enter-more, enter-same              the words that members offer, each at its own place
---   Swept, sweep-start, sweep-out, sweep-met, sweep-past, sweep-end   the members that fail a test, removed
---   keeps-all, keeps-both, keeps-cong                      a test that all pass; two in a row; one that says the same
+--   keeps-all, keeps-both                                     what tests keep of a set: one that all pass, two in a row
+--   keeps-within, keeps-cong                                  it is within the set; a test that says the same
+--   Swept, sweep-start, sweep-out, sweep-kept, sweep-end      the members that fail a test, removed
 -- Assumes nothing.
 use Prim.Native.Nat.{ℕ, _+_, _≤_, _<_}
 use native.Mathlib.Omega.{arith}
 use native.Mathlib.Decide.{ℕ-discrete, decLt}
 use mathlib.Core.Path.{_≡_, refl, sym, ap, subst, _∙_}
-use mathlib.Core.Bool.{Bool, true, false, cond, _&&_, _||_, and-true, and-false}
+use mathlib.Core.Bool.{Bool, true, false, cond, not, _&&_, _||_, and-true, and-false, or-true}
 use mathlib.Core.List.{List}
 use lib.ListN.{length, getD, set, length-set}
 use lib.Dec.{eqb}
@@ -16,13 +17,14 @@ use lib.Seq.{getD-set-same, getD-set-other}
 use borrow.Author.Tests.{eq-eqb, ne-eqb}
 use Rattle.records.specs.Check.{anyBelow}
 use Rattle.records.proofs.Order.{any-hit, any-miss}
-use Rattle.records.proofs.Passed.{clash, both-left, both-right}
+use Rattle.records.proofs.Passed.{clash, both-left}
+use Rattle.records.proofs.Search.{any-intro}
 use Rattle.types.specs.Below.{has}
 use Rattle.types.specs.Compare.{typeLimit}
 use Rattle.types.specs.Elimination.{Covering, Enters, Keeps}
 use Rattle.types.proofs.Listing.{ListedBelow}
 use Rattle.types.proofs.Sets.{Within}
-use Rattle.types.proofs.Tests.{both-true, either-rest, same-truth}
+use Rattle.types.proofs.Tests.{both-true, same-truth}
 
 -- The members of a set, listed, cover it.
 pub list-covering : (S : List Bool) (types : List ℕ) (left t : ℕ) → ListedBelow typeLimit S types left t → t ≤ typeLimit
@@ -82,93 +84,6 @@ module _ (offers live : List ℕ) (S : List Bool) (room words : ℕ) where
             entered = λ x k. l .entered x k ∙ ap (λ (b : Bool). cond b x 0) (any-miss (offersIt x) j _ refl (rw m));
           }
 
--- What is left of a set after the first j listed types were tested.
-pub record Swept (met : ℕ → Bool) (live : List ℕ) (S R : List Bool) (removed : Bool) (j : ℕ) : Type 0 where
-  pub size : length R ≡ length S
-  pub within : Within R S
-  pub stays : (t : ℕ) → has S t ≡ true → met t ≡ true → has R t ≡ true
-  pub tested : (i : ℕ) → i < j → has R (getD live i 0) ≡ true → met (getD live i 0) ≡ true
-  pub found : removed ≡ true → (t : ℕ) × (has S t ≡ true) × (met t ≡ false)
-  pub untouched : removed ≡ false → Within S R
-
-module _ (met : ℕ → Bool) (live : List ℕ) (S : List Bool) where
-  pub sweep-start : Swept met live S S false 0
-  sweep-start =
-      record {
-        size = refl;
-        within = λ t m. m;
-        stays = λ t m h. m;
-        tested = λ i h. absurd (omega arith);
-        found = λ h. absurd (clash (cc));
-        untouched = λ h t m. m;
-      }
-
-  module _ (R : List Bool) (removed : Bool) (j : ℕ) (l : Swept met live S R removed j) where
-    pub sweep-out : getD live j 0 < length S → has R (getD live j 0) ≡ true → met (getD live j 0) ≡ false
-        → Swept met live S (set R (getD live j 0) false) true (j + 1)
-    sweep-out h m n =
-        record {
-          size = length-set R u false ∙ l .size;
-          within = λ t k. l .within t (kept t k);
-          stays = λ t k e. other t (λ q. clash (cc)) ∙ l .stays t k e;
-          tested = λ i k e. at i k e (ℕ-discrete i j);
-          found = λ e. (u, l .within u m, n);
-          untouched = λ e. absurd (clash (cc));
-        }
-      where
-        u : ℕ
-        u = getD live j 0
-
-        gone : has (set R u false) u ≡ false
-        gone = getD-set-same R u false false (omega (arith, l .size))
-
-        other : (t : ℕ) → (t ≡ u → ⊥) → has (set R u false) t ≡ has R t
-        other t q = getD-set-other R u t false false q
-
-        kept : Within (set R u false) R
-        kept t k = sym (other t (λ q. let g = gone in clash (cc))) ∙ k
-
-        at : (i : ℕ) → i < j + 1 → has (set R u false) (getD live i 0) ≡ true → Dec (i ≡ j) → met (getD live i 0) ≡ true
-        at i k e (yes q) = let g = gone in absurd (clash (cc))
-        at i k e (no q) = l .tested i (omega arith) (kept (getD live i 0) e)
-
-    keep : (has R (getD live j 0) ≡ true → met (getD live j 0) ≡ true) → Swept met live S R removed (j + 1)
-    keep h =
-        record {
-          size = l .size;
-          within = l .within;
-          stays = l .stays;
-          tested = λ i k. at i k (ℕ-discrete i j);
-          found = l .found;
-          untouched = l .untouched;
-        }
-      where
-        at : (i : ℕ) → i < j + 1 → Dec (i ≡ j) → has R (getD live i 0) ≡ true → met (getD live i 0) ≡ true
-        at i k (yes q) = rw q h
-        at i k (no q) = l .tested i (omega arith)
-
-    pub sweep-met : met (getD live j 0) ≡ true → Swept met live S R removed (j + 1)
-    sweep-met e = keep (λ m. e)
-
-    pub sweep-past : has R (getD live j 0) ≡ false → Swept met live S R removed (j + 1)
-    sweep-past e = keep (λ m. absurd (clash (cc)))
-
-    pub sweep-end : (left : ℕ) → Covering live left S → left ≤ j → Keeps met S R removed
-    sweep-end left c e =
-        record {
-          size = l .size;
-          kept = λ t. same-truth _ _ (λ m. both-true (has S t) (met t) (l .within t m) (all-met t m))
-              (λ b. l .stays t (both-left (has S t) (met t) b) (both-right (has S t) (met t) b));
-          less = l .found;
-          same = λ r t m. all-met t (l .untouched r t m);
-        }
-      where
-        all-met : (t : ℕ) → has R t ≡ true → met t ≡ true
-        all-met t m =
-            let f = c .finds t (l .within t m) in
-            subst (λ (u : ℕ). met u ≡ true) (f .2)
-            (l .tested (f .0) (omega (arith, f .1)) (subst (λ (u : ℕ). has R u ≡ true) (sym (f .2)) m))
-
 pub keeps-all : (f : ℕ → Bool) (S : List Bool) → ((t : ℕ) → f t ≡ true) → Keeps f S S false
 keeps-all f S all =
     record {
@@ -177,6 +92,9 @@ keeps-all f S all =
       less = λ h. absurd (clash (cc));
       same = λ h t m. all t;
     }
+
+pub keeps-within : (f : ℕ → Bool) (S R : List Bool) (a : Bool) → Keeps f S R a → Within R S
+keeps-within f S R a w t h = both-left (has S t) (f t) (sym (w .kept t) ∙ h)
 
 module _ (f g : ℕ → Bool) (S R : List Bool) (a : Bool) (w : Keeps f S R a) where
   pub keeps-cong : ((t : ℕ) → has S t ≡ true → f t ≡ g t) → Keeps g S R a
@@ -216,3 +134,68 @@ module _ (f g : ℕ → Bool) (S R : List Bool) (a : Bool) (w : Keeps f S R a) w
       same-at false q r t m =
           let first = w .same q t m in
           both-true (f t) (g t) first (z .same r t (w .kept t ∙ both-true (has S t) (f t) m first))
+
+-- The listed types tested so far were removed where they failed.
+module _ (met : ℕ → Bool) (live : List ℕ) (S : List Bool) where
+  abbrev listed : ℕ → ℕ → Bool
+  listed t i = eqb (getD live i 0) t
+
+  abbrev passes : ℕ → ℕ → Bool
+  passes j t = not (anyBelow (listed t) j) || met t
+
+  -- What is left of a set after the first j listed types were tested.
+  pub record Swept (R : List Bool) (removed : Bool) (j : ℕ) : Type 0 where
+    pub keeps : Keeps (passes j) S R removed
+
+  pub sweep-start : Swept S false 0
+  unfolding anyBelow
+  sweep-start = record { keeps = keeps-all (passes 0) S (λ t. refl) }
+
+  module _ (R : List Bool) (removed : Bool) (j : ℕ) (s : Swept R removed j) where
+    w : Keeps (passes j) S R removed
+    w = s .keeps
+
+    -- the type listed next; it counts from now on, and others as before
+    abbrev u : ℕ
+    u = getD live j 0
+
+    counts : (t : ℕ) → u ≡ t → passes (j + 1) t ≡ met t
+    counts t e = ap (λ (b : Bool). not b || met t) (sym (any-hit (listed t) j (eq-eqb u t e)))
+
+    other : (t : ℕ) → (u ≡ t → ⊥) → passes j t ≡ passes (j + 1) t
+    other t d = ap (λ (b : Bool). not b || met t) (any-miss (listed t) j _ refl (ne-eqb u t d))
+
+    pub sweep-out : u < length S → has R u ≡ true → met u ≡ false → Swept (set R u false) true (j + 1)
+    sweep-out h m n =
+        record {
+          keeps = record {
+            size = length-set R u false ∙ w .size;
+            kept = λ t. at t (ℕ-discrete u t);
+            less = λ r. (u, keeps-within (passes j) S R removed w u m, counts u refl ∙ n);
+            same = λ r. absurd (clash (cc));
+          };
+        }
+      where
+        at : (t : ℕ) → Dec (u ≡ t) → has (set R u false) t ≡ (has S t && passes (j + 1) t)
+        at t (yes e) =
+            rw (← e) (getD-set-same R u false false (omega (arith, w .size))
+            ∙ sym (ap (λ (b : Bool). has S u && b) (counts u refl ∙ n) ∙ and-false (has S u)))
+        at t (no d) =
+            getD-set-other R u t false false (λ q. d (sym q)) ∙ w .kept t ∙ ap (λ (b : Bool). has S t && b) (other t d)
+
+    pub sweep-kept : (has R u ≡ true → met u ≡ true) → Swept R removed (j + 1)
+    sweep-kept h =
+        record { keeps = keeps-cong (passes j) (passes (j + 1)) S R removed w (λ t m. at t m (ℕ-discrete u t)) }
+      where
+        at : (t : ℕ) → has S t ≡ true → Dec (u ≡ t) → passes j t ≡ passes (j + 1) t
+        at t m (yes e) =
+            let passed = subst (λ (t : ℕ). has R t ≡ true → met t ≡ true) e h in
+            same-truth (passes j t) (met t) (λ p. passed (w .kept t ∙ both-true (has S t) (passes j t) m p))
+            (λ q. rw q (or-true (not (anyBelow (listed t) j)))) ∙ sym (counts t e)
+        at t m (no d) = other t d
+
+    pub sweep-end : (left : ℕ) → Covering live left S → left ≤ j → Keeps met S R removed
+    sweep-end left c e =
+        keeps-cong (passes j) met S R removed w
+        (λ t m. let f = c .finds t m in ap (λ (b : Bool). not b || met t)
+        (any-intro (listed t) j (f .0) (omega (arith, f .1)) (eq-eqb (getD live (f .0) 0) t (f .2))))

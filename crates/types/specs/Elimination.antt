@@ -2,7 +2,7 @@
 -- shows that the rounds are the paper's.
 use Prim.Native.Nat.{ℕ, _-_, _^_, _≤_, _<_}
 use mathlib.Core.Path.{_≡_}
-use mathlib.Core.Bool.{Bool, true, false, cond, _&&_}
+use mathlib.Core.Bool.{Bool, true, false, cond, not, _&&_}
 use mathlib.Core.List.{List}
 use lib.ListN.{length, getD}
 use lib.Dec.{ltb, leb, eqb}
@@ -16,7 +16,10 @@ use Rattle.types.specs.Survivors.{round, removes}
 use Rattle.types.specs.Compare.{atomLimit, typeLimit}
 use Rattle.types.specs.Words.{width, others, spread, cover, Demands, SameSet}
 
--- A table of the words of the other roles, one for each role.
+-- Whether restriction m is of another role than r; a table of the words of that, one for each role.
+abbrev pub otherRole : List ℕ → ℕ → ℕ → Bool
+otherRole roles r m = not (eqb (getD roles m 0) r)
+
 abbrev pub Masks : List ℕ → List ℕ → Type 0
 Masks v masks = (r : ℕ) → r < roleCount v → getD masks r 0 ≡ others v r
 

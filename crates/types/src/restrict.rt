@@ -6,12 +6,11 @@ use records::fields::read_at;
 use records::kinds::is_restriction;
 ghost use mathlib.Core.Path.{_≡_};
 ghost use Prim.Native.Nat.{ℕ, _<_, _≤_};
-ghost use mathlib.Core.Bool.{not};
 ghost use lib.ListN.{getD};
-ghost use lib.Dec.{eqb};
 ghost use Rattle.records.specs.Check.{IsAccepted};
 ghost use Rattle.types.specs.Below.{number};
 ghost use Rattle.types.specs.Words.{signed, Listed, wordAt};
+ghost use Rattle.types.specs.Elimination.{otherRole};
 ghost use Rattle.records.specs.Format.{recordLimit};
 ghost use Rattle.records.specs.Atoms.{atoms};
 ghost use Rattle.types.specs.Compare.{atomLimit};
@@ -88,7 +87,7 @@ pub fn word_of(
 // The word of the restrictions of other roles than this.
 pub fn others_of(roles: &[u16; Profile::ATOMS], bits: usize, role: u16) -> u16
     requires { ⌜ bits ≤ atomLimit ⌝ }
-    ensures { λ r. ⌜ r ≡ number bits (λ m. not (eqb (getD (now (roles .entry)) m 0) role)) ⌝ }
+    ensures { λ r. ⌜ r ≡ number bits (otherRole (now (roles .entry)) role) ⌝ }
 {
     let mut word = 0;
     let mut m = bits;

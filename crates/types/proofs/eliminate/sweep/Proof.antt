@@ -7,10 +7,11 @@ use mathlib.Core.Logic.{⊎-elim}
 use mathlib.Core.Path.{sym, _∙_}
 use lib.ListN.{length, getD}
 use denote.Ref.{now}
+use Rattle.records.proofs.Passed.{clash}
 use borrow.Author.Tests.{not-true, not-false}
 use Rattle.types.specs.Compare.{typeLimit}
 use Rattle.types.specs.Elimination.{metAt}
-use Rattle.types.proofs.Sweeps.{Swept, sweep-start, sweep-out, sweep-met, sweep-past, sweep-end}
+use Rattle.types.proofs.Sweeps.{keeps-within, Swept, sweep-start, sweep-out, sweep-kept, sweep-end}
 use Rattle.types.proofs.eliminate.sweep.Statement.{statement}
 use Rattle.types.proofs.eliminate.sweep.Tie as tie
 
@@ -52,7 +53,7 @@ element-copy-out-is-met c = inside (c .before .before .before)
 is-met-requires : tie.Need-is-met-requires Inv-loop μ-loop
 is-met-requires c κs =
     let loop = c .before .before .before .before .before in
-    loop .before .pre .1 .0 _ (loop .loop .inv .within _ (c .before .if1 .taken))
+    loop .before .pre .1 .0 _ (keeps-within _ _ _ _ (loop .loop .inv .keeps) _ (c .before .if1 .taken))
 
 element-write-alive : tie.Need-element-write-alive Inv-loop μ-loop
 element-write-alive c = inside (c .before .before .before .before .before .before)
@@ -73,8 +74,8 @@ loop-again c =
     ⊎-elim
     (λ w. rw (w .4, w .5) (sweep-out _ _ _ _ _ _ l u (w .0 .taken) (sym (w .2 .ensures) ∙ not-true _ (w .3 .taken))))
     (⊎-elim
-    (λ w. rw (w .4, w .5) (sweep-met _ _ _ _ _ _ l (sym (w .2 .ensures) ∙ not-false _ (w .3 .left))))
-    (λ w. rw (w .1, w .2) (sweep-past _ _ _ _ _ _ l (w .0 .left))))
+    (λ w. rw (w .4, w .5) (sweep-kept _ _ _ _ _ _ l (λ m. sym (w .2 .ensures) ∙ not-false _ (w .3 .left))))
+    (λ w. rw (w .1, w .2) (sweep-kept _ _ _ _ _ _ l (λ m. let gone = w .0 .left in absurd (clash (cc))))))
     (c .if1 .came)
 
 returns : tie.Need-returns Inv-loop μ-loop

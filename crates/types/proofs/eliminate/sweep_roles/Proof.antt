@@ -11,9 +11,9 @@ use borrow.Author.Needs.{needs}
 use denote.Ref.{now}
 use Rattle.records.specs.Format.{roleCount}
 use Rattle.records.specs.declared.fields.Record.{Record}
-use Rattle.types.proofs.Rounds.{AfterRoles, roles-start, roles-within, roles-skip, roles-turn, round-done}
+use Rattle.types.proofs.Rounds.{AfterRoles, roles-start, roles-skip, roles-turn, round-done}
 use Rattle.types.proofs.Rounds.{good, bits-few, reached-in, met-role, role-skipped, full-word}
-use Rattle.types.proofs.Sweeps.{covering-less}
+use Rattle.types.proofs.Sweeps.{covering-less, keeps-within}
 use Rattle.types.proofs.eliminate.sweep_roles.Statement.{statement}
 use Rattle.types.proofs.eliminate.sweep_roles.Tie as tie
 
@@ -63,7 +63,7 @@ sweep-requires c κs =
     let turn = c .before .before .before in
     let w = turn .before .loop .inv .1 in
     let s = turn .before .before .before .before .pre .0 in
-    let within = roles-within _ _ _ _ _ w in
+    let within = keeps-within _ _ _ _ w in
     (covering-less _ _ _ _ within (s .listed), (λ t h. reached-in s _ t (below turn) (within t h), w .size ∙ s .size))
 
 either-requires : tie.Need-either-requires Inv-loop μ-loop
