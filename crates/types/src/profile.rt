@@ -7,7 +7,7 @@ use records::fields::Record;
 ghost use mathlib.Core.Path.{_≡_};
 ghost use lib.ListN.{length};
 ghost use Rattle.records.specs.Format.{recordLimit};
-ghost use Rattle.types.specs.Words.{Prepared, Blank, Profiled, profileAt};
+ghost use Rattle.types.specs.Words.{Prepared, Blank, Started, Worded, profileAt};
 
 // At one type: whether every chained statement holds, whether the two terms differ, and the words of what it demands and
 // offers.
@@ -85,7 +85,8 @@ pub fn profile_types(
 )
     requires { ⌜ Prepared (now v) plan (now code) (now statements) ⌝ }
     requires { ⌜ Blank (now done) (now alive) (now differs) (now demands) (now offers) ⌝ }
-    ensures { λ _. ⌜ Profiled (now (v .entry)) (plan .a) (plan .b) (now (alive .exit)) (now (differs .exit)) (now (demands .exit)) (now (offers .exit)) ⌝ }
+    ensures { λ _. ⌜ Started (now (v .entry)) (plan .a) (plan .b) (now (alive .exit)) (now (differs .exit)) ⌝ }
+    ensures { λ _. ⌜ Worded (now (v .entry)) (now (demands .exit)) (now (offers .exit)) ⌝ }
 {
     let size = 1 << plan.k;
     let mut t = 0;
