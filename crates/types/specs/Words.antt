@@ -96,6 +96,12 @@ pub record Listed (v : List ℕ) (r : Restrictions) : Type 0 where
   pub role-at : Roles v (r .roles)
   pub sign-at : (m : ℕ) → m < width v → getD (r .signs) m false ≡ negated v (restriction v m)
 
+-- There is room for as many, and they and their fillers name records.
+pub record Bounded (r : Restrictions) : Type 0 where
+  pub few : r .count ≤ atomLimit
+  pub place-below : (m : ℕ) → m < r .count → getD (r .places) m 0 < recordLimit
+  pub filler-below : (m : ℕ) → m < r .count → getD (r .fillers) m 0 < recordLimit
+
 -- A list of the chained statements.
 pub record Stating (v statements : List ℕ) (found : ℕ) : Type 0 where
   pub few : found ≤ count v

@@ -1,6 +1,6 @@
 // What the comparison needs to know of each type, taken from one table of truths.
 use crate::restrict::Restrictions;
-use crate::restrict::word_of;
+use crate::restrict::words_of;
 use crate::truth::statements_hold;
 use crate::truth::truths;
 use records::fields::Record;
@@ -57,17 +57,14 @@ fn profile_of(
 {
     let a = plan.a;
     let b = plan.b;
-    let atoms = plan.places;
-    let places = plan.restrictions.places;
-    let fillers = plan.restrictions.fillers;
-    let signs = plan.restrictions.signs;
-    let bits = plan.restrictions.count;
-    truths(v, code, plan.k, &atoms, t, done);
+    let places = plan.places;
+    truths(v, code, plan.k, &places, t, done);
+    let words = words_of(done, plan.restrictions);
     Profile {
         fits: statements_hold(done, statements, plan.found),
         differs: done[a] != done[b],
-        demand: word_of(done, &places, &signs, bits),
-        offer: word_of(done, &fillers, &signs, bits),
+        demand: words.demand,
+        offer: words.offer,
     }
 }
 

@@ -1,79 +1,62 @@
 -- `types::restrict::others_of` meets its contract. The loop's invariant: `word` has the bits from `m` on.
 -- Assumes nothing.
-use Prim.Native.Nat.{ℕ, _+_, _-_, _*_, _≤_}
+use Prim.Native.Nat.{ℕ, _-_, _≤_}
 use native.Mathlib.Omega.{arith}
-use mathlib.Core.Bool.{not}
-use mathlib.Core.Path.{_≡_, refl, ap, _∙_}
+use mathlib.Core.Bool.{Bool, not}
+use mathlib.Core.List.{List}
+use mathlib.Core.Path.{_≡_, refl, _∙_}
 use lib.Dec.{eqb}
 use lib.ListN.{getD}
-use borrow.Author.Needs.{needs}
 use denote.Ref.{now}
 use Rattle.types.proofs.Turns.{wordFrom, word-start, word-turn, word-end, word-bound}
 use Rattle.types.proofs.restrict.others_of.Statement.{statement}
 use Rattle.types.proofs.restrict.others_of.Tie as tie
-use Rattle.records.proofs.Ranks.{digit-small}
+
+-- whether restriction m is of another role
+abbrev other : List ℕ → ℕ → ℕ → Bool
+other roles role m = not (eqb (getD roles m 0) role)
 
 abbrev Inv-loop : tie.InvT-loop
-Inv-loop roles bits role word₀ m₀ word m = (m ≤ bits) × (word ≡ wordFrom bits (λ m. not (eqb (getD roles m 0) role)) m)
+Inv-loop roles bits role word₀ m₀ word m = (m ≤ bits) × (word ≡ wordFrom bits (other roles role) m)
 
 abbrev μ-loop : tie.MeasureT-loop
 μ-loop roles bits role word₀ m₀ word m = m
 
 loop-holds : tie.Need-loop-holds Inv-loop μ-loop
-loop-holds c = (omega arith, word-start (c .args .bits) (λ m. not (eqb (getD (now (c .args .roles)) m 0) (c .args .role))))
+loop-holds c = (omega arith, word-start (c .args .bits) (other (now (c .args .roles)) (c .args .role)))
 
 sub-m : tie.Need-sub-m Inv-loop μ-loop
 sub-m c = omega arith
 
-mul-digit : tie.Need-mul-digit Inv-loop μ-loop
-mul-digit c = omega arith
+mul-push-bit : tie.Need-mul-push-bit Inv-loop μ-loop
+mul-push-bit c = omega arith
 
-element-copy-out-digit : tie.Need-element-copy-out-digit Inv-loop μ-loop
-element-copy-out-digit c = omega arith
+element-copy-out-push-bit : tie.Need-element-copy-out-push-bit Inv-loop μ-loop
+element-copy-out-push-bit c = omega arith
 
-digit-requires : tie.Need-digit-requires Inv-loop μ-loop
-digit-requires c κs = search needs
-
-mul-word : tie.Need-mul-word Inv-loop μ-loop
-mul-word c =
-    let l = c .before .before .before .loop in
-    let a = c .before .before .before .before .args in omega (
-      arith,
-      word-bound (a .bits) (λ m. not (eqb (getD (now (a .roles)) m 0) (a .role))) (l .m) (l .word)
-          (c .before .before .before .before .pre) (l .inv .1),
-    )
-
-add-word : tie.Need-add-word Inv-loop μ-loop
-add-word c =
-    let l = c .before .before .before .loop in
-    let a = c .before .before .before .before .args in omega (
-      arith,
-      word-bound (a .bits) (λ m. not (eqb (getD (now (a .roles)) m 0) (a .role))) (l .m) (l .word)
-          (c .before .before .before .before .pre) (l .inv .1),
-      c .digit .ensures,
-      digit-small
-          (not (eqb (getD (now (a .roles)) (l .m - 1) 0) (a .role))),
-    )
+push-bit-requires : tie.Need-push-bit-requires Inv-loop μ-loop
+push-bit-requires c κs =
+    let at = c .before .before in
+    let a = at .before .args in
+    word-bound (a .bits) (other (now (a .roles)) (a .role)) (at .loop .m) _ (at .before .pre) (at .loop .inv .1)
 
 loop-less : tie.Need-loop-less Inv-loop μ-loop
 loop-less c = omega arith
 
 loop-again : tie.Need-loop-again Inv-loop μ-loop
 loop-again c =
-    let l = c .before .before .before .loop in
-    let a = c .before .before .before .before .args in (
+    let at = c .before .before .before in
+    let a = at .before .args in (
       omega arith,
-      ap (λ (y : ℕ). y + 2 * l .word) (c .digit .ensures)
-          ∙ word-turn (a .bits) (λ m. not (eqb (getD (now (a .roles)) m 0) (a .role))) (l .m) (l .word)
-          (not (eqb (getD (now (a .roles)) (l .m - 1) 0) (a .role))) (omega arith) (omega arith) (l .inv .1) refl,
+      c .push-bit .ensures
+          ∙ word-turn (a .bits) (other (now (a .roles)) (a .role)) (at .loop .m) (at .loop .word) _ (omega arith) (omega arith)
+          (at .loop .inv .1) refl,
     )
 
 returns : tie.Need-returns Inv-loop μ-loop
 returns c =
     let a = c .before .before .args in
-    let e : c .before .loop .m ≡ 0 = omega arith in word-end (a .bits)
-    (λ m. not (eqb (getD (now (a .roles)) m 0) (a .role))) _
-    (c .before .loop .inv .1 ∙ ap (wordFrom (a .bits) (λ m. not (eqb (getD (now (a .roles)) m 0) (a .role)))) e)
+    word-end (a .bits) (other (now (a .roles)) (a .role)) (c .before .loop .m) _ (omega arith) (c .before .loop .inv .1)
 
 pub others-of-spec : {M : Type 1} → statement M
 others-of-spec =
@@ -83,11 +66,9 @@ others-of-spec =
     μ-loop
     loop-holds
     sub-m
-    mul-digit
-    element-copy-out-digit
-    digit-requires
-    mul-word
-    add-word
+    mul-push-bit
+    element-copy-out-push-bit
+    push-bit-requires
     loop-less
     loop-again
     returns)
