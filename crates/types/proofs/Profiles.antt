@@ -1,6 +1,5 @@
 -- The profile of a type from a table of its truths.
---   prepared-good, few-records, few-bits   what is prepared is small
---   place-below, filler-below              where the words look
+--   prepared-good, few-records, listing-bounded   what is prepared is small
 --   profile-done                           the profile: whether the statements hold, whether the terms differ, the words
 --   stating                                the statements, listed from marks
 -- Assumes nothing.
@@ -23,9 +22,8 @@ use Rattle.types.specs.declared.restrict.Restrictions.{Restrictions}
 use Rattle.types.specs.Below.{allBelow, number}
 use Rattle.types.specs.Types.{truth}
 use Rattle.types.specs.Survivors.{fits}
-use Rattle.types.specs.Compare.{atomLimit}
 use Rattle.types.specs.Rules.{holding, Truths}
-use Rattle.types.specs.Words.{width, restriction, signed, negated, demand, offer, Stating, Prepared}
+use Rattle.types.specs.Words.{width, restriction, signed, negated, demand, offer, Bounded, Stating, Prepared}
 use Rattle.types.specs.Words.{wordAt, differ, profileAt}
 use Rattle.types.proofs.Tests.{implies-true, implies-rest, same-truth}
 use Rattle.types.proofs.Below.{all-intro, all-at}
@@ -46,14 +44,6 @@ module _ (v : List ℕ) (plan : Plan) (code statements : List ℕ) (p : Prepared
   pub few-records : count v ≤ recordLimit
   few-records = omega (arith, prepared-good .sized .most)
 
-  pub few-bits : listing .count ≤ atomLimit
-  few-bits = omega (arith, p .listed .all, width-bound v, p .query .few)
-
-  pub place-below : (m : ℕ) → m < listing .count → getD (listing .places) m 0 < recordLimit
-  place-below m h =
-      let l : m < width v = omega (arith, p .listed .all) in
-      omega (arith, p .listed .place-at m l, restriction-sound v (count v) m l .before, few-records)
-
   filler-earlier : (i : ℕ) → restricts v i ≡ true → recordAt v i .b < i
   filler-earlier i h = at (restriction-kind (recordAt v i .kind) h)
     where
@@ -66,8 +56,14 @@ module _ (v : List ℕ) (plan : Plan) (code statements : List ℕ) (p : Prepared
       let sound = restriction-sound v (count v) m h in
       omega (arith, p .listed .filler-at m h, sound .before, filler-earlier (restriction v m) (sound .restricts))
 
-  pub filler-below : (m : ℕ) → m < listing .count → getD (listing .fillers) m 0 < recordLimit
-  filler-below m h = omega (arith, filler-in m (omega (arith, p .listed .all)), few-records)
+  pub listing-bounded : Bounded listing
+  listing-bounded =
+      record {
+        few = omega (arith, p .listed .all, width-bound v, p .query .few);
+        place-below = λ m h. let l : m < width v = omega (arith, p .listed .all) in
+            omega (arith, p .listed .place-at m l, restriction-sound v (count v) m l .before, few-records);
+        filler-below = λ m h. omega (arith, filler-in m (omega (arith, p .listed .all)), few-records);
+      }
 
   module _ (t : ℕ) (done : List Bool) (d : Truths v t done) where
     fits-done : holding statements done (plan .found) ≡ fits v t

@@ -106,10 +106,10 @@ module _ (bits : ℕ) (f : ℕ → Bool) where
       let back : m - 1 + 1 ≡ m = omega arith in
       sym (number-step bits (m - 1) f (omega arith) ∙ rw (back, ← e, ← q))
 
-  pub word-end : (w : ℕ) → w ≡ wordFrom 0 → w ≡ number bits f
-  word-end w e =
+  pub word-end : (m w : ℕ) → m ≡ 0 → w ≡ wordFrom m → w ≡ number bits f
+  word-end m w none e =
       let all : bits - 0 ≡ bits = omega arith in
-      e ∙ rw all (number-cong bits (λ i. f (0 + i)) f (λ j l. ap f (omega arith)))
+      e ∙ rw (none, all) (number-cong bits (λ i. f (0 + i)) f (λ j l. ap f (omega arith)))
 
 -- A table of nothing but zeros.
 pub zeros : (n x : ℕ) → getD {A = ℕ} (replicate n 0) x 0 ≡ 0

@@ -93,6 +93,12 @@ pub record Listed (v : List ℕ) (r : Restrictions) : Type 0 where
   pub role-at : Roles v (r .roles)
   pub sign-at : (m : ℕ) → m < width v → getD (r .signs) m false ≡ negated v (restriction v m)
 
+-- There is room for as many, and they and their fillers name records.
+pub record Bounded (r : Restrictions) : Type 0 where
+  pub few : r .count ≤ atomLimit
+  pub place-below : (m : ℕ) → m < r .count → getD (r .places) m 0 < recordLimit
+  pub filler-below : (m : ℕ) → m < r .count → getD (r .fillers) m 0 < recordLimit
+
 -- A list of the chained statements.
 pub record Stating (v statements : List ℕ) (found : ℕ) : Type 0 where
   pub few : found ≤ count v
@@ -149,13 +155,15 @@ pub record Blank (done alive differs : List Bool) (demands offers : List ℕ) : 
   pub demands-size : length demands ≡ typeLimit
   pub offers-size : length offers ≡ typeLimit
 
--- And as they are left: by the profiles; by the rounds after them.
-pub record Profiled (v : List ℕ) (a b : ℕ) (alive differs : List Bool) (demands offers : List ℕ) : Type 0 where
+-- And as they are left: by the profiles, before any round; by the rounds.
+pub record Worded (v demands offers : List ℕ) : Type 0 where
+  pub demands-at : Demands v demands
+  pub offers-at : Offers v offers
+
+pub record Started (v : List ℕ) (a b : ℕ) (alive differs : List Bool) : Type 0 where
   pub alive-at : SameSet alive (stage v 0)
   pub alive-size : length alive ≡ typeLimit
   pub differs-at : Differs v a b differs
-  pub demands-at : Demands v demands
-  pub offers-at : Offers v offers
 
 pub record Settled (v : List ℕ) (a b : ℕ) (alive differs : List Bool) (done : ℕ) : Type 0 where
   pub alive-at : SameSet alive (survivors v)

@@ -89,7 +89,8 @@ fn decide(v: &[u8], a: usize, b: usize, k: usize, lent: &mut [u8]) -> Compared
 // refusal in table order, which writes nothing.
 pub fn compare(v: &[u8], a: u32, b: u32, lent: &mut [u8]) -> Compared
     ensures { λ r. ⌜ compared r ≡ comparison (now (v .entry)) a b (length (now (lent .entry))) ⌝ }
-    ensures { λ _. ⌜ now (lent .exit) ≡ written (comparison (now (v .entry)) a b (length (now (lent .entry)))) (now (v .entry)) (now (lent .entry)) ⌝ }
+    ensures { λ _. ⌜ now (lent .exit)
+        ≡ written (comparison (now (v .entry)) a b (length (now (lent .entry)))) (now (v .entry)) (now (lent .entry)) ⌝ }
 {
     let vocabulary = records::check_vocabulary(v);
     let Counted::Records(_) = vocabulary else {

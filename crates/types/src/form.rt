@@ -1,6 +1,6 @@
 // What a set of types shows: how many there are, the first at which the terms differ, and the bytes that hold it.
 use crate::profile::Profile;
-use crate::truth::digit;
+use crate::truth::push_bit;
 ghost use mathlib.Core.Path.{_≡_};
 ghost use mathlib.Core.Bool.{false, _&&_};
 ghost use mathlib.Core.List.{_++_};
@@ -58,7 +58,7 @@ fn byte_of(alive: &[bool; Profile::TYPES], n: usize) -> u8
     let mut j = 8;
     while j > 0 {
         j -= 1;
-        byte = digit(alive[start + j]) + 2 * byte;
+        byte = push_bit(byte, alive[start + j]);
     }
     byte as u8
 }

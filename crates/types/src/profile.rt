@@ -1,13 +1,13 @@
 // What the comparison needs to know of each type, taken from one table of truths.
 use crate::restrict::Restrictions;
-use crate::restrict::word_of;
+use crate::restrict::words_of;
 use crate::truth::statements_hold;
 use crate::truth::truths;
 use records::fields::Record;
 ghost use mathlib.Core.Path.{_≡_};
 ghost use lib.ListN.{length};
 ghost use Rattle.records.specs.Format.{recordLimit};
-ghost use Rattle.types.specs.Words.{Prepared, Blank, Profiled, profileAt};
+ghost use Rattle.types.specs.Words.{Prepared, Blank, Started, Worded, profileAt};
 
 // At one type: whether every chained statement holds, whether the two terms differ, and the words of what it demands and
 // offers.
@@ -57,17 +57,14 @@ fn profile_of(
 {
     let a = plan.a;
     let b = plan.b;
-    let atoms = plan.places;
-    let places = plan.restrictions.places;
-    let fillers = plan.restrictions.fillers;
-    let signs = plan.restrictions.signs;
-    let bits = plan.restrictions.count;
-    truths(v, code, plan.k, &atoms, t, done);
+    let places = plan.places;
+    truths(v, code, plan.k, &places, t, done);
+    let words = words_of(done, plan.restrictions);
     Profile {
         fits: statements_hold(done, statements, plan.found),
         differs: done[a] != done[b],
-        demand: word_of(done, &places, &signs, bits),
-        offer: word_of(done, &fillers, &signs, bits),
+        demand: words.demand,
+        offer: words.offer,
     }
 }
 
@@ -85,7 +82,8 @@ pub fn profile_types(
 )
     requires { ⌜ Prepared (now v) plan (now code) (now statements) ⌝ }
     requires { ⌜ Blank (now done) (now alive) (now differs) (now demands) (now offers) ⌝ }
-    ensures { λ _. ⌜ Profiled (now (v .entry)) (plan .a) (plan .b) (now (alive .exit)) (now (differs .exit)) (now (demands .exit)) (now (offers .exit)) ⌝ }
+    ensures { λ _. ⌜ Started (now (v .entry)) (plan .a) (plan .b) (now (alive .exit)) (now (differs .exit)) ⌝ }
+    ensures { λ _. ⌜ Worded (now (v .entry)) (now (demands .exit)) (now (offers .exit)) ⌝ }
 {
     let size = 1 << plan.k;
     let mut t = 0;

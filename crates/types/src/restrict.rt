@@ -1,17 +1,16 @@
 // The restrictions (kinds 7 and 8), and the words that hold a bit for each.
 use crate::profile::Profile;
-use crate::truth::digit;
+use crate::truth::push_bit;
 use records::fields::Record;
 use records::fields::read_at;
 use records::kinds::is_restriction;
 ghost use mathlib.Core.Path.{_≡_};
-ghost use Prim.Native.Nat.{ℕ, _<_, _≤_};
+ghost use Prim.Native.Nat.{_≤_};
 ghost use lib.ListN.{getD};
 ghost use Rattle.records.specs.Check.{IsAccepted};
 ghost use Rattle.types.specs.Below.{number};
-ghost use Rattle.types.specs.Words.{signed, Listed, wordAt};
+ghost use Rattle.types.specs.Words.{signed, Listed, Bounded, wordAt};
 ghost use Rattle.types.specs.Elimination.{otherRole};
-ghost use Rattle.records.specs.Format.{recordLimit};
 ghost use Rattle.records.specs.Atoms.{atoms};
 ghost use Rattle.types.specs.Compare.{atomLimit};
 
@@ -63,25 +62,30 @@ fn apply_sign(sign: bool, x: bool) -> bool
     if sign { !x } else { x }
 }
 
-// The word whose bit m is the truth at place m, signed; built from the top.
-pub fn word_of(
-    done: &[bool; Record::LIMIT],
-    places: &[u16; Profile::ATOMS],
-    signs: &[bool; Profile::ATOMS],
-    bits: usize,
-) -> u16
-    requires { ⌜ bits ≤ atomLimit ⌝ }
-    requires { ⌜ ((m : ℕ) → m < bits → getD (now places) m 0 < recordLimit) ⌝ }
-    ensures { λ r. ⌜ r ≡ wordAt (now (done .entry)) (now (places .entry)) (now (signs .entry)) bits ⌝ }
+// What a type with these truths demands and offers: in both words bit m is that of restriction m, signed.
+pub struct Words {
+    pub demand: u16,
+    pub offer: u16,
+}
+
+// The words, built from the top.
+pub fn words_of(done: &[bool; Record::LIMIT], listing: Restrictions) -> Words
+    requires { ⌜ Bounded listing ⌝ }
+    ensures { λ r. ⌜ r .demand ≡ wordAt (now (done .entry)) (listing .places) (listing .signs) (listing .count) ⌝ }
+    ensures { λ r. ⌜ r .offer ≡ wordAt (now (done .entry)) (listing .fillers) (listing .signs) (listing .count) ⌝ }
 {
-    let mut word = 0;
-    let mut m = bits;
+    let mut demand = 0;
+    let mut offer = 0;
+    let mut m = listing.count;
     while m > 0 {
         m -= 1;
-        let at = places[m] as usize;
-        word = digit(apply_sign(signs[m], done[at])) + 2 * word;
+        let sign = listing.signs[m];
+        let place = listing.places[m] as usize;
+        let filler = listing.fillers[m] as usize;
+        demand = push_bit(demand, apply_sign(sign, done[place]));
+        offer = push_bit(offer, apply_sign(sign, done[filler]));
     }
-    word
+    Words { demand, offer }
 }
 
 // The word of the restrictions of other roles than this.
@@ -93,7 +97,7 @@ pub fn others_of(roles: &[u16; Profile::ATOMS], bits: usize, role: u16) -> u16
     let mut m = bits;
     while m > 0 {
         m -= 1;
-        word = digit(roles[m] != role) + 2 * word;
+        word = push_bit(word, roles[m] != role);
     }
     word
 }

@@ -5,10 +5,10 @@ use records::fields::Record;
 use records::fields::read_at;
 use records::kinds::is_atom;
 ghost use mathlib.Core.Path.{_≡_};
-ghost use Prim.Native.Nat.{ℕ, _≤_, _<_};
+ghost use Prim.Native.Nat.{ℕ, _+_, _*_, _≤_, _<_};
 ghost use lib.ListN.{length, getD};
 ghost use Rattle.records.specs.Check.{IsAccepted};
-ghost use Rattle.types.specs.Compare.{atomLimit};
+ghost use Rattle.types.specs.Compare.{atomLimit, typeLimit};
 ghost use Rattle.types.specs.Rules.{select, Decoded, holding, AtomsListed, AtomsSet, Truths};
 ghost use Rattle.types.specs.Words.{Stating};
 ghost use Rattle.records.specs.Format.{recordLimit};
@@ -19,6 +19,14 @@ pub fn digit(b: bool) -> u16
     ensures { λ r. ⌜ r ≡ digit b ⌝ }
 {
     if b { 1 } else { 0 }
+}
+
+// A word with one bit more below its own.
+pub fn push_bit(word: u16, bit: bool) -> u16
+    requires { ⌜ word < typeLimit ⌝ }
+    ensures { λ r. ⌜ r ≡ digit bit + 2 * word ⌝ }
+{
+    digit(bit) + 2 * word
 }
 
 // The truth that a rule gives, from the truths of its operands.

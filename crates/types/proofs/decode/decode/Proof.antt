@@ -148,7 +148,8 @@ loop-again c =
     let in-loop = c .before .before .before .before in
     let l = in-loop .before .loop in
     let read = c .before .before .before .read-at .ensures in
-    next (now (in-loop .before .before .before .args .v)) (l .code) (l .i) (l .inv) (inside in-loop) (in-loop .loop-test .taken) _ _ _
+    let v = now (in-loop .before .before .before .args .v) in
+    next v (l .code) (l .i) (l .inv) (inside in-loop) (in-loop .loop-test .taken) _ _ _
     (c .before .before .rule .ensures ∙ ap (λ (r : Record). ruleOf (r .kind)) read)
     (c .before .first-operand .ensures ∙ ap (λ (r : Record). firstOf (r .kind) (r .a) (l .i)) read)
     (c .second-operand .ensures ∙ ap (λ (r : Record). secondOf (r .kind) (r .b)) read)

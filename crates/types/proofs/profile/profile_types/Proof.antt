@@ -126,14 +126,18 @@ returns c =
     let start = c .before .before .before .before in
     let v = now (start .args .v) in
     let q = start .pre .0 .query in
-    let e : l .t ≡ types v = omega (arith, w .within, size-word v (start .args .plan .k) (q .few) (q .counts)) in record {
-      alive-at = alive-at v (l .alive) (subst (Filled false typeLimit (l .alive) (fits v)) e (w .alive-filled))
-          (subst (Ends (l .alive)) e (w .ends));
-      alive-size = w .alive-filled .size;
-      differs-at = λ t h. w .differs-filled .right t (omega arith);
-      demands-at = λ t h. w .demands-filled .right t (omega arith);
-      offers-at = λ t h. w .offers-filled .right t (omega arith);
-    }
+    let e : l .t ≡ types v = omega (arith, w .within, size-word v (start .args .plan .k) (q .few) (q .counts)) in (
+      record {
+        alive-at = alive-at v (l .alive) (subst (Filled false typeLimit (l .alive) (fits v)) e (w .alive-filled))
+            (subst (Ends (l .alive)) e (w .ends));
+        alive-size = w .alive-filled .size;
+        differs-at = λ t h. w .differs-filled .right t (omega arith);
+      },
+      record {
+        demands-at = λ t h. w .demands-filled .right t (omega arith);
+        offers-at = λ t h. w .offers-filled .right t (omega arith);
+      },
+    )
 
 pub profile-types-spec : {M : Type 1} → statement M
 profile-types-spec =

@@ -72,8 +72,8 @@ eliminate-requires c κs =
           (
             r .role-at,
             (
-              p .demands-at,
-              (p .offers-at, (size-word (now (a .v)) (a .k) (q .few) (q .counts), (p .alive-at, p .alive-size))),
+              p .1 .demands-at,
+              (p .1 .offers-at, (size-word (now (a .v)) (a .k) (q .few) (q .counts), (p .0 .alive-at, p .0 .alive-size))),
             ),
           ),
         ),
@@ -84,7 +84,7 @@ returns : tie.Need-returns
 returns c =
     record {
       alive-at = c .eliminate .ensures .0;
-      differs-at = profiled (c .before) .profile-types .ensures .differs-at;
+      differs-at = profiled (c .before) .profile-types .ensures .0 .differs-at;
       rounds-at = c .eliminate .ensures .1;
     }
 

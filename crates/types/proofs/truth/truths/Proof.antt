@@ -29,15 +29,15 @@ record Filling (v : List ℕ) (t : ℕ) (done : List Bool) (i : ℕ) : Type 0 wh
   filled : Filled false recordLimit done (truth v t) i
   waiting : (j : ℕ) → i ≤ j → j < count v → isAtom (recordAt v j .kind) ≡ true → getD done j false ≡ bit t (rank v j)
 
+-- the operands of record i
+abbrev first : List ℕ → ℕ → ℕ
+first code i = getD code (recordLimit + i) 0
+
+abbrev second : List ℕ → ℕ → ℕ
+second code i = getD code (2 * recordLimit + i) 0
+
 module _ (v code : List ℕ) (good : Accepted v) (d : Decoded v code) (i : ℕ) (h : i < count v) where
-  abbrev first : ℕ
-  first = getD code (recordLimit + i) 0
-
-  abbrev second : ℕ
-  second = getD code (2 * recordLimit + i) 0
-
-  -- the operands are in the table
-  operands : (first < recordLimit) × (second < recordLimit)
+  operands : (first code i < recordLimit) × (second code i < recordLimit)
   operands =
       let early = operands-earlier (recordAt v i) i i (omega arith) (construct-earlier v good i) in (
         omega (arith, d .first-at i h, early .0, good .sized .most),
@@ -46,9 +46,9 @@ module _ (v code : List ℕ) (good : Accepted v) (d : Decoded v code) (i : ℕ) 
 
   module _ (t : ℕ) (done : List Bool) (f : Filling v t done i) where
     -- the rule gives the truth
-    given : select (getD code i 0) (getD done first false) (getD done second false) ≡ truth v t i
+    given : select (getD code i 0) (getD done (first code i) false) (getD done (second code i) false) ≡ truth v t i
     given =
-        ap (λ (r : ℕ). select r (getD done first false) (getD done second false)) (d .rule-at i h)
+        ap (λ (r : ℕ). select r (getD done (first code i) false) (getD done (second code i) false)) (d .rule-at i h)
         ∙ ap₂ (λ (m n : ℕ). select (ruleOf (recordAt v i .kind)) (getD done m false) (getD done n false))
         (d .first-at i h) (d .second-at i h)
         ∙ rule-connects (recordAt v i) i (λ j. getD done j false)
@@ -56,7 +56,7 @@ module _ (v code : List ℕ) (good : Accepted v) (d : Decoded v code) (i : ℕ) 
         (λ a. f .waiting i (omega arith) h (construct-atom (recordAt v i) ∙ a)) (construct-earlier v good i) (f .filled .right)
         ∙ sym (truth-eq v good t i)
 
-    next : (x : Bool) → x ≡ select (getD code i 0) (getD done first false) (getD done second false)
+    next : (x : Bool) → x ≡ select (getD code i 0) (getD done (first code i) false) (getD done (second code i) false)
         → Filling v t (set done i x) (i + 1)
     next x e =
         record {
@@ -85,21 +85,20 @@ loop-holds c =
     }
 
 -- the record is in the tables, and its operands no later
-good : (c : tie.In-loop Inv-loop μ-loop) → Accepted (now (c .before .before .before .before .before .args .v))
-good c = accepted-vocabulary _ _ (c .before .before .before .before .before .pre .0)
+abbrev start : tie.In-loop Inv-loop μ-loop → tie.Start Inv-loop μ-loop
+start c = c .before .before .before .before .before
+
+good : (c : tie.In-loop Inv-loop μ-loop) → Accepted (now (start c .args .v))
+good c = accepted-vocabulary _ _ (start c .pre .0)
 
 inside : (c : tie.In-loop Inv-loop μ-loop) → c .before .loop .i < recordLimit
 inside c = omega (arith, c .before .loop .inv .within, good c .sized .most)
 
-first-inside : (c : tie.In-loop Inv-loop μ-loop)
-    → getD (now (c .before .before .before .before .before .args .code)) (recordLimit + c .before .loop .i) 0 < recordLimit
-first-inside c =
-    operands _ _ (good c) (c .before .before .before .before .before .pre .1 .1 .1 .0) (c .before .loop .i) (c .loop-test .taken) .0
+first-inside : (c : tie.In-loop Inv-loop μ-loop) → first (now (start c .args .code)) (c .before .loop .i) < recordLimit
+first-inside c = operands _ _ (good c) (start c .pre .1 .1 .1 .0) (c .before .loop .i) (c .loop-test .taken) .0
 
-second-inside : (c : tie.In-loop Inv-loop μ-loop)
-    → getD (now (c .before .before .before .before .before .args .code)) (2 * recordLimit + c .before .loop .i) 0 < recordLimit
-second-inside c =
-    operands _ _ (good c) (c .before .before .before .before .before .pre .1 .1 .1 .0) (c .before .loop .i) (c .loop-test .taken) .1
+second-inside : (c : tie.In-loop Inv-loop μ-loop) → second (now (start c .args .code)) (c .before .loop .i) < recordLimit
+second-inside c = operands _ _ (good c) (start c .pre .1 .1 .1 .0) (c .before .loop .i) (c .loop-test .taken) .1
 
 add-first : tie.Need-add-first Inv-loop μ-loop
 add-first c = omega (arith, inside c)
@@ -156,9 +155,9 @@ loop-again : tie.Need-loop-again Inv-loop μ-loop
 loop-again c =
     let in-loop = c .before .before .before .before .before .before in
     let l = in-loop .before .loop in
-    let start = in-loop .before .before .before .before .before in
-    next (now (start .args .v)) (now (start .args .code)) (good in-loop) (start .pre .1 .1 .1 .0) (l .i) (in-loop .loop-test .taken)
-    (start .args .t) (l .done) (l .inv) _ (c .apply .ensures)
+    let a = start in-loop .args in
+    next (now (a .v)) (now (a .code)) (good in-loop) (start in-loop .pre .1 .1 .1 .0) (l .i) (in-loop .loop-test .taken)
+    (a .t) (l .done) (l .inv) _ (c .apply .ensures)
 
 returns : tie.Need-returns Inv-loop μ-loop
 returns c =

@@ -1,0 +1,151 @@
+-- `types::restrict::words_of` meets its contract. The loop's invariant: both words have the bits from `m` on.
+-- Assumes nothing.
+use Prim.Native.Nat.{ℕ, _-_, _≤_, _<_}
+use native.Mathlib.Omega.{arith}
+use mathlib.Core.Bool.{Bool, false}
+use mathlib.Core.List.{List}
+use mathlib.Core.Path.{_≡_, _∙_}
+use lib.ListN.{getD}
+use borrow.Author.Needs.{needs}
+use denote.Ref.{now}
+use Rattle.records.specs.Format.{recordLimit}
+use Rattle.types.specs.Words.{signed}
+use Rattle.types.proofs.Turns.{wordFrom, word-start, word-turn, word-end, word-bound}
+use Rattle.types.proofs.restrict.words_of.Statement.{statement}
+use Rattle.types.proofs.restrict.words_of.Tie as tie
+
+-- bit m of the word of listed places
+abbrev bits : List Bool → List ℕ → List Bool → ℕ → Bool
+bits done places signs m = signed (getD signs m false) (getD done (getD places m 0) false)
+
+record Building (done : List Bool) (n : ℕ) (places fillers : List ℕ) (signs : List Bool) (demand offer m : ℕ) : Type 0 where
+  within : m ≤ n
+  demanded : demand ≡ wordFrom n (bits done places signs) m
+  offered : offer ≡ wordFrom n (bits done fillers signs) m
+
+abbrev Inv-loop : tie.InvT-loop
+Inv-loop done listing demand₀ offer₀ m₀ demand offer m =
+    Building done (listing .count) (listing .places) (listing .fillers) (listing .signs) demand offer m
+
+abbrev μ-loop : tie.MeasureT-loop
+μ-loop done listing demand₀ offer₀ m₀ demand offer m = m
+
+loop-holds : tie.Need-loop-holds Inv-loop μ-loop
+loop-holds c =
+    let l = c .args .t2 in
+    let done = now (c .args .done) in record {
+      within = omega arith;
+      demanded = word-start (l .count) (bits done (l .places) (l .signs));
+      offered = word-start (l .count) (bits done (l .fillers) (l .signs));
+    }
+
+-- the restriction is listed, and what it names in the table
+inside : (c : tie.In-loop Inv-loop μ-loop) → c .before .loop .m - 1 < c .before .before .args .t2 .count
+inside c = omega (arith, c .before .loop .inv .within)
+
+sub-m : tie.Need-sub-m Inv-loop μ-loop
+sub-m c = omega arith
+
+element-copy-out-sign : tie.Need-element-copy-out-sign Inv-loop μ-loop
+element-copy-out-sign c = omega (arith, inside c, c .before .before .pre .few)
+
+mul-place : tie.Need-mul-place Inv-loop μ-loop
+mul-place c = omega (arith, inside (c .before), c .before .before .before .pre .few)
+
+element-copy-out-place : tie.Need-element-copy-out-place Inv-loop μ-loop
+element-copy-out-place c = omega (arith, inside (c .before), c .before .before .before .pre .few)
+
+cast-place : tie.Need-cast-place Inv-loop μ-loop
+cast-place c = let w = c .before .before in omega (arith, w .before .before .pre .place-below _ (inside w))
+
+mul-filler : tie.Need-mul-filler Inv-loop μ-loop
+mul-filler c = let w = c .before .before in omega (arith, inside w, w .before .before .pre .few)
+
+element-copy-out-filler : tie.Need-element-copy-out-filler Inv-loop μ-loop
+element-copy-out-filler c = let w = c .before .before in omega (arith, inside w, w .before .before .pre .few)
+
+cast-filler : tie.Need-cast-filler Inv-loop μ-loop
+cast-filler c = let w = c .before .before .before in omega (arith, w .before .before .pre .filler-below _ (inside w))
+
+element-copy-out-apply-sign : tie.Need-element-copy-out-apply-sign Inv-loop μ-loop
+element-copy-out-apply-sign c = let w = c .before .before .before in w .before .before .pre .place-below _ (inside w)
+
+apply-sign-requires : tie.Need-apply-sign-requires Inv-loop μ-loop
+apply-sign-requires c κs = search needs
+
+push-bit-requires : tie.Need-push-bit-requires Inv-loop μ-loop
+push-bit-requires c κs =
+    let at = c .before .before .before .before .before .before in
+    let l = at .before .args .t2 in
+    word-bound (l .count) (bits (now (at .before .args .done)) (l .places) (l .signs)) (at .loop .m) _ (at .before .pre .few)
+    (at .loop .inv .demanded)
+
+element-copy-out-apply-sign-2 : tie.Need-element-copy-out-apply-sign-2 Inv-loop μ-loop
+element-copy-out-apply-sign-2 c =
+    let w = c .before .before .before .before .before .before in
+    w .before .before .pre .filler-below _ (inside w)
+
+apply-sign-requires-2 : tie.Need-apply-sign-requires-2 Inv-loop μ-loop
+apply-sign-requires-2 c κs = search needs
+
+push-bit-requires-2 : tie.Need-push-bit-requires-2 Inv-loop μ-loop
+push-bit-requires-2 c κs =
+    let at = c .before .before .before .before .before .before .before .before .before in
+    let l = at .before .args .t2 in
+    word-bound (l .count) (bits (now (at .before .args .done)) (l .fillers) (l .signs)) (at .loop .m) _ (at .before .pre .few)
+    (at .loop .inv .offered)
+
+loop-less : tie.Need-loop-less Inv-loop μ-loop
+loop-less c = omega arith
+
+loop-again : tie.Need-loop-again Inv-loop μ-loop
+loop-again c =
+    let first = c .before .before .before in
+    let at = first .before .before .before .before .before .before .before in
+    let l = at .before .args .t2 in
+    let done = now (at .before .args .done) in
+    let w = at .loop .inv in record {
+      within = omega (arith, w .within);
+      demanded =
+          first .push-bit .ensures
+          ∙ word-turn (l .count) (bits done (l .places) (l .signs)) (at .loop .m) (at .loop .demand) _ (omega arith)
+          (w .within) (w .demanded) (first .before .apply-sign .ensures);
+      offered =
+          c .push-bit2 .ensures
+          ∙ word-turn (l .count) (bits done (l .fillers) (l .signs)) (at .loop .m) (at .loop .offer) _ (omega arith)
+          (w .within) (w .offered) (c .before .apply-sign2 .ensures);
+    }
+
+returns : tie.Need-returns Inv-loop μ-loop
+returns c =
+    let l = c .before .before .args .t2 in
+    let done = now (c .before .before .args .done) in
+    let at = c .before .loop in (
+      word-end (l .count) (bits done (l .places) (l .signs)) (at .m) _ (omega arith) (at .inv .demanded),
+      word-end (l .count) (bits done (l .fillers) (l .signs)) (at .m) _ (omega arith) (at .inv .offered),
+    )
+
+pub words-of-spec : {M : Type 1} → statement M
+words-of-spec =
+    tie.close
+    (tie.spec
+    Inv-loop
+    μ-loop
+    loop-holds
+    sub-m
+    element-copy-out-sign
+    mul-place
+    element-copy-out-place
+    cast-place
+    mul-filler
+    element-copy-out-filler
+    cast-filler
+    element-copy-out-apply-sign
+    apply-sign-requires
+    push-bit-requires
+    element-copy-out-apply-sign-2
+    apply-sign-requires-2
+    push-bit-requires-2
+    loop-less
+    loop-again
+    returns)
