@@ -21,7 +21,8 @@ lengthFits v =
 abbrev pub lengthCheck : List ℕ → Check
 lengthCheck v = require (lengthFits v) 1 0
 
--- Row 2: "kind, second byte, role count or next" of the header: "kind 16, second byte 1, .. B the number of roles (0 to 64), next 0"
+-- Row 2: "kind, second byte, role count or next" of the header: "kind 16, second byte 1, .. B the number of roles (0 to 64),
+-- next 0"
 abbrev pub headerFits : Record → Bool
 headerFits r = eqb (r .kind) 16 && (eqb (r .second) 1 && (leb (r .b) roleLimit && eqb (r .next) 0))
 

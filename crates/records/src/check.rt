@@ -7,7 +7,7 @@ use crate::fields::Record;
 use crate::fields::read_at;
 use crate::kinds::Sort;
 use crate::kinds::Sorts;
-use crate::kinds::holds;
+use crate::kinds::held;
 use crate::kinds::is_statement;
 use crate::kinds::is_term;
 ghost use mathlib.Core.Path.{_≡_};
@@ -19,7 +19,8 @@ ghost use Rattle.records.specs.Answers.{checked, counted};
 ghost use Rattle.records.specs.Format.{recordSize, recordAt, recordOf, roleCount, count};
 ghost use Rattle.records.specs.Kinds.{sortsOf};
 ghost use Rattle.records.specs.Check.{lengthFits, lengthCheck, headerFits, headerCheck, kindFits, kindCheck, named};
-ghost use Rattle.records.specs.Check.{labelled, termFits, linkFits, fieldFits, row, noFault, firstOf, rowsCheck, fieldsCheck, recordCheck, linkCheck};
+ghost use Rattle.records.specs.Check.{labelled, termFits, linkFits, fieldFits, row};
+ghost use Rattle.records.specs.Check.{noFault, firstOf, rowsCheck, fieldsCheck, recordCheck, linkCheck};
 ghost use Rattle.records.specs.Check.{linksCheck, recordsCheck, vocabularyCheck, AtRecord};
 
 // Row 1: the length.
@@ -232,55 +233,20 @@ fn check_sorts(v: &[u8], i: usize, roles: u16, fields: Record, sorts: Sorts) -> 
     Checked::Refused { number, place: i }
 }
 
-// Rows 4 to 7: the kind selects what the fields hold. (An arm for each, so that the compiler makes a check of its own of it.)
-fn check_rows(v: &[u8], i: usize, roles: u16, fields: Record) -> Checked
+// Rows 4 to 7: the kind of the fields f selects what they hold. (A call in each arm, so that the compiler makes a check of its
+// own of it.)
+fn check_rows(v: &[u8], i: usize, roles: u16, f: Record) -> Checked
     requires { ⌜ AtRecord (now v) i roles ⌝ }
-    ensures { λ r. ⌜ checked r ≡ rowsCheck (now (v .entry)) i (sortsOf (fields .kind)) fields ⌝ }
+    ensures { λ r. ⌜ checked r ≡ rowsCheck (now (v .entry)) i (sortsOf (f .kind)) f ⌝ }
 {
-    let kind = fields.kind;
+    let kind = f.kind;
     match kind {
-        3 => check_sorts(
-            v,
-            i,
-            roles,
-            fields,
-            holds(Sort::Label, Sort::Spare, Sort::Spare),
-        ),
-        4 => check_sorts(
-            v,
-            i,
-            roles,
-            fields,
-            holds(Sort::Term, Sort::Spare, Sort::Spare),
-        ),
-        5..=6 => check_sorts(
-            v,
-            i,
-            roles,
-            fields,
-            holds(Sort::Term, Sort::Term, Sort::Spare),
-        ),
-        7..=8 => check_sorts(
-            v,
-            i,
-            roles,
-            fields,
-            holds(Sort::Role, Sort::Term, Sort::Spare),
-        ),
-        9 => check_sorts(
-            v,
-            i,
-            roles,
-            fields,
-            holds(Sort::Term, Sort::Term, Sort::Link),
-        ),
-        _ => check_sorts(
-            v,
-            i,
-            roles,
-            fields,
-            holds(Sort::Spare, Sort::Spare, Sort::Spare),
-        ),
+        3 => check_sorts(v, i, roles, f, held(Sort::Label, Sort::Spare, Sort::Spare)),
+        4 => check_sorts(v, i, roles, f, held(Sort::Term, Sort::Spare, Sort::Spare)),
+        5..=6 => check_sorts(v, i, roles, f, held(Sort::Term, Sort::Term, Sort::Spare)),
+        7..=8 => check_sorts(v, i, roles, f, held(Sort::Role, Sort::Term, Sort::Spare)),
+        9 => check_sorts(v, i, roles, f, held(Sort::Term, Sort::Term, Sort::Link)),
+        _ => check_sorts(v, i, roles, f, held(Sort::Spare, Sort::Spare, Sort::Spare)),
     }
 }
 

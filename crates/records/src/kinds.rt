@@ -25,7 +25,7 @@ pub struct Sorts {
 }
 
 // The three in one.
-pub fn holds(a: Sort, b: Sort, next: Sort) -> Sorts
+pub fn held(a: Sort, b: Sort, next: Sort) -> Sorts
     ensures { λ r. ⌜ r ≡ kinds.holds a b next ⌝ }
 {
     Sorts { a, b, next }

@@ -11,38 +11,38 @@ use Rattle.records.proofs.Rows.{rows-at}
 use Rattle.records.proofs.check.check_rows.Statement.{statement}
 use Rattle.records.proofs.check.check_rows.Tie as tie
 
-holds-requires : tie.Need-holds-requires
-holds-requires c κs = search needs
+held-requires : tie.Need-held-requires
+held-requires c κs = search needs
 
 check-sorts-requires : tie.Need-check-sorts-requires
 check-sorts-requires c κs = search needs
 
-holds-requires-2 : tie.Need-holds-requires-2
-holds-requires-2 c κs = search needs
+held-requires-2 : tie.Need-held-requires-2
+held-requires-2 c κs = search needs
 
 check-sorts-requires-2 : tie.Need-check-sorts-requires-2
 check-sorts-requires-2 c κs = search needs
 
-holds-requires-3 : tie.Need-holds-requires-3
-holds-requires-3 c κs = search needs
+held-requires-3 : tie.Need-held-requires-3
+held-requires-3 c κs = search needs
 
 check-sorts-requires-3 : tie.Need-check-sorts-requires-3
 check-sorts-requires-3 c κs = search needs
 
-holds-requires-4 : tie.Need-holds-requires-4
-holds-requires-4 c κs = search needs
+held-requires-4 : tie.Need-held-requires-4
+held-requires-4 c κs = search needs
 
 check-sorts-requires-4 : tie.Need-check-sorts-requires-4
 check-sorts-requires-4 c κs = search needs
 
-holds-requires-5 : tie.Need-holds-requires-5
-holds-requires-5 c κs = search needs
+held-requires-5 : tie.Need-held-requires-5
+held-requires-5 c κs = search needs
 
 check-sorts-requires-5 : tie.Need-check-sorts-requires-5
 check-sorts-requires-5 c κs = search needs
 
-holds-requires-6 : tie.Need-holds-requires-6
-holds-requires-6 c κs = search needs
+held-requires-6 : tie.Need-held-requires-6
+held-requires-6 c κs = search needs
 
 check-sorts-requires-6 : tie.Need-check-sorts-requires-6
 check-sorts-requires-6 c κs = search needs
@@ -51,62 +51,62 @@ returns : tie.Need-returns
 unfolding kindOf
 returns c =
     let a = c .before .before .before .before .args in
-    rows-at (now (a .v)) (a .i) (a .fields) _ _ (c .check-sorts .ensures)
-    (c .before .holds .ensures ∙ ap sortsOf (sym (c .before .before .match .keys1)))
+    rows-at (now (a .v)) (a .i) (a .f) _ _ (c .check-sorts .ensures)
+    (c .before .held .ensures ∙ ap sortsOf (sym (c .before .before .match .keys1)))
 
 returns-2 : tie.Need-returns-2
 unfolding kindOf
 returns-2 c =
     let a = c .before .before .before .before .args in
-    rows-at (now (a .v)) (a .i) (a .fields) _ _ (c .check-sorts2 .ensures)
-    (c .before .holds2 .ensures ∙ ap sortsOf (sym (c .before .before .match .keys2)))
+    rows-at (now (a .v)) (a .i) (a .f) _ _ (c .check-sorts2 .ensures)
+    (c .before .held2 .ensures ∙ ap sortsOf (sym (c .before .before .match .keys2)))
 
 returns-3 : tie.Need-returns-3
 unfolding kindOf
 returns-3 c =
     let a = c .before .before .before .before .args in
-    rows-at (now (a .v)) (a .i) (a .fields) _ _ (c .check-sorts3 .ensures)
-    (c .before .holds3 .ensures ∙ ap sortsOf (sym (c .before .before .match .keys3)))
+    rows-at (now (a .v)) (a .i) (a .f) _ _ (c .check-sorts3 .ensures)
+    (c .before .held3 .ensures ∙ ap sortsOf (sym (c .before .before .match .keys3)))
 
 returns-4 : tie.Need-returns-4
 unfolding kindOf
 returns-4 c =
     let a = c .before .before .before .before .before .before .args in
-    rows-at (now (a .v)) (a .i) (a .fields) _ _ (c .check-sorts4 .ensures)
-    (c .before .holds4 .ensures ∙ between (λ k. junctionFields ≡ sortsOf k) 2 5 (refl, (refl, tt)) (a .fields .kind) (omega arith) (omega arith))
+    rows-at (now (a .v)) (a .i) (a .f) _ _ (c .check-sorts4 .ensures)
+    (c .before .held4 .ensures ∙ between (λ k. junctionFields ≡ sortsOf k) 2 5 (refl, (refl, tt)) (a .f .kind) (omega arith) (omega arith))
 
 returns-5 : tie.Need-returns-5
 unfolding kindOf
 returns-5 c =
     let a = c .before .before .before .before .before .before .before .args in
-    rows-at (now (a .v)) (a .i) (a .fields) _ _ (c .check-sorts5 .ensures)
-    (c .before .holds5 .ensures ∙ between (λ k. restrictionFields ≡ sortsOf k) 2 7 (refl, (refl, tt)) (a .fields .kind) (omega arith) (omega arith))
+    rows-at (now (a .v)) (a .i) (a .f) _ _ (c .check-sorts5 .ensures)
+    (c .before .held5 .ensures ∙ between (λ k. restrictionFields ≡ sortsOf k) 2 7 (refl, (refl, tt)) (a .f .kind) (omega arith) (omega arith))
 
 returns-6 : tie.Need-returns-6
 unfolding kindOf
 returns-6 c =
     let a = c .before .before .before .before .before .args in
-    rows-at (now (a .v)) (a .i) (a .fields) _ _ (c .check-sorts6 .ensures)
-    (c .before .holds6 .ensures ∙ ⊎-elim
-    (λ w. between (λ k. constantFields ≡ sortsOf k) 3 0 (refl, (refl, (refl, tt))) (a .fields .kind) (omega arith) (omega arith))
-    (λ w. sym (ap (λ (k : Kind). k .fields) (kind-past (a .fields .kind) (omega arith))))
+    rows-at (now (a .v)) (a .i) (a .f) _ _ (c .check-sorts6 .ensures)
+    (c .before .held6 .ensures ∙ ⊎-elim
+    (λ w. between (λ k. constantFields ≡ sortsOf k) 3 0 (refl, (refl, (refl, tt))) (a .f .kind) (omega arith) (omega arith))
+    (λ w. sym (ap (λ (k : Kind). k .fields) (kind-past (a .f .kind) (omega arith))))
     (c .before .before .if1 .came))
 
 pub check-rows-spec : {M : Type 1} → statement M
 check-rows-spec =
     tie.close
     (tie.spec
-    holds-requires
+    held-requires
     check-sorts-requires
-    holds-requires-2
+    held-requires-2
     check-sorts-requires-2
-    holds-requires-3
+    held-requires-3
     check-sorts-requires-3
-    holds-requires-4
+    held-requires-4
     check-sorts-requires-4
-    holds-requires-5
+    held-requires-5
     check-sorts-requires-5
-    holds-requires-6
+    held-requires-6
     check-sorts-requires-6
     returns
     returns-2
