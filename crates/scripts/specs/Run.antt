@@ -58,7 +58,7 @@ module _ {A L : Type 0} (g : Setting A L) where
   abbrev pub goal : Frames L → L
   goal frames = goalOf (getD frames 0 [])
 
-  -- The literal at an extension's position, and its column's others.
+  -- The literal at an extension's position, and its column's others: Calculus' `connected` and `others`, over any literals.
   abbrev pub meets : Extension A → L
   meets e = getD (g .uses e) (e .position) (g .nothing)
 

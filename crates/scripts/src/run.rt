@@ -38,6 +38,17 @@ pub struct Tested {
     pub others: Column,
 }
 
+// The answer of a step that opens no frame.
+fn no_frame(answer: Checked) -> Tested
+    ensures { λ r. ⌜ r .answer ≡ answer ⌝ }
+    ensures { λ r. ⌜ literals (r .others) ≡ [] ⌝ }
+{
+    Tested {
+        answer,
+        others: Column::none(),
+    }
+}
+
 // Function f at the term of record t as a number (specs/Codes.antt).
 fn code_of(f: u16, t: u16) -> u32
     ensures { λ r. ⌜ r ≡ codeOf f t ⌝ }
@@ -130,10 +141,7 @@ fn test_extension(
     let position = e.w5 as usize;
     let answer = pass_if(is_opposed(literal_at(column, position), goal), 21, i);
     let Checked::Fine = answer else {
-        return Tested {
-            answer,
-            others: Column::none(),
-        };
+        return no_frame(answer);
     };
     let others = leave_out(column, position);
     let answer = pass_if(has_room(others, depth), 23, i);
@@ -176,10 +184,7 @@ fn test_step(
 {
     let answer = pass_if(depth != 0, 25, i);
     let Checked::Fine = answer else {
-        return Tested {
-            answer,
-            others: Column::none(),
-        };
+        return no_frame(answer);
     };
     let e = read_entry(s, i);
     let last = depth - 1;
@@ -187,17 +192,14 @@ fn test_step(
     let kind = e.w0;
     match kind {
         4 => test_extension(v, marks, s, header, i, e, goal, depth),
-        5 => Tested {
-            answer: pass_if(can_reduce(table, closed, depth, e.w1, goal), 22, i),
-            others: Column::none(),
-        },
-        _ => Tested {
-            answer: Checked::Refused {
-                number: 20,
-                place: i,
-            },
-            others: Column::none(),
-        },
+        5 => {
+            let answer = pass_if(can_reduce(table, closed, depth, e.w1, goal), 22, i);
+            no_frame(answer)
+        }
+        _ => no_frame(Checked::Refused {
+            number: 20,
+            place: i,
+        }),
     }
 }
 

@@ -79,8 +79,8 @@ enum-told c = search needs
 enum-told-2 : tie.Need-enum-told-2
 enum-told-2 c = search needs
 
-none-requires : tie.Need-none-requires
-none-requires c κs = search needs
+no-frame-requires : tie.Need-no-frame-requires
+no-frame-requires c κs = search needs
 
 -- row 21, from the call that tests it
 connected : (c : tie.After-pass-if) → checked (c .pass-if .result) ≡ row21 (start (found c))
@@ -95,11 +95,12 @@ connected c =
 returns : tie.Need-returns
 returns c =
     let refused = c .before .enum-told2 .given .1 in
+    let same = ap checked (c .no-frame .ensures .0) in
     let no = not-passed _ _ _ refused in
     record {
-      rows = stops _ _ (row23 (start (found (c .before .before .before)))) _ _ (connected (c .before .before .before)) refused;
-      others = λ q. absurd (no q);
-      room = λ q. absurd (no q);
+      rows = same ∙ stops _ _ (row23 (start (found (c .before .before .before)))) _ _ (connected (c .before .before .before)) refused;
+      others = λ q. absurd (no (sym same ∙ q));
+      room = λ q. absurd (no (sym same ∙ q));
     }
 
 leave-out-requires : tie.Need-leave-out-requires
@@ -148,7 +149,7 @@ test-extension-spec =
     pass-if-requires
     enum-told
     enum-told-2
-    none-requires
+    no-frame-requires
     returns
     leave-out-requires
     has-room-requires

@@ -8,7 +8,7 @@ use mathlib.Core.List.{List}
 use lib.ListN.{length}
 use denote.Ref.{now}
 use borrow.Author.Needs.{needs}
-use Rattle.records.specs.Outcome.{require}
+use Rattle.records.specs.Outcome.{refused, pass, require}
 use Rattle.records.specs.Answers.{checked}
 use Rattle.records.proofs.Passed.{require-passed, clash}
 use Rattle.records.proofs.Order.{stops, goes, asked, passed}
@@ -24,6 +24,10 @@ use Rattle.scripts.proofs.Stepping.{step-neither, extension-rows, reduc
 use Rattle.scripts.proofs.Stepping.{reduction-after}
 use Rattle.scripts.proofs.run.test_step.Statement.{statement}
 use Rattle.scripts.proofs.run.test_step.Tie as tie
+
+-- a refusal is no pass
+no-pass : {n p : ℕ} → refused n p ≡ pass → ⊥
+no-pass e = clash (cc)
 
 -- an extension is no reduction
 four-five : (a b : ℕ) → a ≡ b → a ≡ 4 → b ≡ 5 → ⊥
@@ -65,20 +69,21 @@ positive c = open-positive _ (require-passed _ _ _ (passed _ _ (tried c .pass-if
 enum-told-2 : tie.Need-enum-told-2
 enum-told-2 c = search needs
 
-none-requires : tie.Need-none-requires
-none-requires c κs = search needs
+no-frame-requires : tie.Need-no-frame-requires
+no-frame-requires c κs = search needs
 
 returns : tie.Need-returns
 unfolding stepCheck
 returns c =
     let refused = c .before .enum-told2 .given .1 in
+    let same = ap checked (c .no-frame .ensures .0) in
     let no = not-passed _ _ _ refused in
-    let l = c .none .result in
+    let l = c .no-frame .result .others in
     record {
-      rows = stops _ _ _ _ _ (opened (c .before .before .before)) refused;
-      after = λ q. absurd (no q);
-      room = λ q. absurd (no q);
-      reduced = λ k. listed-none (l .first) (l .second) (l .third) (c .none .ensures);
+      rows = same ∙ stops _ _ _ _ _ (opened (c .before .before .before)) refused;
+      after = λ q. absurd (no (sym same ∙ q));
+      room = λ q. absurd (no (sym same ∙ q));
+      reduced = λ k. listed-none (l .first) (l .second) (l .third) (c .no-frame .ensures .1);
     }
 
 read-entry-requires : tie.Need-read-entry-requires
@@ -119,11 +124,11 @@ can-reduce-requires c κs = begun (c .before) .pre .1 .1
 pass-if-requires-2 : tie.Need-pass-if-requires-2
 pass-if-requires-2 c κs = search needs
 
-none-requires-2 : tie.Need-none-requires-2
-none-requires-2 c κs = search needs
+no-frame-requires-2 : tie.Need-no-frame-requires-2
+no-frame-requires-2 c κs = search needs
 
-none-requires-3 : tie.Need-none-requires-3
-none-requires-3 c κs = search needs
+no-frame-requires-3 : tie.Need-no-frame-requires-3
+no-frame-requires-3 c κs = search needs
 
 returns-2 : tie.Need-returns-2
 returns-2 c =
@@ -153,13 +158,14 @@ returns-3 c =
     let a = b .args in
     let e = read g .read-entry in
     let step = step-reducing (now (a .s)) (a .i) (e .result) (e .ensures) (m .match2 .keys2) in
-    let l = c .none2 .result in
-    let none = listed-none (l .first) (l .second) (l .third) (c .none2 .ensures) in
+    let l = c .no-frame2 .result .others in
+    let none = listed-none (l .first) (l .second) (l .third) (c .no-frame2 .ensures .1) in
     record {
-      rows = goes _ _ _ _ (opened (tried o)) (o .enum-told .given .1)
+      rows = ap checked (c .no-frame2 .ensures .0)
+          ∙ goes _ _ _ _ (opened (tried o)) (o .enum-told .given .1)
           (asked _ _ _ _ _ (c .before .pass-if2 .ensures) (c .before .before .can-reduce .ensures))
           ∙ reduction-rows (now (a .v)) (now (a .s)) (a .i) (frames b) (e .result .w1) step _ (aimed g);
-      after = λ q. reduction-after (now (a .v)) (now (a .s)) (a .i) (frames b) (e .result .w1) _ step (c .none2 .ensures);
+      after = λ q. reduction-after (now (a .v)) (now (a .s)) (a .i) (frames b) (e .result .w1) _ step (c .no-frame2 .ensures .1);
       room = λ q h. absurd (omega (arith, h, none));
       reduced = λ k. none;
     }
@@ -172,14 +178,16 @@ returns-4 c =
     let b = begun g in
     let a = b .args in
     let e = read g .read-entry in
-    let l = c .none3 .result in
+    let l = c .no-frame3 .result .others in
+    let same = ap checked (c .no-frame3 .ensures .0) in
     let starts = step-neither (now (a .s)) (a .i) (e .result) (e .ensures) (m .match2 .rest .0 .1) (m .match2 .rest .1) in
     record {
-      rows = goes _ _ _ _ (opened (tried o)) (o .enum-told .given .1) refl
+      rows = same
+          ∙ goes _ _ _ _ (opened (tried o)) (o .enum-told .given .1) refl
           ∙ start-rows (now (a .v)) (now (a .s)) (a .i) (frames b) starts;
-      after = λ q. absurd (clash (cc));
-      room = λ q. absurd (clash (cc));
-      reduced = λ k. listed-none (l .first) (l .second) (l .third) (c .none3 .ensures);
+      after = λ q. absurd (no-pass (sym same ∙ q));
+      room = λ q. absurd (no-pass (sym same ∙ q));
+      reduced = λ k. listed-none (l .first) (l .second) (l .third) (c .no-frame3 .ensures .1);
     }
 
 pub test-step-spec : {M : Type 1} → statement M
@@ -189,7 +197,7 @@ test-step-spec =
     pass-if-requires
     enum-told
     enum-told-2
-    none-requires
+    no-frame-requires
     returns
     read-entry-requires
     sub-last
@@ -198,8 +206,8 @@ test-step-spec =
     test-extension-requires
     can-reduce-requires
     pass-if-requires-2
-    none-requires-2
-    none-requires-3
+    no-frame-requires-2
+    no-frame-requires-3
     returns-2
     returns-3
     returns-4)
