@@ -36,7 +36,7 @@ use Rattle.types.proofs.Sets.{Within, table-at, table-past, table-cong}
 use Rattle.types.proofs.Bits.{number-cong}
 use Rattle.types.proofs.Largest.{has-table, Removing, stage-falls, rounds-is}
 use Rattle.types.proofs.Spread.{spread-cong}
-use Rattle.types.proofs.Turns.{Ends, types-bound}
+use Rattle.types.proofs.Turns.{Ends}
 use Rattle.types.proofs.Restrictions.{width-bound}
 use Rattle.types.proofs.Cover.{reached-small, offer-small}
 use Rattle.types.proofs.Served.{served-by-words, served-cong, role-unused}

@@ -182,36 +182,7 @@ fn remove_unserved(
     sweep_roles(v, bits, masks, demands, cover, live, left, alive)
 }
 
-// Rounds until one removes nothing; how many removed something.
-fn count_rounds(
-    v: &[u8],
-    bits: usize,
-    masks: &[u16; Record::ROLES as usize],
-    demands: &[u16; Profile::TYPES],
-    offers: &[u16; Profile::TYPES],
-    live: &[u16; Profile::TYPES],
-    left: usize,
-    cover: &mut [u16; Profile::TYPES],
-    alive: &mut [bool; Profile::TYPES],
-) -> usize
-    requires { ⌜ Eliminating (now v) bits (now masks) (now demands) (now live) left (now alive) ⌝ }
-    requires { ⌜ Offers (now v) (now offers) ⌝ }
-    requires { ⌜ SameSet (now alive) (stage (now v) 0) ⌝ }
-    requires { ⌜ length (now cover) ≡ typeLimit ⌝ }
-    ensures { λ _. ⌜ SameSet (now (alive .exit)) (survivors (now (v .entry))) ⌝ }
-    ensures { λ r. ⌜ r ≡ rounds (now (v .entry)) ⌝ }
-{
-    let mut done = 0;
-    loop {
-        let removed = remove_unserved(v, bits, masks, demands, offers, live, left, cover, alive);
-        if !removed {
-            return done;
-        }
-        done += 1;
-    }
-}
-
-// Keeps the survivors; answers the number of rounds that removed something.
+// Rounds until one removes nothing, so that the survivors are left; how many removed something.
 pub fn eliminate(
     v: &[u8],
     roles: &[u16; Profile::ATOMS],
@@ -237,15 +208,22 @@ pub fn eliminate(
     let mut live = [0; Profile::TYPES];
     let left = list_live(alive, size, &mut live);
     let mut cover = [0; Profile::TYPES];
-    count_rounds(
-        v,
-        bits,
-        &masks,
-        demands,
-        offers,
-        &live,
-        left,
-        &mut cover,
-        alive,
-    )
+    let mut done = 0;
+    loop {
+        let removed = remove_unserved(
+            v,
+            bits,
+            &masks,
+            demands,
+            offers,
+            &live,
+            left,
+            &mut cover,
+            alive,
+        );
+        if !removed {
+            return done;
+        }
+        done += 1;
+    }
 }

@@ -30,7 +30,8 @@ fn join_block(cover: &mut [u16; Profile::TYPES], at: usize, half: usize)
     let end = at + half;
     let mut x = at;
     while x < end {
-        cover[x + half] = cover[x + half] | cover[x];
+        let to = x + half;
+        cover[to] = cover[to] | cover[x];
         x += 1;
     }
 }

@@ -1,18 +1,40 @@
--- `types::eliminate::eliminate` meets its contract: the rounds begin with all tables right, and with the first stage.
+-- `types::eliminate::eliminate` meets its contract. The loop's invariant: `done` rounds each removed something, and what
+-- is alive is that stage. Each round is paid for by a type.
 -- Assumes nothing.
+use Prim.Native.Nat.{ℕ, _+_, _-_, _≤_}
 use native.Mathlib.Omega.{arith}
-use mathlib.Core.Path.{refl, _∙_}
+use mathlib.Core.Bool.{Bool}
+use mathlib.Core.List.{List}
+use mathlib.Core.Path.{_≡_, refl, _∙_}
+use lib.ListN.{length}
+use borrow.Author.Tests.{not-true, not-false}
 use borrow.Author.Needs.{needs}
 use denote.Ref.{now}
-use Rattle.types.proofs.Rounds.{stage-ends}
+use Rattle.types.specs.Types.{types}
+use Rattle.types.specs.Compare.{typeLimit}
+use Rattle.types.specs.Elimination.{Eliminating}
+use Rattle.types.proofs.Rounds.{stage-ends, eliminating-on, AtStage, rests-survivors, stage-on, rounds-left}
 use Rattle.types.proofs.Turns.{types-bound}
 use Rattle.types.proofs.eliminate.eliminate.Statement.{statement}
 use Rattle.types.proofs.eliminate.eliminate.Tie as tie
 
-list-masks-requires : tie.Need-list-masks-requires
+record Standing (v : List ℕ) (bits : ℕ) (masks demands live : List ℕ) (left : ℕ) (cover : List ℕ) (alive : List Bool) (done : ℕ)
+    : Type 0 where
+  state : Eliminating v bits masks demands live left alive
+  stage : AtStage v alive done
+  room : length cover ≡ typeLimit
+
+abbrev Inv-loop : tie.InvT-loop
+Inv-loop v roles bits demands offers size alive₀ masks live left cover₀ done₀ alive cover done =
+    Standing v bits masks demands live left cover alive done
+
+abbrev μ-loop : tie.MeasureT-loop
+μ-loop v roles bits demands offers size alive₀ masks live left cover₀ done₀ alive cover done = types v - done
+
+list-masks-requires : tie.Need-list-masks-requires Inv-loop μ-loop
 list-masks-requires c κs = search needs
 
-list-live-requires : tie.Need-list-live-requires
+list-live-requires : tie.Need-list-live-requires Inv-loop μ-loop
 list-live-requires c κs =
     let start = c .before .before .before .before in
     let v = now (start .args .v) in
@@ -22,29 +44,79 @@ list-live-requires c κs =
       (λ t h. (p .1 .1 .1 .1 .1 .1 .1 .0) t ∙ stage-ends v 0 t (omega (arith, size)), refl),
     )
 
-count-rounds-requires : tie.Need-count-rounds-requires
-count-rounds-requires c κs =
-    let listed = c .before .before .before .before in
-    let masked = listed .before .before .before in
+loop-holds : tie.Need-loop-holds Inv-loop μ-loop
+loop-holds c =
+    let masked = c .before .before .before in
     let start = masked .before .before in
     let p = start .pre in
-    let same = p .1 .1 .1 .1 .1 .1 .1 .0 in (
-      record {
+    let same = p .1 .1 .1 .1 .1 .1 .1 .0 in record {
+      state = record {
         accepts = p .0;
         few = p .1 .0;
         wide = p .1 .1 .0;
         masked = masked .list-masks .ensures;
         demanded = p .1 .1 .1 .1 .0;
-        listed = listed .list-live .ensures;
+        listed = c .list-live .ensures;
         ends = λ t h. same t ∙ stage-ends (now (start .args .v)) 0 t h;
         size = p .1 .1 .1 .1 .1 .1 .1 .1;
-      },
-      (p .1 .1 .1 .1 .1 .0, (same, refl)),
-    )
+      };
+      stage = record { same = same; before = λ m h. absurd (omega arith) };
+      room = refl;
+    }
 
-returns : tie.Need-returns
-returns c = search needs
+-- the loop and the function's start, seen from a round's end
+abbrev loop-at : tie.After-remove-unserved Inv-loop μ-loop → tie.At-loop Inv-loop μ-loop
+loop-at c = c .before .before .before .before .before
+
+abbrev start-at : tie.At-loop Inv-loop μ-loop → tie.Start Inv-loop μ-loop
+start-at c = c .before .before .before .before .before .before
+
+remove-unserved-requires : tie.Need-remove-unserved-requires Inv-loop μ-loop
+remove-unserved-requires c κs =
+    let loop = c .before .before .before .before in
+    (loop .loop .inv .state, (start-at loop .pre .1 .1 .1 .1 .1 .0, loop .loop .inv .room))
+
+returns : tie.Need-returns Inv-loop μ-loop
+returns c =
+    let round = c .before in
+    rests-survivors (loop-at round .loop .inv .stage) _ _ (round .remove-unserved .ensures .1) (not-true _ (c .if1 .taken))
+
+-- a round that removed something was one of few
+left : (c : tie.Else1 Inv-loop μ-loop)
+    → loop-at (c .before) .loop .done + 1 ≤ types (now (start-at (loop-at (c .before)) .args .v))
+left c =
+    let round = c .before in
+    rounds-left (loop-at round .loop .inv .stage) _ _ (round .remove-unserved .ensures .1) (not-false _ (c .if1 .left))
+
+add-done : tie.Need-add-done Inv-loop μ-loop
+add-done c =
+    let loop = loop-at (c .before) in
+    omega (arith, left c, types-bound (now (start-at loop .args .v)) (loop .loop .inv .state .few))
+
+loop-less : tie.Need-loop-less Inv-loop μ-loop
+loop-less c = omega (arith, left c)
+
+loop-again : tie.Need-loop-again Inv-loop μ-loop
+loop-again c =
+    let round = c .before in
+    let l = loop-at round .loop in
+    let after = round .remove-unserved .ensures in record {
+      state = eliminating-on (l .inv .state) _ _ (after .1);
+      stage = stage-on (l .inv .stage) _ _ (after .1) (not-false _ (c .if1 .left));
+      room = after .0;
+    }
 
 pub eliminate-spec : {M : Type 1} → statement M
 eliminate-spec =
-    tie.close (tie.spec list-masks-requires list-live-requires count-rounds-requires returns)
+    tie.close
+    (tie.spec
+    Inv-loop
+    μ-loop
+    list-masks-requires
+    list-live-requires
+    loop-holds
+    remove-unserved-requires
+    returns
+    add-done
+    loop-less
+    loop-again)

@@ -1,11 +1,10 @@
 -- `types::eliminate::sweep_roles` meets its contract. The loop's invariant: what is left is what the roles below `role`
 -- serve.
 -- Assumes nothing.
-use Prim.Native.Nat.{ℕ, _+_, _-_, _^_, _≤_, _<_}
+use Prim.Native.Nat.{_-_, _≤_, _<_}
 use native.Mathlib.Omega.{arith}
 use mathlib.Core.Logic.{⊎-elim}
-use mathlib.Core.Path.{_≡_, ap, _∙_, subst}
-use lib.ListN.{getD}
+use mathlib.Core.Path.{_≡_, ap, _∙_}
 use lib.Pow.{pow-pos}
 use borrow.Author.Needs.{needs}
 use denote.Ref.{now}

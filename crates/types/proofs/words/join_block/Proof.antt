@@ -19,8 +19,8 @@ add-end c = omega arith
 loop-holds : tie.Need-loop-holds Inv-loop μ-loop
 loop-holds c = join-start _ _ _
 
-add-cover : tie.Need-add-cover Inv-loop μ-loop
-add-cover c = omega arith
+add-to : tie.Need-add-to Inv-loop μ-loop
+add-to c = omega arith
 
 mul-cover : tie.Need-mul-cover Inv-loop μ-loop
 mul-cover c = omega arith
@@ -33,9 +33,6 @@ mul-cover-2 c = omega arith
 
 element-copy-out-cover-2 : tie.Need-element-copy-out-cover-2 Inv-loop μ-loop
 element-copy-out-cover-2 c = omega arith
-
-add-cover-2 : tie.Need-add-cover-2 Inv-loop μ-loop
-add-cover-2 c = omega arith
 
 mul-cover-3 : tie.Need-mul-cover-3 Inv-loop μ-loop
 mul-cover-3 c = omega arith
@@ -66,12 +63,11 @@ join-block-spec =
     μ-loop
     add-end
     loop-holds
-    add-cover
+    add-to
     mul-cover
     element-copy-out-cover
     mul-cover-2
     element-copy-out-cover-2
-    add-cover-2
     mul-cover-3
     element-write-cover
     add-x
