@@ -142,6 +142,11 @@ Offers v offers = (t : ℕ) → t < types v → getD offers t 0 ≡ offer v t
 abbrev pub Differs : List ℕ → ℕ → ℕ → List Bool → Type 0
 Differs v a b differs = (t : ℕ) → t < types v → getD differs t false ≡ differ v a b t
 
+-- A list with n zeros written from `start` on.
+unfoldable pub cleared : List ℕ → ℕ → ℕ → List ℕ
+cleared l start zero = l
+cleared l start (suc n) = set (cleared l start n) (start + n) 0
+
 -- Two tables hold the same set.
 abbrev pub SameSet : List Bool → List Bool → Type 0
 SameSet S R = (t : ℕ) → has S t ≡ has R t
@@ -190,8 +195,3 @@ pub record Covering (live : List ℕ) (left : ℕ) (S : List Bool) : Type 0 wher
 -- A table of the covers of all words.
 abbrev pub Covers : List ℕ → List Bool → List ℕ → Type 0
 Covers v S table = (x : ℕ) → x < 2 ^ width v → getD table x 0 ≡ cover v S x
-
--- A list with n zeros written from `start` on.
-unfoldable pub cleared : List ℕ → ℕ → ℕ → List ℕ
-cleared l start zero = l
-cleared l start (suc n) = set (cleared l start n) (start + n) 0
