@@ -1,6 +1,6 @@
 -- The truth rules of the code are the paper's.
 --   rule-restriction, rule-low, rule-high, first-.., second-..   the tables of shapes by the ranges of a `match`
---   select-..                      what each rule selects
+--   agree                          rules that agree at all four places
 --   rule-connects                  what a record says, by its rule
 --   operands-earlier               its operands come no later than the record
 -- Assumes nothing.
@@ -85,72 +85,30 @@ agree f g h false true = h .1
 agree f g h true false = h .2
 agree f g h true true = h .3
 
-module _ (x y : Bool) where
-  select-never : select 0 x y ≡ false
-  unfolding select bit
-  select-never = agree (select 0) (λ x y. false) (refl, refl, refl, refl) x y
-
-  select-always : select 15 x y ≡ true
-  unfolding select bit
-  select-always = agree (select 15) (λ x y. true) (refl, refl, refl, refl) x y
-
-  select-first : select 10 x y ≡ x
-  unfolding select bit
-  select-first = agree (select 10) (λ x y. x) (refl, refl, refl, refl) x y
-
-  select-not : select 5 x y ≡ not x
-  unfolding select bit
-  select-not = agree (select 5) (λ x y. not x) (refl, refl, refl, refl) x y
-
-  select-and : select 8 x y ≡ (x && y)
-  unfolding select bit
-  select-and = agree (select 8) (λ x y. x && y) (refl, refl, refl, refl) x y
-
-  select-or : select 14 x y ≡ (x || y)
-  unfolding select bit
-  select-or = agree (select 14) (λ x y. x || y) (refl, refl, refl, refl) x y
-
-  select-implies : select 13 x y ≡ (not x || y)
-  unfolding select bit
-  select-implies = agree (select 13) (λ x y. not x || y) (refl, refl, refl, refl) x y
-
 -- where an atom's own place has its truth already
 pub rule-connects : (r : Record) (n : ℕ) (f : ℕ → Bool)
     → select (ruleOf (r .kind)) (f (firstOf (r .kind) (r .a) n)) (f (secondOf (r .kind) (r .b))) ≡ connect (constructOf r) (f n) f
-unfolding kindOf shapeOf
+unfolding kindOf shapeOf select bit
 rule-connects r n f = at (decLt (r .kind) 10)
   where
     Connects : ℕ → Type 0
     Connects k = select (ruleOf k) (f (firstOf k (r .a) n)) (f (secondOf k (r .b))) ≡ connect (kindOf k .says r) (f n) f
 
+    never : (x y : Bool) → select 0 x y ≡ false
+    never = agree (select 0) (λ x y. false) (refl, refl, refl, refl)
+
     at : Dec (r .kind < 10) → Connects (r .kind)
     at (yes h) =
-        between Connects 10 0 (
-          select-never (f n) (f 0),
-          (
-            select-always (f n) (f 0),
-            (
-              select-never (f n) (f 0),
-              (
-                select-first (f n) (f 0),
-                (
-                  select-not (f (r .a)) (f 0),
-                  (
-                    select-and (f (r .a)) (f (r .b)),
-                    (
-                      select-or (f (r .a)) (f (r .b)),
-                      (
-                        select-first (f n) (f (r .b)),
-                        (select-first (f n) (f (r .b)), (select-implies (f (r .a)) (f (r .b)), tt)),
-                      ),
-                    ),
-                  ),
-                ),
-              ),
-            ),
-          ),
-        ) (r .kind) (omega arith) h
-    at (no m) = rw (shape-past (r .kind) (omega arith), says-past (r .kind) (omega arith) r) (select-never (f n) (f 0))
+        let none = never (f n) (f 0) in
+        let top = agree (select 15) (λ x y. true) (refl, refl, refl, refl) (f n) (f 0) in
+        let name = agree (select 10) (λ x y. x) (refl, refl, refl, refl) (f n) (f 0) in
+        let neg = agree (select 5) (λ x y. not x) (refl, refl, refl, refl) (f (r .a)) (f 0) in
+        let and = agree (select 8) (λ x y. x && y) (refl, refl, refl, refl) (f (r .a)) (f (r .b)) in
+        let or = agree (select 14) (λ x y. x || y) (refl, refl, refl, refl) (f (r .a)) (f (r .b)) in
+        let some = agree (select 10) (λ x y. x) (refl, refl, refl, refl) (f n) (f (r .b)) in
+        let sub = agree (select 13) (λ x y. not x || y) (refl, refl, refl, refl) (f (r .a)) (f (r .b)) in
+        between Connects 10 0 (none, (top, (none, (name, (neg, (and, (or, (some, (some, (sub, tt)))))))))) (r .kind) (omega arith) h
+    at (no m) = rw (shape-past (r .kind) (omega arith), says-past (r .kind) (omega arith) r) (never (f n) (f 0))
 
 pub operands-earlier : (r : Record) (i n : ℕ) → n ≤ i → Earlier i (constructOf r)
     → (firstOf (r .kind) (r .a) n ≤ i) × (secondOf (r .kind) (r .b) ≤ i)
@@ -160,34 +118,20 @@ operands-earlier r i n l = at (decLt (r .kind) 10)
     Bound : ℕ → Type 0
     Bound k = Earlier i (kindOf k .says r) → (firstOf k (r .a) n ≤ i) × (secondOf k (r .b) ≤ i)
 
-    none : Earlier i (kindOf 0 .says r) → (n ≤ i) × (0 ≤ i)
+    none : Unit {0} → (n ≤ i) × (0 ≤ i)
     none e = (l, omega arith)
+
+    first : (r .a < i) × Unit {0} → (r .a ≤ i) × (0 ≤ i)
+    first e = (omega (arith, e .0), omega arith)
+
+    both : (r .a < i) × (r .b < i) × Unit {0} → (r .a ≤ i) × (r .b ≤ i)
+    both e = (omega (arith, e .0), omega (arith, e .1 .0))
+
+    filler : (r .b < i) × Unit {0} → (n ≤ i) × (r .b ≤ i)
+    filler e = (l, omega (arith, e .0))
 
     at : Dec (r .kind < 10) → Bound (r .kind)
     at (yes h) =
-        between Bound 10 0 (
-          none,
-          (
-            none,
-            (
-              none,
-              (
-                none,
-                (
-                  λ e. (omega (arith, e .0), omega arith),
-                  (
-                    λ e. (omega (arith, e .0), omega (arith, e .1 .0)),
-                    (
-                      λ e. (omega (arith, e .0), omega (arith, e .1 .0)),
-                      (
-                        λ e. (l, omega (arith, e .0)),
-                        (λ e. (l, omega (arith, e .0)), (λ e. (omega (arith, e .0), omega (arith, e .1 .0)), tt)),
-                      ),
-                    ),
-                  ),
-                ),
-              ),
-            ),
-          ),
-        ) (r .kind) (omega arith) h
+        between Bound 10 0 (none, (none, (none, (none, (first, (both, (both, (filler, (filler, (both, tt))))))))))
+        (r .kind) (omega arith) h
     at (no m) = λ e. rw (shape-past (r .kind) (omega arith)) (l, omega arith)

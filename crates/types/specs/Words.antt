@@ -139,6 +139,11 @@ Offers v offers = (t : ℕ) → t < types v → getD offers t 0 ≡ offer v t
 abbrev pub Differs : List ℕ → ℕ → ℕ → List Bool → Type 0
 Differs v a b differs = (t : ℕ) → t < types v → getD differs t false ≡ differ v a b t
 
+-- A list with n zeros written from `start` on.
+unfoldable pub cleared : List ℕ → ℕ → ℕ → List ℕ
+cleared l start zero = l
+cleared l start (suc n) = set (cleared l start n) (start + n) 0
+
 -- Two tables hold the same set.
 abbrev pub SameSet : List Bool → List Bool → Type 0
 SameSet S R = (t : ℕ) → has S t ≡ has R t
@@ -169,8 +174,3 @@ pub record Settled (v : List ℕ) (a b : ℕ) (alive differs : List Bool) (done 
   pub alive-at : SameSet alive (survivors v)
   pub differs-at : Differs v a b differs
   pub rounds-at : done ≡ rounds v
-
--- A list with n zeros written from `start` on.
-unfoldable pub cleared : List ℕ → ℕ → ℕ → List ℕ
-cleared l start zero = l
-cleared l start (suc n) = set (cleared l start n) (start + n) 0
