@@ -10,7 +10,8 @@ ghost use lib.ListN.{getD};
 ghost use lib.Dec.{eqb};
 ghost use Rattle.records.specs.Check.{IsAccepted};
 ghost use Rattle.types.specs.Below.{number};
-ghost use Rattle.types.specs.Words.{isRestriction, signed, Listed, Bounded, wordAt};
+ghost use Rattle.types.specs.Words.{isRestriction, signed};
+ghost use Rattle.types.specs.Settling.{Listed, Bounded, wordAt};
 ghost use Rattle.records.specs.Atoms.{atoms};
 ghost use Rattle.types.specs.Compare.{atomLimit};
 
