@@ -24,7 +24,8 @@ use Rattle.types.specs.Types.{types}
 use Rattle.types.specs.Survivors.{survivors, rounds}
 use Rattle.types.specs.Compare.{Verdict, parted, firstParted, verdictWith, verdict}
 use Rattle.types.specs.Form.{byteOf, form}
-use Rattle.types.specs.Words.{SameSet, Differs, cleared}
+use Rattle.types.specs.Words.{SameSet}
+use Rattle.types.specs.Settling.{Differs, cleared}
 use Rattle.types.proofs.Tests.{both-true}
 use Rattle.types.proofs.Below.{least-is, least-end, least-cong, None, none-turn}
 use Rattle.types.proofs.Sets.{length-table, table-cong}

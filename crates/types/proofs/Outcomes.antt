@@ -21,7 +21,7 @@ use Rattle.types.specs.declared.answers.Compared.{Compared}
 use Rattle.types.specs.Answers.{compared}
 use Rattle.types.proofs.Verdicts.{Answered, answered}
 use Rattle.types.specs.Compare.{formBytes}
-use Rattle.types.specs.Words.{Comparable}
+use Rattle.types.specs.Settling.{Comparable}
 use Rattle.records.specs.Atoms.{atoms}
 use Rattle.records.proofs.Bounds.{vocabulary-count}
 

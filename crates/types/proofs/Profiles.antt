@@ -23,8 +23,9 @@ use Rattle.types.specs.Below.{allBelow, number}
 use Rattle.types.specs.Types.{truth}
 use Rattle.types.specs.Survivors.{fits}
 use Rattle.types.specs.Rules.{holding, Truths}
-use Rattle.types.specs.Words.{width, restriction, signed, negated, demand, offer, Bounded, Stating, Prepared}
-use Rattle.types.specs.Words.{wordAt, differ, profileAt}
+use Rattle.types.specs.Words.{width, restriction, signed, negated, demand, offer}
+use Rattle.types.specs.Settling.{Bounded, Stating, Prepared}
+use Rattle.types.specs.Settling.{wordAt, differ, profileAt}
 use Rattle.types.proofs.Tests.{implies-true, implies-rest, same-truth}
 use Rattle.types.proofs.Below.{all-intro, all-at}
 use Rattle.types.proofs.Bits.{number-cong}

@@ -30,7 +30,7 @@ ghost use Rattle.types.specs.Compare.{termCheck, queryCheck, verdict, co
 ghost use Rattle.types.specs.Form.{form, written};
 ghost use Rattle.types.specs.Answers.{compared};
 ghost use Rattle.types.specs.Compare.{formBytes};
-ghost use Rattle.types.specs.Words.{Comparable};
+ghost use Rattle.types.specs.Settling.{Comparable};
 
 // Row 10: whether a number of the query names a term.
 fn names_term(v: &[u8], number: usize) -> bool

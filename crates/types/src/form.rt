@@ -8,7 +8,7 @@ ghost use Prim.Native.Nat.{ℕ, _-_, _≤_, _<_};
 ghost use lib.ListN.{length, getD, drop};
 ghost use Rattle.types.specs.Below.{has, least, table, countBelow};
 ghost use Rattle.types.specs.Form.{byteOf};
-ghost use Rattle.types.specs.Words.{cleared};
+ghost use Rattle.types.specs.Settling.{cleared};
 ghost use Rattle.types.specs.Compare.{typeLimit, formBytes};
 
 // How many are below `size`.

@@ -10,7 +10,7 @@ ghost use lib.ListN.{length, getD};
 ghost use Rattle.records.specs.Check.{IsAccepted};
 ghost use Rattle.types.specs.Compare.{atomLimit, typeLimit};
 ghost use Rattle.types.specs.Rules.{select, Decoded, holding, AtomsListed, AtomsSet, Truths};
-ghost use Rattle.types.specs.Words.{Stating};
+ghost use Rattle.types.specs.Settling.{Stating};
 ghost use Rattle.records.specs.Format.{recordLimit};
 ghost use Rattle.records.specs.Atoms.{atoms, digit};
 

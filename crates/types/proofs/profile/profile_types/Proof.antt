@@ -12,7 +12,8 @@ use denote.Ref.{now}
 use Rattle.types.specs.Below.{has, table}
 use Rattle.types.specs.Survivors.{fits, stage}
 use Rattle.types.specs.Types.{types}
-use Rattle.types.specs.Words.{demand, offer, differ}
+use Rattle.types.specs.Words.{demand, offer}
+use Rattle.types.specs.Settling.{differ}
 use Rattle.types.specs.declared.profile.Profile.{Profile}
 use Rattle.types.proofs.Sets.{table-at, table-past}
 use Rattle.types.proofs.Counted.{size-word}
