@@ -124,7 +124,7 @@ operands-earlier r i n l = at (decLt (r .kind) 10)
     first : (r .a < i) × Unit {0} → (r .a ≤ i) × (0 ≤ i)
     first e = (omega (arith, e .0), omega arith)
 
-    both : (r .a < i) × (r .b < i) × Unit {0} → (r .a ≤ i) × (r .b ≤ i)
+    both : (r .a < i) × ((r .b < i) × Unit {0}) → (r .a ≤ i) × (r .b ≤ i)
     both e = (omega (arith, e .0), omega (arith, e .1 .0))
 
     filler : (r .b < i) × Unit {0} → (n ≤ i) × (r .b ≤ i)
