@@ -182,18 +182,15 @@ module _ (old : List ℕ) (n : ℕ) where
         record {
           blocks = s .blocks + 1;
           place = rw b (omega (arith, s .place, add-mul (2 * s .blocks) 2 (2 ^ n)));
-          joined = joined-twice (2 ^ n) old (wordsBefore at n) block (wordsBefore end n) l m (s .joined) j
+          joined = joined-twice (2 ^ n) old (wordsBefore at n) (between (at + 2 ^ n) end) (wordsBefore end n) l m (s .joined) j
               (λ y. once y (decLt y at) (decLt y (at + 2 ^ n)) (decLt y end));
         }
       where
         end : ℕ
         end = at + 2 * 2 ^ n
 
-        block : ℕ → Bool
-        block = between (at + 2 ^ n) (at + 2 * 2 ^ n)
-
         once : (y : ℕ) → Dec (y < at) → Dec (y < at + 2 ^ n) → Dec (y < at + 2 * 2 ^ n)
-            → Once (2 ^ n) old (wordsBefore at n) block (wordsBefore end n) l m (s .joined) j y
+            → Once (2 ^ n) old (wordsBefore at n) (between (at + 2 ^ n) end) (wordsBefore end n) l m (s .joined) j y
         once y (yes p) q r =
             inl (before (at + 2 ^ n) end y (omega arith), rw (lt-ltb y at p, lt-ltb y end (omega arith)))
         once y (no p) (yes q) r =
