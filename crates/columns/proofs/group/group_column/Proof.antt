@@ -10,24 +10,6 @@ use Rattle.columns.proofs.Groups.{group-inclusion, group-low, group-nam
 use Rattle.columns.proofs.group.group_column.Statement.{statement}
 use Rattle.columns.proofs.group.group_column.Tie as tie
 
-negation-column-requires : tie.Need-negation-column-requires
-negation-column-requires c κs = search needs
-
-inclusion-column-requires : tie.Need-inclusion-column-requires
-inclusion-column-requires c κs = search needs
-
-constant-column-requires : tie.Need-constant-column-requires
-constant-column-requires c κs = search needs
-
-junction-column-requires : tie.Need-junction-column-requires
-junction-column-requires c κs = search needs
-
-restriction-column-requires : tie.Need-restriction-column-requires
-restriction-column-requires c κs = search needs
-
-none-requires : tie.Need-none-requires
-none-requires c κs = search needs
-
 returns : tie.Need-returns
 returns c =
     let a = c .before .before .args in
@@ -77,12 +59,12 @@ pub group-column-spec : {M : Type 1} → statement M
 group-column-spec =
     tie.close
     (tie.spec
-    negation-column-requires
-    inclusion-column-requires
-    constant-column-requires
-    junction-column-requires
-    restriction-column-requires
-    none-requires
+    (λ c κs. search needs)
+    (λ c κs. search needs)
+    (λ c κs. search needs)
+    (λ c κs. search needs)
+    (λ c κs. search needs)
+    (λ c κs. search needs)
     returns
     returns-2
     returns-3

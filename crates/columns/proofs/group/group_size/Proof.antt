@@ -9,18 +9,6 @@ use Rattle.columns.proofs.Groups.{group-low, group-name, group-high}
 use Rattle.columns.proofs.group.group_size.Statement.{statement}
 use Rattle.columns.proofs.group.group_size.Tie as tie
 
-size-at-requires : tie.Need-size-at-requires
-size-at-requires c κs = search needs
-
-size-at-requires-2 : tie.Need-size-at-requires-2
-size-at-requires-2 c κs = search needs
-
-size-at-requires-3 : tie.Need-size-at-requires-3
-size-at-requires-3 c κs = search needs
-
-size-at-requires-4 : tie.Need-size-at-requires-4
-size-at-requires-4 c κs = search needs
-
 returns : tie.Need-returns
 returns c =
     let a = c .before .before .args in
@@ -68,10 +56,10 @@ pub group-size-spec : {M : Type 1} → statement M
 group-size-spec =
     tie.close
     (tie.spec
-    size-at-requires
-    size-at-requires-2
-    size-at-requires-3
-    size-at-requires-4
+    (λ c κs. search needs)
+    (λ c κs. search needs)
+    (λ c κs. search needs)
+    (λ c κs. search needs)
     returns
     returns-2
     returns-3

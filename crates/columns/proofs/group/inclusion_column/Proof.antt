@@ -12,21 +12,12 @@ use Rattle.columns.proofs.Groups.{past-at}
 use Rattle.columns.proofs.group.inclusion_column.Statement.{statement}
 use Rattle.columns.proofs.group.inclusion_column.Tie as tie
 
-pack-concept-requires : tie.Need-pack-concept-requires
-pack-concept-requires c κs = search needs
-
-pack-concept-requires-2 : tie.Need-pack-concept-requires-2
-pack-concept-requires-2 c κs = search needs
-
 returns : tie.Need-returns
 returns c =
     let a = c .before .before .before .args in
     rw (c .before .before .if1 .taken)
     (lists-two (concept true (a .j) (a .at .x)) (concept false (a .k) (a .at .x)) _ _ (c .before .pack-concept .ensures)
     (c .pack-concept2 .ensures))
-
-none-requires : tie.Need-none-requires
-none-requires c κs = search needs
 
 returns-2 : tie.Need-returns-2
 returns-2 c =
@@ -36,4 +27,4 @@ returns-2 c =
 pub inclusion-column-spec : {M : Type 1} → statement M
 inclusion-column-spec =
     tie.close
-    (tie.spec pack-concept-requires pack-concept-requires-2 returns none-requires returns-2)
+    (tie.spec (λ c κs. search needs) (λ c κs. search needs) returns (λ c κs. search needs) returns-2)

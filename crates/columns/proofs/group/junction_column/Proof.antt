@@ -11,30 +11,6 @@ use Rattle.columns.proofs.Groups.{past-at}
 use Rattle.columns.proofs.group.junction_column.Statement.{statement}
 use Rattle.columns.proofs.group.junction_column.Tie as tie
 
-pack-concept-requires : tie.Need-pack-concept-requires
-pack-concept-requires c κs = search needs
-
-pack-concept-requires-2 : tie.Need-pack-concept-requires-2
-pack-concept-requires-2 c κs = search needs
-
-pack-concept-requires-3 : tie.Need-pack-concept-requires-3
-pack-concept-requires-3 c κs = search needs
-
-pack-concept-requires-4 : tie.Need-pack-concept-requires-4
-pack-concept-requires-4 c κs = search needs
-
-pack-concept-requires-5 : tie.Need-pack-concept-requires-5
-pack-concept-requires-5 c κs = search needs
-
-pack-concept-requires-6 : tie.Need-pack-concept-requires-6
-pack-concept-requires-6 c κs = search needs
-
-pack-concept-requires-7 : tie.Need-pack-concept-requires-7
-pack-concept-requires-7 c κs = search needs
-
-none-requires : tie.Need-none-requires
-none-requires c κs = search needs
-
 returns : tie.Need-returns
 returns c =
     let a = c .before .before .before .args in
@@ -70,14 +46,14 @@ pub junction-column-spec : {M : Type 1} → statement M
 junction-column-spec =
     tie.close
     (tie.spec
-    pack-concept-requires
-    pack-concept-requires-2
-    pack-concept-requires-3
-    pack-concept-requires-4
-    pack-concept-requires-5
-    pack-concept-requires-6
-    pack-concept-requires-7
-    none-requires
+    (λ c κs. search needs)
+    (λ c κs. search needs)
+    (λ c κs. search needs)
+    (λ c κs. search needs)
+    (λ c κs. search needs)
+    (λ c κs. search needs)
+    (λ c κs. search needs)
+    (λ c κs. search needs)
     returns
     returns-2
     returns-3

@@ -6,47 +6,26 @@ use Rattle.columns.proofs.literal.pack_role.Statement.{statement}
 use Rattle.columns.proofs.literal.pack_role.Tie as tie
 use Rattle.records.proofs.Ranks.{digit-small}
 
-digit-requires : tie.Need-digit-requires
-digit-requires c κs = search needs
-
-mul-result : tie.Need-mul-result
-mul-result c = search needs
-
-add-result : tie.Need-add-result
-add-result c = search needs
-
-mul-result-2 : tie.Need-mul-result-2
-mul-result-2 c = search needs
-
 add-result-2 : tie.Need-add-result-2
 add-result-2 c = omega (arith, digit-small (c .before .args .positive), c .digit .ensures)
-
-mul-result-3 : tie.Need-mul-result-3
-mul-result-3 c = search needs
 
 add-result-3 : tie.Need-add-result-3
 add-result-3 c = omega (arith, digit-small (c .before .args .positive), c .digit .ensures)
 
-mul-result-4 : tie.Need-mul-result-4
-mul-result-4 c = search needs
-
 add-result-4 : tie.Need-add-result-4
 add-result-4 c = omega (arith, digit-small (c .before .args .positive), c .digit .ensures)
-
-returns : tie.Need-returns
-returns c = search needs
 
 pub pack-role-spec : {M : Type 1} → statement M
 pack-role-spec =
     tie.close
     (tie.spec
-    digit-requires
-    mul-result
-    add-result
-    mul-result-2
+    (λ c κs. search needs)
+    (λ c. search needs)
+    (λ c. search needs)
+    (λ c. search needs)
     add-result-2
-    mul-result-3
+    (λ c. search needs)
     add-result-3
-    mul-result-4
+    (λ c. search needs)
     add-result-4
-    returns)
+    (λ c. search needs))

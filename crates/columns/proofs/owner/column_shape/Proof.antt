@@ -19,9 +19,6 @@ use Rattle.columns.proofs.owner.column_shape.Tie as tie
 good : (c : tie.Start) → Accepted (now (c .args .v))
 good c = accepted-vocabulary _ _ (c .pre .vocabulary)
 
-size-at-requires : tie.Need-size-at-requires
-size-at-requires c κs = search needs
-
 returns : tie.Need-returns
 returns c =
     let a = c .before .before .before .args in
@@ -35,14 +32,8 @@ returns-2 c =
     λ q. none-shape (now (a .v)) q (a .n) _ (a .owner)
     (columns-past (now (a .v)) q (good b) (a .owner) (e .if1 .left) (c .if2 .taken)) refl refl
 
-read-at-requires : tie.Need-read-at-requires
-read-at-requires c κs = search needs
-
 element-copy-out-has-columns : tie.Need-element-copy-out-has-columns
 element-copy-out-has-columns c = omega (arith, good (c .before .before .before .before) .sized .most)
-
-has-columns-requires : tie.Need-has-columns-requires
-has-columns-requires c κs = search needs
 
 -- Places: the start, where the owner is a record.
 abbrev owned : tie.After-has-columns → tie.Else1
@@ -65,12 +56,6 @@ returns-3 c =
     λ q. none-shape (now (a .v)) q (a .n) _ (a .owner)
     (columns-silent (now (a .v)) q (a .owner) (e .if1 .left) (sym (stated h) ∙ not-true _ (c .if3 .taken))) refl refl
 
-group-size-requires : tie.Need-group-size-requires
-group-size-requires c κs = search needs
-
-group-takes-y-requires : tie.Need-group-takes-y-requires
-group-takes-y-requires c κs = search needs
-
 returns-4 : tie.Need-returns-4
 returns-4 c =
     let h = c .before .before .before in
@@ -88,13 +73,13 @@ pub column-shape-spec : {M : Type 1} → statement M
 column-shape-spec =
     tie.close
     (tie.spec
-    size-at-requires
+    (λ c κs. search needs)
     returns
     returns-2
-    read-at-requires
+    (λ c κs. search needs)
     element-copy-out-has-columns
-    has-columns-requires
+    (λ c κs. search needs)
     returns-3
-    group-size-requires
-    group-takes-y-requires
+    (λ c κs. search needs)
+    (λ c κs. search needs)
     returns-4)

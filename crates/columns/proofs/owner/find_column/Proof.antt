@@ -16,15 +16,9 @@ use Rattle.columns.proofs.owner.find_column.Tie as tie
 good : (c : tie.Start) → Accepted (now (c .args .v))
 good c = accepted-vocabulary _ _ (c .pre .0 .vocabulary)
 
-query-column-requires : tie.Need-query-column-requires
-query-column-requires c κs = search needs
-
 returns : tie.Need-returns
 unfolding columnsAt
 returns c = rw (c .before .if1 .taken) (c .query-column .ensures _ _ _)
-
-none-requires : tie.Need-none-requires
-none-requires c κs = search needs
 
 returns-2 : tie.Need-returns-2
 returns-2 c =
@@ -35,14 +29,8 @@ returns-2 c =
     ∙ none-at _ _ _ _ _
     (columns-past (now (a .v)) record { a = a .a; b = a .b } (good b) (a .owner) (e .if1 .left) (c .before .if2 .taken))
 
-read-at-requires : tie.Need-read-at-requires
-read-at-requires c κs = search needs
-
 element-copy-out-has-columns : tie.Need-element-copy-out-has-columns
 element-copy-out-has-columns c = omega (arith, good (c .before .before .before .before) .sized .most)
-
-has-columns-requires : tie.Need-has-columns-requires
-has-columns-requires c κs = search needs
 
 -- Places: the start, where the owner is a record.
 abbrev owned : tie.After-has-columns → tie.Else1
@@ -57,9 +45,6 @@ stated c =
     let a = start c .args in
     c .has-columns .ensures (now (a .v)) (a .owner) (c .before .before .read-at .ensures) (start c .pre .0 .marked (a .owner))
 
-none-requires-2 : tie.Need-none-requires-2
-none-requires-2 c κs = search needs
-
 returns-3 : tie.Need-returns-3
 returns-3 c =
     let h = c .before .before in
@@ -69,9 +54,6 @@ returns-3 c =
     ∙ none-at _ _ _ _ _
     (columns-silent (now (a .v)) record { a = a .a; b = a .b } (a .owner) (e .if1 .left)
     (sym (stated h) ∙ not-true _ (c .before .if3 .taken)))
-
-group-column-requires : tie.Need-group-column-requires
-group-column-requires c κs = search needs
 
 returns-4 : tie.Need-returns-4
 returns-4 c =
@@ -88,14 +70,14 @@ pub find-column-spec : {M : Type 1} → statement M
 find-column-spec =
     tie.close
     (tie.spec
-    query-column-requires
+    (λ c κs. search needs)
     returns
-    none-requires
+    (λ c κs. search needs)
     returns-2
-    read-at-requires
+    (λ c κs. search needs)
     element-copy-out-has-columns
-    has-columns-requires
-    none-requires-2
+    (λ c κs. search needs)
+    (λ c κs. search needs)
     returns-3
-    group-column-requires
+    (λ c κs. search needs)
     returns-4)

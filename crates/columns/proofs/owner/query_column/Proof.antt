@@ -11,15 +11,6 @@ use Rattle.columns.proofs.Groups.{past-at}
 use Rattle.columns.proofs.owner.query_column.Statement.{statement}
 use Rattle.columns.proofs.owner.query_column.Tie as tie
 
-pack-concept-requires : tie.Need-pack-concept-requires
-pack-concept-requires c κs = search needs
-
-pack-concept-requires-2 : tie.Need-pack-concept-requires-2
-pack-concept-requires-2 c κs = search needs
-
-none-requires : tie.Need-none-requires
-none-requires c κs = search needs
-
 returns : tie.Need-returns
 returns c =
     λ nx ny nf.
@@ -41,9 +32,9 @@ pub query-column-spec : {M : Type 1} → statement M
 query-column-spec =
     tie.close
     (tie.spec
-    pack-concept-requires
-    pack-concept-requires-2
-    none-requires
+    (λ c κs. search needs)
+    (λ c κs. search needs)
+    (λ c κs. search needs)
     returns
     returns-2
     returns-3)

@@ -29,9 +29,6 @@ here c = standing _ (good (c .before .before .before .before .before)) _ _ (c .b
 read-at-requires : tie.Need-read-at-requires Inv-loop μ-loop
 read-at-requires c κs = omega (arith, good (c .before) .sized .least)
 
-cast-at : tie.Need-cast-at Inv-loop μ-loop
-cast-at c = omega arith
-
 loop-holds : tie.Need-loop-holds Inv-loop μ-loop
 loop-holds c = start _ (good (c .before .before .before)) _ (ap (λ (r : Record). r .a) (c .before .read-at .ensures))
 
@@ -40,9 +37,6 @@ array-write-marks c = omega (arith, good (c .before .before .before .before .bef
 
 read-at-requires-2 : tie.Need-read-at-requires-2 Inv-loop μ-loop
 read-at-requires-2 c κs = omega (arith, here c .within)
-
-cast-at-2 : tie.Need-cast-at-2 Inv-loop μ-loop
-cast-at-2 c = omega arith
 
 loop-less : tie.Need-loop-less Inv-loop μ-loop
 loop-less c =
@@ -67,11 +61,11 @@ mark-chain-spec =
     Inv-loop
     μ-loop
     read-at-requires
-    cast-at
+    (λ c. omega arith)
     loop-holds
     array-write-marks
     read-at-requires-2
-    cast-at-2
+    (λ c. omega arith)
     loop-less
     loop-again
     returns)

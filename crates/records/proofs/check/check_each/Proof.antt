@@ -19,31 +19,16 @@ Inv-loop v records roles i₀ i =
 abbrev μ-loop : tie.MeasureT-loop
 μ-loop v records roles i₀ i = records - i
 
-read-at-requires : tie.Need-read-at-requires Inv-loop μ-loop
-read-at-requires c κs = omega arith
-
 loop-holds : tie.Need-loop-holds Inv-loop μ-loop
 loop-holds c = (refl, ap (λ (r : Record). r .b) (c .read-at .ensures))
 
 check-record-requires : tie.Need-check-record-requires Inv-loop μ-loop
 check-record-requires c κs = (omega arith, c .before .loop .inv .1)
 
-enum-told : tie.Need-enum-told Inv-loop μ-loop
-enum-told c = search needs
-
-enum-told-2 : tie.Need-enum-told-2 Inv-loop μ-loop
-enum-told-2 c = search needs
-
 returns : tie.Need-returns Inv-loop μ-loop
 returns c =
     turn-refused _ _ _ _ _ _ (c .before .before .before .loop-test .taken) (c .before .before .check-record .ensures)
     (c .enum-told2 .given .1) ∙ sym (c .before .before .before .before .loop .inv .0)
-
-add-i : tie.Need-add-i Inv-loop μ-loop
-add-i c = omega arith
-
-loop-less : tie.Need-loop-less Inv-loop μ-loop
-loop-less c = omega arith
 
 loop-again : tie.Need-loop-again Inv-loop μ-loop
 loop-again c =
@@ -58,13 +43,13 @@ check-each-spec =
     (tie.spec
     Inv-loop
     μ-loop
-    read-at-requires
+    (λ c κs. omega arith)
     loop-holds
     check-record-requires
-    enum-told
-    enum-told-2
+    (λ c. search needs)
+    (λ c. search needs)
     returns
-    add-i
-    loop-less
+    (λ c. omega arith)
+    (λ c. omega arith)
     loop-again
     returns-2)

@@ -9,26 +9,11 @@ use Rattle.records.proofs.Order.{stops, goes}
 use Rattle.records.proofs.check.check_fields.Statement.{statement}
 use Rattle.records.proofs.check.check_fields.Tie as tie
 
-read-requires : tie.Need-read-requires
-read-requires c κs = search needs
-
-check-kind-requires : tie.Need-check-kind-requires
-check-kind-requires c κs = search needs
-
-enum-told : tie.Need-enum-told
-enum-told c = search needs
-
-enum-told-2 : tie.Need-enum-told-2
-enum-told-2 c = search needs
-
 returns : tie.Need-returns
 returns c =
     let a = c .before .before .before .before .before .before .args in
     stops _ _ _ _ _ (c .before .before .check-kind .ensures) (c .enum-told2 .given .1)
     ∙ ap (λ (r : Record). fieldsCheck (now (a .v)) (a .i) r) (c .before .before .before .read .ensures)
-
-check-rows-requires : tie.Need-check-rows-requires
-check-rows-requires c κs = search needs
 
 returns-2 : tie.Need-returns-2
 returns-2 c =
@@ -40,10 +25,10 @@ pub check-fields-spec : {M : Type 1} → statement M
 check-fields-spec =
     tie.close
     (tie.spec
-    read-requires
-    check-kind-requires
-    enum-told
-    enum-told-2
+    (λ c κs. search needs)
+    (λ c κs. search needs)
+    (λ c. search needs)
+    (λ c. search needs)
     returns
-    check-rows-requires
+    (λ c κs. search needs)
     returns-2)

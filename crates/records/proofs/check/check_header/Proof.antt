@@ -5,18 +5,9 @@ use borrow.Author.Needs.{needs}
 use Rattle.records.proofs.check.check_header.Statement.{statement}
 use Rattle.records.proofs.check.check_header.Tie as tie
 
-read-at-requires : tie.Need-read-at-requires
-read-at-requires c κs = search needs
-
-header-fits-requires : tie.Need-header-fits-requires
-header-fits-requires c κs = search needs
-
-pass-if-requires : tie.Need-pass-if-requires
-pass-if-requires c κs = search needs
-
 returns : tie.Need-returns
 returns c = c .pass-if .ensures ∙ rw (c .before .header-fits .ensures, c .before .before .read-at .ensures)
 
 pub check-header-spec : {M : Type 1} → statement M
 check-header-spec =
-    tie.close (tie.spec read-at-requires header-fits-requires pass-if-requires returns)
+    tie.close (tie.spec (λ c κs. search needs) (λ c κs. search needs) (λ c κs. search needs) returns)

@@ -6,18 +6,6 @@ use Rattle.records.specs.Check.{linkCheck}
 use Rattle.records.proofs.check.check_link.Statement.{statement}
 use Rattle.records.proofs.check.check_link.Tie as tie
 
-read-at-requires : tie.Need-read-at-requires
-read-at-requires c κs = search needs
-
-is-statement-requires : tie.Need-is-statement-requires
-is-statement-requires c κs = search needs
-
-link-fits-requires : tie.Need-link-fits-requires
-link-fits-requires c κs = search needs
-
-pass-if-requires : tie.Need-pass-if-requires
-pass-if-requires c κs = search needs
-
 returns : tie.Need-returns
 unfolding linkCheck
 returns c =
@@ -32,9 +20,9 @@ pub check-link-spec : {M : Type 1} → statement M
 check-link-spec =
     tie.close
     (tie.spec
-    read-at-requires
-    is-statement-requires
-    link-fits-requires
-    pass-if-requires
+    (λ c κs. search needs)
+    (λ c κs. search needs)
+    (λ c κs. search needs)
+    (λ c κs. search needs)
     returns
     returns-2)

@@ -19,9 +19,6 @@ Inv-loop v first records at₀ at = inTurn (linkCheck v) 1 (records - 1) ≡ inT
 abbrev μ-loop : tie.MeasureT-loop
 μ-loop v first records at₀ at = records - at
 
-read-at-requires : tie.Need-read-at-requires Inv-loop μ-loop
-read-at-requires c κs = omega arith
-
 link-fits-requires : tie.Need-link-fits-requires Inv-loop μ-loop
 link-fits-requires c κs = tt
 
@@ -33,12 +30,6 @@ head : (c : tie.After-pass-if Inv-loop μ-loop)
     → checked (c .pass-if .result) ≡ headCheck (now (c .before .before .before .before .args .v))
 head c = head-at _ _ _ _ (c .before .before .read-at .ensures) (c .before .link-fits .ensures) (c .pass-if .ensures)
 
-enum-told : tie.Need-enum-told Inv-loop μ-loop
-enum-told c = search needs
-
-enum-told-2 : tie.Need-enum-told-2 Inv-loop μ-loop
-enum-told-2 c = search needs
-
 returns : tie.Need-returns Inv-loop μ-loop
 returns c =
     stops _ _ _ _ _ (head (c .before .before)) (c .enum-told2 .given .1)
@@ -46,27 +37,12 @@ returns c =
 loop-holds : tie.Need-loop-holds Inv-loop μ-loop
 loop-holds c = refl
 
-check-link-requires : tie.Need-check-link-requires Inv-loop μ-loop
-check-link-requires c κs = omega arith
-
-enum-told-3 : tie.Need-enum-told-3 Inv-loop μ-loop
-enum-told-3 c = search needs
-
-enum-told-4 : tie.Need-enum-told-4 Inv-loop μ-loop
-enum-told-4 c = search needs
-
 returns-2 : tie.Need-returns-2 Inv-loop μ-loop
 returns-2 c =
     goes _ _ _ _ (head (c .before .before .before .before .before .before .before))
     (c .before .before .before .before .before .enum-told .given .1)
     (turn-refused _ _ _ _ _ _ (c .before .before .before .loop-test .taken) (c .before .before .check-link .ensures) (c .enum-told4 .given .1)
     ∙ sym (c .before .before .before .before .loop .inv))
-
-add-at : tie.Need-add-at Inv-loop μ-loop
-add-at c = omega arith
-
-loop-less : tie.Need-loop-less Inv-loop μ-loop
-loop-less c = omega arith
 
 loop-again : tie.Need-loop-again Inv-loop μ-loop
 loop-again c =
@@ -85,18 +61,18 @@ check-links-spec =
     (tie.spec
     Inv-loop
     μ-loop
-    read-at-requires
+    (λ c κs. omega arith)
     link-fits-requires
     pass-if-requires
-    enum-told
-    enum-told-2
+    (λ c. search needs)
+    (λ c. search needs)
     returns
     loop-holds
-    check-link-requires
-    enum-told-3
-    enum-told-4
+    (λ c κs. omega arith)
+    (λ c. search needs)
+    (λ c. search needs)
     returns-2
-    add-at
-    loop-less
+    (λ c. omega arith)
+    (λ c. omega arith)
     loop-again
     returns-3)

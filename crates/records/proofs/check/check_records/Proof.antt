@@ -10,15 +10,6 @@ use Rattle.records.proofs.Passed.{Sized, length-passed}
 use Rattle.records.proofs.check.check_records.Statement.{statement}
 use Rattle.records.proofs.check.check_records.Tie as tie
 
-check-length-requires : tie.Need-check-length-requires
-check-length-requires c κs = search needs
-
-enum-told : tie.Need-enum-told
-enum-told c = search needs
-
-enum-told-2 : tie.Need-enum-told-2
-enum-told-2 c = search needs
-
 -- the length has passed
 sized : (c : tie.After-enum-told) → Sized (now (c .before .before .before .before .args .v))
 sized c = length-passed _ (passed _ _ (c .before .before .check-length .ensures) (c .enum-told .given .1))
@@ -30,12 +21,6 @@ returns c = stops _ _ _ _ _ (c .before .before .check-length .ensures) (c .enum-
 check-header-requires : tie.Need-check-header-requires
 check-header-requires c κs = sized c .least
 
-enum-told-3 : tie.Need-enum-told-3
-enum-told-3 c = search needs
-
-enum-told-4 : tie.Need-enum-told-4
-enum-told-4 c = search needs
-
 returns-2 : tie.Need-returns-2
 unfolding recordsCheck
 returns-2 c =
@@ -46,12 +31,6 @@ returns-2 c =
 
 check-each-requires : tie.Need-check-each-requires
 check-each-requires c κs = sized (c .before .before .before) .least
-
-enum-told-5 : tie.Need-enum-told-5
-enum-told-5 c = search needs
-
-enum-told-6 : tie.Need-enum-told-6
-enum-told-6 c = search needs
 
 returns-3 : tie.Need-returns-3
 unfolding recordsCheck
@@ -80,17 +59,17 @@ pub check-records-spec : {M : Type 1} → statement M
 check-records-spec =
     tie.close
     (tie.spec
-    check-length-requires
-    enum-told
-    enum-told-2
+    (λ c κs. search needs)
+    (λ c. search needs)
+    (λ c. search needs)
     returns
     check-header-requires
-    enum-told-3
-    enum-told-4
+    (λ c. search needs)
+    (λ c. search needs)
     returns-2
     check-each-requires
-    enum-told-5
-    enum-told-6
+    (λ c. search needs)
+    (λ c. search needs)
     returns-3
     check-links-requires
     returns-4)

@@ -11,42 +11,6 @@ use Rattle.records.proofs.Rows.{rows-at}
 use Rattle.records.proofs.check.check_rows.Statement.{statement}
 use Rattle.records.proofs.check.check_rows.Tie as tie
 
-held-requires : tie.Need-held-requires
-held-requires c κs = search needs
-
-check-sorts-requires : tie.Need-check-sorts-requires
-check-sorts-requires c κs = search needs
-
-held-requires-2 : tie.Need-held-requires-2
-held-requires-2 c κs = search needs
-
-check-sorts-requires-2 : tie.Need-check-sorts-requires-2
-check-sorts-requires-2 c κs = search needs
-
-held-requires-3 : tie.Need-held-requires-3
-held-requires-3 c κs = search needs
-
-check-sorts-requires-3 : tie.Need-check-sorts-requires-3
-check-sorts-requires-3 c κs = search needs
-
-held-requires-4 : tie.Need-held-requires-4
-held-requires-4 c κs = search needs
-
-check-sorts-requires-4 : tie.Need-check-sorts-requires-4
-check-sorts-requires-4 c κs = search needs
-
-held-requires-5 : tie.Need-held-requires-5
-held-requires-5 c κs = search needs
-
-check-sorts-requires-5 : tie.Need-check-sorts-requires-5
-check-sorts-requires-5 c κs = search needs
-
-held-requires-6 : tie.Need-held-requires-6
-held-requires-6 c κs = search needs
-
-check-sorts-requires-6 : tie.Need-check-sorts-requires-6
-check-sorts-requires-6 c κs = search needs
-
 returns : tie.Need-returns
 unfolding kindOf
 returns c =
@@ -96,18 +60,18 @@ pub check-rows-spec : {M : Type 1} → statement M
 check-rows-spec =
     tie.close
     (tie.spec
-    held-requires
-    check-sorts-requires
-    held-requires-2
-    check-sorts-requires-2
-    held-requires-3
-    check-sorts-requires-3
-    held-requires-4
-    check-sorts-requires-4
-    held-requires-5
-    check-sorts-requires-5
-    held-requires-6
-    check-sorts-requires-6
+    (λ c κs. search needs)
+    (λ c κs. search needs)
+    (λ c κs. search needs)
+    (λ c κs. search needs)
+    (λ c κs. search needs)
+    (λ c κs. search needs)
+    (λ c κs. search needs)
+    (λ c κs. search needs)
+    (λ c κs. search needs)
+    (λ c κs. search needs)
+    (λ c κs. search needs)
+    (λ c κs. search needs)
     returns
     returns-2
     returns-3

@@ -6,18 +6,6 @@ use Rattle.records.proofs.Rows.{rows-fit, rows-unfit}
 use Rattle.records.proofs.check.check_sorts.Statement.{statement}
 use Rattle.records.proofs.check.check_sorts.Tie as tie
 
-field-fits-requires : tie.Need-field-fits-requires
-field-fits-requires c κs = search needs
-
-field-fits-requires-2 : tie.Need-field-fits-requires-2
-field-fits-requires-2 c κs = search needs
-
-field-fits-requires-3 : tie.Need-field-fits-requires-3
-field-fits-requires-3 c κs = search needs
-
-all-fit-requires : tie.Need-all-fit-requires
-all-fit-requires c κs = search needs
-
 returns : tie.Need-returns
 returns c =
     let all = c .before in
@@ -30,9 +18,6 @@ returns c =
     _
     (all .all-fit .ensures)
     (c .if1 .taken)
-
-first-fault-requires : tie.Need-first-fault-requires
-first-fault-requires c κs = search needs
 
 returns-2 : tie.Need-returns-2
 returns-2 c =
@@ -54,10 +39,10 @@ pub check-sorts-spec : {M : Type 1} → statement M
 check-sorts-spec =
     tie.close
     (tie.spec
-    field-fits-requires
-    field-fits-requires-2
-    field-fits-requires-3
-    all-fit-requires
+    (λ c κs. search needs)
+    (λ c κs. search needs)
+    (λ c κs. search needs)
+    (λ c κs. search needs)
     returns
-    first-fault-requires
+    (λ c κs. search needs)
     returns-2)

@@ -5,27 +5,6 @@ use borrow.Author.Needs.{needs}
 use Rattle.records.proofs.check.field_fits.Statement.{statement}
 use Rattle.records.proofs.check.field_fits.Tie as tie
 
-enum-told : tie.Need-enum-told
-enum-told c = search needs
-
-enum-told-2 : tie.Need-enum-told-2
-enum-told-2 c = search needs
-
-term-fits-requires : tie.Need-term-fits-requires
-term-fits-requires c κs = search needs
-
-enum-told-3 : tie.Need-enum-told-3
-enum-told-3 c = search needs
-
-enum-told-4 : tie.Need-enum-told-4
-enum-told-4 c = search needs
-
-is-labelled-requires : tie.Need-is-labelled-requires
-is-labelled-requires c κs = search needs
-
-enum-told-5 : tie.Need-enum-told-5
-enum-told-5 c = search needs
-
 returns : tie.Need-returns
 returns c = rw (c .enum-told .given .1)
 
@@ -45,13 +24,13 @@ pub field-fits-spec : {M : Type 1} → statement M
 field-fits-spec =
     tie.close
     (tie.spec
-    enum-told
-    enum-told-2
-    term-fits-requires
-    enum-told-3
-    enum-told-4
-    is-labelled-requires
-    enum-told-5
+    (λ c. search needs)
+    (λ c. search needs)
+    (λ c κs. search needs)
+    (λ c. search needs)
+    (λ c. search needs)
+    (λ c κs. search needs)
+    (λ c. search needs)
     returns
     returns-2
     returns-3

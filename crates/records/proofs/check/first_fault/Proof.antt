@@ -5,30 +5,6 @@ use borrow.Author.Needs.{needs}
 use Rattle.records.proofs.check.first_fault.Statement.{statement}
 use Rattle.records.proofs.check.first_fault.Tie as tie
 
-row-of-requires : tie.Need-row-of-requires
-row-of-requires c κs = search needs
-
-fault-unless-requires : tie.Need-fault-unless-requires
-fault-unless-requires c κs = search needs
-
-row-of-requires-2 : tie.Need-row-of-requires-2
-row-of-requires-2 c κs = search needs
-
-fault-unless-requires-2 : tie.Need-fault-unless-requires-2
-fault-unless-requires-2 c κs = search needs
-
-smaller-requires : tie.Need-smaller-requires
-smaller-requires c κs = search needs
-
-row-of-requires-3 : tie.Need-row-of-requires-3
-row-of-requires-3 c κs = search needs
-
-fault-unless-requires-3 : tie.Need-fault-unless-requires-3
-fault-unless-requires-3 c κs = search needs
-
-smaller-requires-2 : tie.Need-smaller-requires-2
-smaller-requires-2 c κs = search needs
-
 returns : tie.Need-returns
 returns c =
     let a = c .before in
@@ -43,12 +19,12 @@ pub first-fault-spec : {M : Type 1} → statement M
 first-fault-spec =
     tie.close
     (tie.spec
-    row-of-requires
-    fault-unless-requires
-    row-of-requires-2
-    fault-unless-requires-2
-    smaller-requires
-    row-of-requires-3
-    fault-unless-requires-3
-    smaller-requires-2
+    (λ c κs. search needs)
+    (λ c κs. search needs)
+    (λ c κs. search needs)
+    (λ c κs. search needs)
+    (λ c κs. search needs)
+    (λ c κs. search needs)
+    (λ c κs. search needs)
+    (λ c κs. search needs)
     returns)

@@ -12,12 +12,6 @@ returns c = rw (eq-eqb _ _ (c .if1 .taken))
 returns-2 : tie.Need-returns-2
 returns-2 c = rw (ne-eqb _ _ (c .before .if1 .left), le-ltb _ _ (c .if2 .taken))
 
-read-at-requires : tie.Need-read-at-requires
-read-at-requires c κs = search needs
-
-is-statement-requires : tie.Need-is-statement-requires
-is-statement-requires c κs = search needs
-
 returns-3 : tie.Need-returns-3
 returns-3 c =
     c .is-statement .ensures ∙ rw
@@ -29,4 +23,4 @@ returns-4 c = rw (ne-eqb _ _ (c .before .before .if1 .left), lt-ltb _ _ (c .befo
 pub link-fits-spec : {M : Type 1} → statement M
 link-fits-spec =
     tie.close
-    (tie.spec returns returns-2 read-at-requires is-statement-requires returns-3 returns-4)
+    (tie.spec returns returns-2 (λ c κs. search needs) (λ c κs. search needs) returns-3 returns-4)

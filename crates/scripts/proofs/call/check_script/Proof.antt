@@ -34,12 +34,6 @@ formed c = c .before .before
 check-vocabulary-requires : tie.Need-check-vocabulary-requires
 check-vocabulary-requires c κs = tt
 
-enum-told : tie.Need-enum-told
-enum-told c = search needs
-
-enum-told-2 : tie.Need-enum-told-2
-enum-told-2 c = search needs
-
 judge-after-count-requires : tie.Need-judge-after-count-requires
 judge-after-count-requires c κs = tt
 
@@ -63,12 +57,6 @@ pass-if-requires c κs = tt
 -- row 13
 measured : (c : tie.After-pass-if) → checked (c .pass-if .result) ≡ lengthCheck (now (start (taken c) .args .s))
 measured c = asked _ _ _ _ _ (c .pass-if .ensures) (c .before .length-fits .ensures)
-
-enum-told-3 : tie.Need-enum-told-3
-enum-told-3 c = search needs
-
-enum-told-4 : tie.Need-enum-told-4
-enum-told-4 c = search needs
 
 judge-after-requires : tie.Need-judge-after-requires
 judge-after-requires c κs = tt
@@ -100,12 +88,6 @@ check-form-requires c κs =
       sized = sized (m .before);
       read = r .read-entry .ensures;
     }
-
-enum-told-5 : tie.Need-enum-told-5
-enum-told-5 c = search needs
-
-enum-told-6 : tie.Need-enum-told-6
-enum-told-6 c = search needs
 
 judge-after-requires-2 : tie.Need-judge-after-requires-2
 judge-after-requires-2 c κs = tt
@@ -148,21 +130,21 @@ check-script-spec =
     tie.close
     (tie.spec
     check-vocabulary-requires
-    enum-told
-    enum-told-2
+    (λ c. search needs)
+    (λ c. search needs)
     judge-after-count-requires
     returns
     length-fits-requires
     pass-if-requires
-    enum-told-3
-    enum-told-4
+    (λ c. search needs)
+    (λ c. search needs)
     judge-after-requires
     returns-2
     mark-chain-requires
     read-entry-requires
     check-form-requires
-    enum-told-5
-    enum-told-6
+    (λ c. search needs)
+    (λ c. search needs)
     judge-after-requires-2
     returns-3
     check-chain-requires

@@ -9,21 +9,6 @@ use Rattle.scripts.specs.Form.{entryCheck}
 use Rattle.scripts.proofs.form.check_entry.Statement.{statement}
 use Rattle.scripts.proofs.form.check_entry.Tie as tie
 
-mul-at : tie.Need-mul-at
-mul-at c = search needs
-
-add-end : tie.Need-add-end
-add-end c = search needs
-
-sub-check-rows : tie.Need-sub-check-rows
-sub-check-rows c = search needs
-
-part-check-rows-start : tie.Need-part-check-rows-start
-part-check-rows-start c = search needs
-
-part-check-rows-end : tie.Need-part-check-rows-end
-part-check-rows-end c = search needs
-
 check-rows-requires : tie.Need-check-rows-requires
 check-rows-requires c κs =
     let p = c .before .before .before .pre in
@@ -37,10 +22,10 @@ pub check-entry-spec : {M : Type 1} → statement M
 check-entry-spec =
     tie.close
     (tie.spec
-    mul-at
-    add-end
-    sub-check-rows
-    part-check-rows-start
-    part-check-rows-end
+    (λ c. search needs)
+    (λ c. search needs)
+    (λ c. search needs)
+    (λ c. search needs)
+    (λ c. search needs)
     check-rows-requires
     returns)

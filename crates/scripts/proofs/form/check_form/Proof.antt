@@ -36,12 +36,6 @@ headed c = start (c .before .before)
 abbrev queried : tie.After-enum-told3 → tie.Start
 queried c = headed (c .before .before .before)
 
-header-fits-requires : tie.Need-header-fits-requires
-header-fits-requires c κs = search needs
-
-pass-if-requires : tie.Need-pass-if-requires
-pass-if-requires c κs = search needs
-
 -- row 14
 head : (c : tie.After-pass-if) → checked (c .pass-if .result) ≡ require (headerFits (start c .args .header)) 14 0
 head c = asked _ _ _ _ _ (c .pass-if .ensures) (c .before .header-fits .ensures)
@@ -62,25 +56,10 @@ past-query c o h =
     past-header (c .before .before .before) o
     (goes _ _ _ _ (c .before .before .check-query .ensures) (c .enum-told3 .given .1) h)
 
-enum-told : tie.Need-enum-told
-enum-told c = search needs
-
-enum-told-2 : tie.Need-enum-told-2
-enum-told-2 c = search needs
-
 returns : tie.Need-returns
 returns c =
     let p = c .before .before in
     stops _ _ _ _ _ (head p) (c .enum-told2 .given .1) ∙ decides (start p)
-
-check-query-requires : tie.Need-check-query-requires
-check-query-requires c κs = search needs
-
-enum-told-3 : tie.Need-enum-told-3
-enum-told-3 c = search needs
-
-enum-told-4 : tie.Need-enum-told-4
-enum-told-4 c = search needs
 
 returns-2 : tie.Need-returns-2
 returns-2 c =
@@ -89,12 +68,6 @@ returns-2 c =
 
 check-entries-requires : tie.Need-check-entries-requires
 check-entries-requires c κs = queried c .pre .marked
-
-enum-told-5 : tie.Need-enum-told-5
-enum-told-5 c = search needs
-
-enum-told-6 : tie.Need-enum-told-6
-enum-told-6 c = search needs
 
 returns-3 : tie.Need-returns-3
 returns-3 c =
@@ -113,18 +86,18 @@ pub check-form-spec : {M : Type 1} → statement M
 check-form-spec =
     tie.close
     (tie.spec
-    header-fits-requires
-    pass-if-requires
-    enum-told
-    enum-told-2
+    (λ c κs. search needs)
+    (λ c κs. search needs)
+    (λ c. search needs)
+    (λ c. search needs)
     returns
-    check-query-requires
-    enum-told-3
-    enum-told-4
+    (λ c κs. search needs)
+    (λ c. search needs)
+    (λ c. search needs)
     returns-2
     check-entries-requires
-    enum-told-5
-    enum-told-6
+    (λ c. search needs)
+    (λ c. search needs)
     returns-3
     check-links-requires
     returns-4)

@@ -8,18 +8,6 @@ use Rattle.scripts.proofs.Lines.{link-made, link-none}
 use Rattle.scripts.proofs.form.check_link.Statement.{statement}
 use Rattle.scripts.proofs.form.check_link.Tie as tie
 
-read-entry-requires : tie.Need-read-entry-requires
-read-entry-requires c κs = search needs
-
-is-step-entry-requires : tie.Need-is-step-entry-requires
-is-step-entry-requires c κs = search needs
-
-link-fits-requires : tie.Need-link-fits-requires
-link-fits-requires c κs = search needs
-
-pass-if-requires : tie.Need-pass-if-requires
-pass-if-requires c κs = search needs
-
 returns : tie.Need-returns
 unfolding linkCheck
 returns c =
@@ -41,9 +29,9 @@ pub check-link-spec : {M : Type 1} → statement M
 check-link-spec =
     tie.close
     (tie.spec
-    read-entry-requires
-    is-step-entry-requires
-    link-fits-requires
-    pass-if-requires
+    (λ c κs. search needs)
+    (λ c κs. search needs)
+    (λ c κs. search needs)
+    (λ c κs. search needs)
     returns
     returns-2)

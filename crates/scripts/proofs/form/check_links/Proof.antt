@@ -35,26 +35,11 @@ first c =
     asked _ _ _ _ _ (c .pass-if .ensures)
     (c .before .link-fits .ensures ∙ ap (λ (x : ℕ). linkFits (now (b .args .s)) 0 x) (b .pre))
 
-enum-told : tie.Need-enum-told Inv-loop μ-loop
-enum-told c = search needs
-
-enum-told-2 : tie.Need-enum-told-2 Inv-loop μ-loop
-enum-told-2 c = search needs
-
 returns : tie.Need-returns Inv-loop μ-loop
 returns c = stops _ _ _ _ _ (first (c .before .before)) (c .enum-told2 .given .1)
 
 loop-holds : tie.Need-loop-holds Inv-loop μ-loop
 loop-holds c = refl
-
-check-link-requires : tie.Need-check-link-requires Inv-loop μ-loop
-check-link-requires c κs = omega arith
-
-enum-told-3 : tie.Need-enum-told-3 Inv-loop μ-loop
-enum-told-3 c = search needs
-
-enum-told-4 : tie.Need-enum-told-4 Inv-loop μ-loop
-enum-told-4 c = search needs
 
 returns-2 : tie.Need-returns-2 Inv-loop μ-loop
 returns-2 c =
@@ -63,12 +48,6 @@ returns-2 c =
     goes _ _ _ _ (first (t .before .before)) (t .enum-told .given .1)
     (turn-refused _ _ _ _ _ _ (w .loop-test .taken) (c .before .before .check-link .ensures) (c .enum-told4 .given .1)
     ∙ sym (w .before .loop .inv))
-
-add-i : tie.Need-add-i Inv-loop μ-loop
-add-i c = omega arith
-
-loop-less : tie.Need-loop-less Inv-loop μ-loop
-loop-less c = omega arith
 
 loop-again : tie.Need-loop-again Inv-loop μ-loop
 loop-again c =
@@ -90,15 +69,15 @@ check-links-spec =
     μ-loop
     link-fits-requires
     pass-if-requires
-    enum-told
-    enum-told-2
+    (λ c. search needs)
+    (λ c. search needs)
     returns
     loop-holds
-    check-link-requires
-    enum-told-3
-    enum-told-4
+    (λ c κs. omega arith)
+    (λ c. search needs)
+    (λ c. search needs)
     returns-2
-    add-i
-    loop-less
+    (λ c. omega arith)
+    (λ c. omega arith)
     loop-again
     returns-3)

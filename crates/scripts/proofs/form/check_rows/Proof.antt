@@ -37,18 +37,6 @@ read-rows c =
     let a = c .before .before .before .before .args in
     ap (λ (e : Entry). rowsCheck (now (a .v)) (now (a .s)) (a .i) e) (c .read .ensures)
 
-read-requires : tie.Need-read-requires
-read-requires c κs = search needs
-
-kind-fits-requires : tie.Need-kind-fits-requires
-kind-fits-requires c κs = search needs
-
-pass-if-requires : tie.Need-pass-if-requires
-pass-if-requires c κs = search needs
-
-enum-told : tie.Need-enum-told
-enum-told c = search needs
-
 -- What is left once the rows so far passed.
 past-kind : (c : tie.After-enum-told) (o : Check)
     → let r = c .before .before .before .before in o ≡ (row16 r then row17 r then row18 r) → o ≡ whole r
@@ -64,26 +52,11 @@ past-unused c o h =
     past-kind (p .before .before) o
     (goes _ _ _ _ (asked _ _ _ _ _ (p .pass-if2 .ensures) (p .before .unused-fits .ensures)) (c .enum-told3 .given .1) h)
 
-enum-told-2 : tie.Need-enum-told-2
-enum-told-2 c = search needs
-
 returns : tie.Need-returns
 returns c =
     let p = c .before .before in
     stops _ _ _ _ _ (asked _ _ _ _ _ (p .pass-if .ensures) (p .before .kind-fits .ensures)) (c .enum-told2 .given .1)
     ∙ read-rows (p .before .before)
-
-unused-fits-requires : tie.Need-unused-fits-requires
-unused-fits-requires c κs = search needs
-
-pass-if-requires-2 : tie.Need-pass-if-requires-2
-pass-if-requires-2 c κs = search needs
-
-enum-told-3 : tie.Need-enum-told-3
-enum-told-3 c = search needs
-
-enum-told-4 : tie.Need-enum-told-4
-enum-told-4 c = search needs
 
 returns-2 : tie.Need-returns-2
 returns-2 c =
@@ -91,29 +64,11 @@ returns-2 c =
     past-kind (p .before .before) _
     (stops _ _ _ _ _ (asked _ _ _ _ _ (p .pass-if2 .ensures) (p .before .unused-fits .ensures)) (c .enum-told4 .given .1))
 
-term-fits-requires : tie.Need-term-fits-requires
-term-fits-requires c κs = search needs
-
-pass-if-requires-3 : tie.Need-pass-if-requires-3
-pass-if-requires-3 c κs = search needs
-
-enum-told-5 : tie.Need-enum-told-5
-enum-told-5 c = search needs
-
-enum-told-6 : tie.Need-enum-told-6
-enum-told-6 c = search needs
-
 returns-3 : tie.Need-returns-3
 returns-3 c =
     let p = c .before .before in
     past-unused (p .before .before) _
     (stops _ _ _ _ _ (asked _ _ _ _ _ (p .pass-if3 .ensures) (p .before .term-fits .ensures)) (c .enum-told6 .given .1))
-
-step-fits-requires : tie.Need-step-fits-requires
-step-fits-requires c κs = search needs
-
-pass-if-requires-4 : tie.Need-pass-if-requires-4
-pass-if-requires-4 c κs = search needs
 
 returns-4 : tie.Need-returns-4
 returns-4 c =
@@ -127,22 +82,22 @@ pub check-rows-spec : {M : Type 1} → statement M
 check-rows-spec =
     tie.close
     (tie.spec
-    read-requires
-    kind-fits-requires
-    pass-if-requires
-    enum-told
-    enum-told-2
+    (λ c κs. search needs)
+    (λ c κs. search needs)
+    (λ c κs. search needs)
+    (λ c. search needs)
+    (λ c. search needs)
     returns
-    unused-fits-requires
-    pass-if-requires-2
-    enum-told-3
-    enum-told-4
+    (λ c κs. search needs)
+    (λ c κs. search needs)
+    (λ c. search needs)
+    (λ c. search needs)
     returns-2
-    term-fits-requires
-    pass-if-requires-3
-    enum-told-5
-    enum-told-6
+    (λ c κs. search needs)
+    (λ c κs. search needs)
+    (λ c. search needs)
+    (λ c. search needs)
     returns-3
-    step-fits-requires
-    pass-if-requires-4
+    (λ c κs. search needs)
+    (λ c κs. search needs)
     returns-4)

@@ -10,26 +10,14 @@ use Rattle.scripts.specs.Form.{yFits}
 use Rattle.scripts.proofs.form.extension_fits.Statement.{statement}
 use Rattle.scripts.proofs.form.extension_fits.Tie as tie
 
-column-shape-requires : tie.Need-column-shape-requires
-column-shape-requires c κs = search needs
-
-cast-if1 : tie.Need-cast-if1
-cast-if1 c = search needs
-
 returns : tie.Need-returns
 returns c = λ q. rw (← c .before .before .before .column-shape .ensures q .size, le-ltb _ _ (c .if1 .taken))
-
-x-fits-requires : tie.Need-x-fits-requires
-x-fits-requires c κs = search needs
 
 returns-2 : tie.Need-returns-2
 returns-2 c =
     let w = c .before .before in
     λ q. rw (← w .before .before .before .column-shape .ensures q .size, lt-ltb _ _ (w .if1 .left))
     (fails _ _ _ (c .before .x-fits .ensures) (c .if2 .taken))
-
-y-fits-requires : tie.Need-y-fits-requires
-y-fits-requires c κs = search needs
 
 returns-3 : tie.Need-returns-3
 returns-3 c =
@@ -44,10 +32,10 @@ pub extension-fits-spec : {M : Type 1} → statement M
 extension-fits-spec =
     tie.close
     (tie.spec
-    column-shape-requires
-    cast-if1
+    (λ c κs. search needs)
+    (λ c. search needs)
     returns
-    x-fits-requires
+    (λ c κs. search needs)
     returns-2
-    y-fits-requires
+    (λ c κs. search needs)
     returns-3)

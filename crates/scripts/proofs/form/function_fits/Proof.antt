@@ -15,9 +15,6 @@ returns : tie.Need-returns
 returns c =
     let a = c .before .before .before .before .args in function-other (now (a .v)) (now (a .s)) (a .i) (a .e) (c .if1 .taken)
 
-is-function-requires : tie.Need-is-function-requires
-is-function-requires c κs = search needs
-
 -- what the record says
 applies : (c : tie.Else1)
     → let a = c .before .before .before .before .args in
@@ -30,17 +27,11 @@ applies c =
 returns-2 : tie.Need-returns-2
 returns-2 c = fails _ _ _ (c .before .is-function .ensures) (c .if2 .taken) ∙ applies (c .before .before)
 
-is-earlier-term-requires : tie.Need-is-earlier-term-requires
-is-earlier-term-requires c κs = search needs
-
 returns-3 : tie.Need-returns-3
 returns-3 c =
     rests _ _ _ _ (c .before .before .before .is-function .ensures) (c .before .before .if2 .left)
     (fails _ _ _ (c .before .is-earlier-term .ensures) (c .if3 .taken))
     ∙ applies (c .before .before .before .before)
-
-is-repeated-requires : tie.Need-is-repeated-requires
-is-repeated-requires c κs = search needs
 
 returns-4 : tie.Need-returns-4
 returns-4 c =
@@ -53,9 +44,9 @@ function-fits-spec =
     tie.close
     (tie.spec
     returns
-    is-function-requires
+    (λ c κs. search needs)
     returns-2
-    is-earlier-term-requires
+    (λ c κs. search needs)
     returns-3
-    is-repeated-requires
+    (λ c κs. search needs)
     returns-4)

@@ -6,12 +6,6 @@ use borrow.Author.Tests.{lt-ltb, le-ltb}
 use Rattle.scripts.proofs.form.is_earlier_term.Statement.{statement}
 use Rattle.scripts.proofs.form.is_earlier_term.Tie as tie
 
-read-entry-requires : tie.Need-read-entry-requires
-read-entry-requires c κs = search needs
-
-is-term-entry-requires : tie.Need-is-term-entry-requires
-is-term-entry-requires c κs = search needs
-
 returns : tie.Need-returns
 returns c = c .is-term-entry .ensures ∙ rw (c .before .read-entry .ensures, lt-ltb _ _ (c .before .before .if1 .taken))
 
@@ -20,4 +14,4 @@ returns-2 c = rw (le-ltb _ _ (c .if1 .left))
 
 pub is-earlier-term-spec : {M : Type 1} → statement M
 is-earlier-term-spec =
-    tie.close (tie.spec read-entry-requires is-term-entry-requires returns returns-2)
+    tie.close (tie.spec (λ c κs. search needs) (λ c κs. search needs) returns returns-2)

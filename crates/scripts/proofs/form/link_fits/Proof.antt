@@ -12,12 +12,6 @@ returns c = rw (eq-eqb _ _ (c .if1 .taken))
 returns-2 : tie.Need-returns-2
 returns-2 c = rw (ne-eqb _ _ (c .before .if1 .left), le-ltb _ _ (c .if2 .taken))
 
-read-entry-requires : tie.Need-read-entry-requires
-read-entry-requires c κs = search needs
-
-is-step-entry-requires : tie.Need-is-step-entry-requires
-is-step-entry-requires c κs = search needs
-
 returns-3 : tie.Need-returns-3
 returns-3 c =
     c .is-step-entry .ensures
@@ -34,4 +28,4 @@ returns-4 c = rw (ne-eqb _ _ (c .before .before .if1 .left), lt-ltb _ _ (c .befo
 pub link-fits-spec : {M : Type 1} → statement M
 link-fits-spec =
     tie.close
-    (tie.spec returns returns-2 read-entry-requires is-step-entry-requires returns-3 returns-4)
+    (tie.spec returns returns-2 (λ c κs. search needs) (λ c κs. search needs) returns-3 returns-4)

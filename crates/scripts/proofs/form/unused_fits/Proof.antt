@@ -22,18 +22,6 @@ unused-default e k a b c d f = at (decLt k 1)
     at (yes h) = unused-none e k h
     at (no h) = unused-past e k (omega arith)
 
-constant-unused-requires : tie.Need-constant-unused-requires
-constant-unused-requires c κs = search needs
-
-are-zero-requires : tie.Need-are-zero-requires
-are-zero-requires c κs = search needs
-
-are-zero-requires-2 : tie.Need-are-zero-requires-2
-are-zero-requires-2 c κs = search needs
-
-are-zero-requires-3 : tie.Need-are-zero-requires-3
-are-zero-requires-3 c κs = search needs
-
 returns : tie.Need-returns
 unfolding kindOf allZero
 returns c = c .constant-unused .ensures ∙ rw (c .before .match .keys1)
@@ -64,10 +52,10 @@ pub unused-fits-spec : {M : Type 1} → statement M
 unused-fits-spec =
     tie.close
     (tie.spec
-    constant-unused-requires
-    are-zero-requires
-    are-zero-requires-2
-    are-zero-requires-3
+    (λ c κs. search needs)
+    (λ c κs. search needs)
+    (λ c κs. search needs)
+    (λ c κs. search needs)
     returns
     returns-2
     returns-3

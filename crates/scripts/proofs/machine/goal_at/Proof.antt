@@ -8,15 +8,6 @@ use Rattle.scripts.proofs.Frames.{goal-first, goal-few}
 use Rattle.scripts.proofs.machine.goal_at.Statement.{statement}
 use Rattle.scripts.proofs.machine.goal_at.Tie as tie
 
-mul-result : tie.Need-mul-result
-mul-result c = search needs
-
-add-result : tie.Need-add-result
-add-result c = search needs
-
-mul-result-2 : tie.Need-mul-result-2
-mul-result-2 c = search needs
-
 element-copy-out-result : tie.Need-element-copy-out-result
 element-copy-out-result c =
     omega (arith, goal-few (now (c .args .table)) (c .args .frame) (c .args .closed) (c .pre .1), c .pre .0)
@@ -28,4 +19,4 @@ returns c =
 
 pub goal-at-spec : {M : Type 1} → statement M
 goal-at-spec =
-    tie.close (tie.spec mul-result add-result mul-result-2 element-copy-out-result returns)
+    tie.close (tie.spec (λ c. search needs) (λ c. search needs) (λ c. search needs) element-copy-out-result returns)

@@ -11,21 +11,6 @@ returns c =
     let b = c .before in
     goal-last (now (b .args .table)) (b .args .frame) (b .args .closed) (b .pre .1) (c .if1 .taken)
 
-mul-result : tie.Need-mul-result
-mul-result c = search needs
-
-add-result : tie.Need-add-result
-add-result c = search needs
-
-add-result-2 : tie.Need-add-result-2
-add-result-2 c = search needs
-
-mul-result-2 : tie.Need-mul-result-2
-mul-result-2 c = search needs
-
-element-copy-out-result : tie.Need-element-copy-out-result
-element-copy-out-result c = search needs
-
 returns-2 : tie.Need-returns-2
 returns-2 c =
     let b = c .before .before in
@@ -36,9 +21,9 @@ has-next-spec =
     tie.close
     (tie.spec
     returns
-    mul-result
-    add-result
-    add-result-2
-    mul-result-2
-    element-copy-out-result
+    (λ c. search needs)
+    (λ c. search needs)
+    (λ c. search needs)
+    (λ c. search needs)
+    (λ c. search needs)
     returns-2)

@@ -7,9 +7,6 @@ use Rattle.scripts.proofs.Stepping.{reduce-told, reduce-never}
 use Rattle.scripts.proofs.run.can_reduce.Statement.{statement}
 use Rattle.scripts.proofs.run.can_reduce.Tie as tie
 
-add-if1 : tie.Need-add-if1
-add-if1 c = search needs
-
 element-copy-out-goal-at : tie.Need-element-copy-out-goal-at
 element-copy-out-goal-at c = omega (arith, c .before .pre .deep)
 
@@ -17,9 +14,6 @@ goal-at-requires : tie.Need-goal-at-requires
 goal-at-requires c κs =
     let b = c .before .before in
     (omega (arith, b .pre .deep, c .before .if1 .taken), b .pre .goals (b .args .frame) (omega (arith, c .before .if1 .taken)))
-
-is-opposed-requires : tie.Need-is-opposed-requires
-is-opposed-requires c κs = search needs
 
 returns : tie.Need-returns
 returns c =
@@ -37,9 +31,9 @@ pub can-reduce-spec : {M : Type 1} → statement M
 can-reduce-spec =
     tie.close
     (tie.spec
-    add-if1
+    (λ c. search needs)
     element-copy-out-goal-at
     goal-at-requires
-    is-opposed-requires
+    (λ c κs. search needs)
     returns
     returns-2)

@@ -36,27 +36,12 @@ form c = formed _ _ (c .pre .form)
 first-at : (c : tie.Start) → c .args .header .w3 ≡ firstStep (now (c .args .s))
 first-at c = ap (λ (x : Entry). x .w3) (c .pre .begun .read)
 
-cast-first : tie.Need-cast-first
-cast-first c = search needs
-
-pass-if-requires : tie.Need-pass-if-requires
-pass-if-requires c κs = search needs
-
-enum-told : tie.Need-enum-told
-enum-told c = search needs
-
 -- there is one
 first : (c : tie.After-enum-told) → IsStep (now (start c .args .s)) (start c .args .header .w3)
 first c =
     let b = start c in
     first-step (now (b .args .v)) (now (b .args .s)) (form b) _ (first-at b)
     (require-passed _ _ _ (passed _ _ (c .before .before .pass-if .ensures) (c .enum-told .given .1)))
-
-enum-told-2 : tie.Need-enum-told-2
-enum-told-2 c = search needs
-
-judge-after-requires : tie.Need-judge-after-requires
-judge-after-requires c κs = search needs
 
 returns : tie.Need-returns
 returns c =
@@ -67,12 +52,6 @@ returns c =
 
 read-entry-requires : tie.Need-read-entry-requires
 read-entry-requires c κs = omega (arith, first c .within)
-
-pass-if-requires-2 : tie.Need-pass-if-requires-2
-pass-if-requires-2 c κs = search needs
-
-enum-told-3 : tie.Need-enum-told-3
-enum-told-3 c = search needs
 
 -- it is a start
 started : (c : tie.After-enum-told3) → begun c .read-entry .result .w0 ≡ 3
@@ -85,12 +64,6 @@ column c =
     let b = start (e .before) in
     start-listed (now (b .args .v)) (now (b .args .s)) (form b) _ _ (e .read-entry .ensures) (first (e .before)) (started c)
 
-enum-told-4 : tie.Need-enum-told-4
-enum-told-4 c = search needs
-
-judge-after-requires-2 : tie.Need-judge-after-requires-2
-judge-after-requires-2 c κs = search needs
-
 returns-2 : tie.Need-returns-2
 returns-2 c =
     let p = c .before .before .before in
@@ -98,9 +71,6 @@ returns-2 c =
     let b = start (e .before) in
     chain-other (now (b .args .v)) (now (b .args .s)) (form b) _ (first-at b) (first (e .before)) _ (e .read-entry .ensures)
     _ _ _ _ (c .before .enum-told4 .given .1) (p .pass-if2 .ensures) (c .judge-after2 .ensures)
-
-query-column-requires : tie.Need-query-column-requires
-query-column-requires c κs = search needs
 
 run-steps-requires : tie.Need-run-steps-requires
 run-steps-requires c κs =
@@ -130,18 +100,18 @@ pub check-chain-spec : {M : Type 1} → statement M
 check-chain-spec =
     tie.close
     (tie.spec
-    cast-first
-    pass-if-requires
-    enum-told
-    enum-told-2
-    judge-after-requires
+    (λ c. search needs)
+    (λ c κs. search needs)
+    (λ c. search needs)
+    (λ c. search needs)
+    (λ c κs. search needs)
     returns
     read-entry-requires
-    pass-if-requires-2
-    enum-told-3
-    enum-told-4
-    judge-after-requires-2
+    (λ c κs. search needs)
+    (λ c. search needs)
+    (λ c. search needs)
+    (λ c κs. search needs)
     returns-2
-    query-column-requires
+    (λ c κs. search needs)
     run-steps-requires
     returns-3)

@@ -70,9 +70,6 @@ start-requires c κs =
 read-entry-requires : tie.Need-read-entry-requires Inv-loop μ-loop
 read-entry-requires c κs = omega (arith, start c .pre .1 .0 .within)
 
-cast-at : tie.Need-cast-at Inv-loop μ-loop
-cast-at c = omega arith
-
 loop-holds : tie.Need-loop-holds Inv-loop μ-loop
 loop-holds c =
     let m = c .before .before in
@@ -86,12 +83,6 @@ test-step-requires : tie.Need-test-step-requires Inv-loop μ-loop
 test-step-requires c κs =
     let w = c .before .before .before in
     (begun w .pre .0, (here w, w .before .loop .inv .1))
-
-enum-told : tie.Need-enum-told Inv-loop μ-loop
-enum-told c = search needs
-
-enum-told-2 : tie.Need-enum-told-2 Inv-loop μ-loop
-enum-told-2 c = search needs
 
 judge-after-requires : tie.Need-judge-after-requires Inv-loop μ-loop
 judge-after-requires c κs = tt
@@ -131,9 +122,6 @@ advance-requires c κs =
 
 add-steps : tie.Need-add-steps Inv-loop μ-loop
 add-steps c = omega (arith, looped (tested (read c .before)) .before .loop .inv .0 .few)
-
-cast-at-2 : tie.Need-cast-at-2 Inv-loop μ-loop
-cast-at-2 c = omega arith
 
 loop-less : tie.Need-loop-less Inv-loop μ-loop
 loop-less c =
@@ -181,17 +169,17 @@ run-steps-spec =
     empty-requires
     start-requires
     read-entry-requires
-    cast-at
+    (λ c. omega arith)
     loop-holds
     test-step-requires
-    enum-told
-    enum-told-2
+    (λ c. search needs)
+    (λ c. search needs)
     judge-after-requires
     returns
     read-entry-requires-2
     advance-requires
     add-steps
-    cast-at-2
+    (λ c. omega arith)
     loop-less
     loop-again
     pass-if-requires

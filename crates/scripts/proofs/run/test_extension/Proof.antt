@@ -52,9 +52,6 @@ row23 c =
 used-column-requires : tie.Need-used-column-requires
 used-column-requires c κs = let p = c .before .before .pre in (p .0, p .1)
 
-cast-position : tie.Need-cast-position
-cast-position c = search needs
-
 -- the column has the position
 placed : (c : tie.After-used-column) → start c .args .e .w5 < length (literals (c .used-column .result))
 placed c =
@@ -66,21 +63,6 @@ placed c =
 
 literal-at-requires : tie.Need-literal-at-requires
 literal-at-requires c κs = placed (c .before)
-
-is-opposed-requires : tie.Need-is-opposed-requires
-is-opposed-requires c κs = search needs
-
-pass-if-requires : tie.Need-pass-if-requires
-pass-if-requires c κs = search needs
-
-enum-told : tie.Need-enum-told
-enum-told c = search needs
-
-enum-told-2 : tie.Need-enum-told-2
-enum-told-2 c = search needs
-
-no-frame-requires : tie.Need-no-frame-requires
-no-frame-requires c κs = search needs
 
 -- row 21, from the call that tests it
 connected : (c : tie.After-pass-if) → checked (c .pass-if .result) ≡ row21 (start (found c))
@@ -105,12 +87,6 @@ returns c =
 
 leave-out-requires : tie.Need-leave-out-requires
 leave-out-requires c κs = placed (found (c .before .before))
-
-has-room-requires : tie.Need-has-room-requires
-has-room-requires c κs = search needs
-
-pass-if-requires-2 : tie.Need-pass-if-requires-2
-pass-if-requires-2 c κs = search needs
 
 -- the column's other literals
 left : (c : tie.After-pass-if2)
@@ -143,15 +119,15 @@ test-extension-spec =
     tie.close
     (tie.spec
     used-column-requires
-    cast-position
+    (λ c. search needs)
     literal-at-requires
-    is-opposed-requires
-    pass-if-requires
-    enum-told
-    enum-told-2
-    no-frame-requires
+    (λ c κs. search needs)
+    (λ c κs. search needs)
+    (λ c. search needs)
+    (λ c. search needs)
+    (λ c κs. search needs)
     returns
     leave-out-requires
-    has-room-requires
-    pass-if-requires-2
+    (λ c κs. search needs)
+    (λ c κs. search needs)
     returns-2)

@@ -49,9 +49,6 @@ begun c = start (tried (read c .before))
 abbrev frames : tie.Start → Frames ℕ
 frames c = framesFrom (now (c .args .table)) (now (c .args .closed)) (c .args .depth)
 
-pass-if-requires : tie.Need-pass-if-requires
-pass-if-requires c κs = search needs
-
 -- row 25
 opened : (c : tie.After-pass-if)
     → checked (c .pass-if .result) ≡ require (not (isNil (frames (start c)))) 25 (start c .args .i)
@@ -59,18 +56,9 @@ opened c =
     let a = start c .args in
     asked _ _ _ _ _ (c .pass-if .ensures) (open-told (now (a .table)) (now (a .closed)) (a .depth))
 
-enum-told : tie.Need-enum-told
-enum-told c = search needs
-
 -- a frame is open
 positive : (c : tie.After-enum-told) → 0 < start (tried c) .args .depth
 positive c = open-positive _ (require-passed _ _ _ (passed _ _ (tried c .pass-if .ensures) (c .enum-told .given .1)))
-
-enum-told-2 : tie.Need-enum-told-2
-enum-told-2 c = search needs
-
-no-frame-requires : tie.Need-no-frame-requires
-no-frame-requires c κs = search needs
 
 returns : tie.Need-returns
 unfolding stepCheck
@@ -120,15 +108,6 @@ test-extension-requires c κs =
 
 can-reduce-requires : tie.Need-can-reduce-requires
 can-reduce-requires c κs = begun (c .before) .pre .1 .1
-
-pass-if-requires-2 : tie.Need-pass-if-requires-2
-pass-if-requires-2 c κs = search needs
-
-no-frame-requires-2 : tie.Need-no-frame-requires-2
-no-frame-requires-2 c κs = search needs
-
-no-frame-requires-3 : tie.Need-no-frame-requires-3
-no-frame-requires-3 c κs = search needs
 
 returns-2 : tie.Need-returns-2
 returns-2 c =
@@ -194,10 +173,10 @@ pub test-step-spec : {M : Type 1} → statement M
 test-step-spec =
     tie.close
     (tie.spec
-    pass-if-requires
-    enum-told
-    enum-told-2
-    no-frame-requires
+    (λ c κs. search needs)
+    (λ c. search needs)
+    (λ c. search needs)
+    (λ c κs. search needs)
     returns
     read-entry-requires
     sub-last
@@ -205,9 +184,9 @@ test-step-spec =
     goal-at-requires
     test-extension-requires
     can-reduce-requires
-    pass-if-requires-2
-    no-frame-requires-2
-    no-frame-requires-3
+    (λ c κs. search needs)
+    (λ c κs. search needs)
+    (λ c κs. search needs)
     returns-2
     returns-3
     returns-4)

@@ -51,9 +51,6 @@ second-code-requires : tie.Need-second-code-requires
 second-code-requires c κs =
     let b = c .before .before .before in second-within _ _ (extends b .second) (form b .sized .least)
 
-code-of-requires : tie.Need-code-of-requires
-code-of-requires c κs = search needs
-
 -- the codes of the two terms
 first-small : (c : tie.After-term-code) → c .term-code .result < termLimit
 first-small c =
@@ -92,6 +89,6 @@ used-column-spec =
     (tie.spec
     term-code-requires
     second-code-requires
-    code-of-requires
+    (λ c κs. search needs)
     find-column-requires
     returns)

@@ -27,15 +27,9 @@ abbrev μ-loop : tie.MeasureT-loop
 loop-holds : tie.Need-loop-holds Inv-loop μ-loop
 loop-holds c = (refl, c .pre, entries-length (c .args .t1 .closed) _ (c .good .0 .1 .1 .1 .0 .1 .0 .1))
 
-sub-closed : tie.Need-sub-closed Inv-loop μ-loop
-sub-closed c = omega arith
-
 -- Places: l is the loop's state, of whose frames n is the last; t is the table.
 element-copy-out-closed : tie.Need-element-copy-out-closed Inv-loop μ-loop
 element-copy-out-closed c = let l = c .before .loop in omega (arith, l .inv .1 .deep, l .inv .2)
-
-sub-has-next : tie.Need-sub-has-next Inv-loop μ-loop
-sub-has-next c = omega arith
 
 has-next-requires : tie.Need-has-next-requires Inv-loop μ-loop
 has-next-requires c κs =
@@ -48,9 +42,6 @@ add-self c =
     let t = now (c .before .before .before .before .before .args .table) in
     let n = l .at - 1 in
     omega (arith, goal-few t n (getD (l .self .closed) n 0) (l .inv .1 .goals n (omega arith)))
-
-sub-self : tie.Need-sub-self Inv-loop μ-loop
-sub-self c = omega arith
 
 element-write-self : tie.Need-element-write-self Inv-loop μ-loop
 element-write-self c = let l = c .before .before .before .before .loop in omega (arith, l .inv .1 .deep, l .inv .2)
@@ -67,12 +58,6 @@ returns c =
       standing = stands-next t (l .self .closed) n (l .at) (omega arith) k (omega arith) room more (l .inv .1);
       shown = close-next t (l .self .closed) n (l .at) (omega arith) k (omega arith) room more ∙ sym (l .inv .0);
     }
-
-sub-at : tie.Need-sub-at Inv-loop μ-loop
-sub-at c = omega arith
-
-loop-less : tie.Need-loop-less Inv-loop μ-loop
-loop-less c = omega arith
 
 loop-again : tie.Need-loop-again Inv-loop μ-loop
 loop-again c =
@@ -101,15 +86,15 @@ close-spec =
     Inv-loop
     μ-loop
     loop-holds
-    sub-closed
+    (λ c. omega arith)
     element-copy-out-closed
-    sub-has-next
+    (λ c. omega arith)
     has-next-requires
     add-self
-    sub-self
+    (λ c. omega arith)
     element-write-self
     returns
-    sub-at
-    loop-less
+    (λ c. omega arith)
+    (λ c. omega arith)
     loop-again
     returns-2)

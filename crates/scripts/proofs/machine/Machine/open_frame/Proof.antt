@@ -11,39 +11,6 @@ use Rattle.scripts.proofs.Frames.{entries-length, listed-some, frames-p
 use Rattle.scripts.proofs.machine.Machine.open_frame.Statement.{statement}
 use Rattle.scripts.proofs.machine.Machine.open_frame.Tie as tie
 
-mul-place : tie.Need-mul-place
-mul-place c = search needs
-
-mul-table : tie.Need-mul-table
-mul-table c = search needs
-
-element-write-table : tie.Need-element-write-table
-element-write-table c = search needs
-
-add-table : tie.Need-add-table
-add-table c = search needs
-
-mul-table-2 : tie.Need-mul-table-2
-mul-table-2 c = search needs
-
-element-write-table-2 : tie.Need-element-write-table-2
-element-write-table-2 c = search needs
-
-add-table-2 : tie.Need-add-table-2
-add-table-2 c = search needs
-
-mul-table-3 : tie.Need-mul-table-3
-mul-table-3 c = search needs
-
-element-write-table-3 : tie.Need-element-write-table-3
-element-write-table-3 c = search needs
-
-element-write-self : tie.Need-element-write-self
-element-write-self c = search needs
-
-add-self : tie.Need-add-self
-add-self c = search needs
-
 returns : tie.Need-returns
 returns c =
     let m = c .args .t1 in
@@ -64,15 +31,15 @@ pub open-frame-spec : {M : Type 1} → statement M
 open-frame-spec =
     tie.close
     (tie.spec
-    mul-place
-    mul-table
-    element-write-table
-    add-table
-    mul-table-2
-    element-write-table-2
-    add-table-2
-    mul-table-3
-    element-write-table-3
-    element-write-self
-    add-self
+    (λ c. search needs)
+    (λ c. search needs)
+    (λ c. search needs)
+    (λ c. search needs)
+    (λ c. search needs)
+    (λ c. search needs)
+    (λ c. search needs)
+    (λ c. search needs)
+    (λ c. search needs)
+    (λ c. search needs)
+    (λ c. search needs)
     returns)
