@@ -65,8 +65,8 @@ module _ (v : List ℕ) (a b lent : ℕ) where
       (require-near most (leb formBytes lent) 12 0 (omega arith))))
 
   -- a refusal of the vocabulary, or of the query
-  refused-near : (o : Outcome ℕ) (q : Check) (x : Verdict) (n p : ℕ) → Small recordLimit o → ((m : ℕ) → o ≡ accepted m → Nearby most q)
-      → (o then q then accepted x) ≡ refused n p → Near most n p
+  refused-near : (o : Outcome ℕ) (q : Check) (x : Verdict) (n p : ℕ) → Small recordLimit o
+      → ((m : ℕ) → o ≡ accepted m → Nearby most q) → (o then q then accepted x) ≡ refused n p → Near most n p
   refused-near (refused m l) q x n p s near e =
       let at : _≡_ {A = Outcome Verdict} (refused m l) (refused n p) = e in
       let number : m ≡ n = cc in

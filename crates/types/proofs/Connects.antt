@@ -107,7 +107,8 @@ rule-connects r n f = at (decLt (r .kind) 10)
         let or = agree (select 14) (λ x y. x || y) (refl, refl, refl, refl) (f (r .a)) (f (r .b)) in
         let some = agree (select 10) (λ x y. x) (refl, refl, refl, refl) (f n) (f (r .b)) in
         let sub = agree (select 13) (λ x y. not x || y) (refl, refl, refl, refl) (f (r .a)) (f (r .b)) in
-        between Connects 10 0 (none, (top, (none, (name, (neg, (and, (or, (some, (some, (sub, tt)))))))))) (r .kind) (omega arith) h
+        between Connects 10 0 (none, (top, (none, (name, (neg, (and, (or, (some, (some, (sub, tt))))))))))
+        (r .kind) (omega arith) h
     at (no m) = rw (shape-past (r .kind) (omega arith), says-past (r .kind) (omega arith) r) (never (f n) (f 0))
 
 pub operands-earlier : (r : Record) (i n : ℕ) → n ≤ i → Earlier i (constructOf r)

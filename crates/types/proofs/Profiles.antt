@@ -118,7 +118,8 @@ module _ (v : List ℕ) (plan : Plan) (code statements : List ℕ) (p : Prepared
         rw (
           e ∙ fits-done,
           f ∙ differ-done,
-          g ∙ word-done (listing .places) (restriction v) (p .listed .place-at) (λ m k. restriction-sound v (count v) m k .before),
+          g ∙ word-done (listing .places) (restriction v) (p .listed .place-at)
+              (λ m k. restriction-sound v (count v) m k .before),
           h ∙ word-done (listing .fillers) (λ m. recordAt v (restriction v m) .b) (p .listed .filler-at) filler-known,
         )
       where

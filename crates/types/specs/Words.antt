@@ -16,13 +16,14 @@ use Rattle.records.specs.Kinds.{isRestriction}
 abbrev pub appendIf : Bool → List ℕ → ℕ → List ℕ
 appendIf b l n = cond b (l ++ (n ∷ [])) l
 
--- The restrictions among the records before n, in record order; all of them; how many; the m-th of them.
-unfoldable pub restrictionsBelow : List ℕ → ℕ → List ℕ
-restrictionsBelow v zero = []
-restrictionsBelow v (suc n) = appendIf (isRestriction (recordAt v n .kind)) (restrictionsBelow v n) n
+-- The numbers below n that pass a test, in rising order.
+unfoldable pub listBelow : (ℕ → Bool) → ℕ → List ℕ
+listBelow test zero = []
+listBelow test (suc n) = appendIf (test n) (listBelow test n) n
 
+-- The restrictions in record order; how many; the m-th of them.
 abbrev pub restrictions : List ℕ → List ℕ
-restrictions v = restrictionsBelow v (count v)
+restrictions v = listBelow (λ i. isRestriction (recordAt v i .kind)) (count v)
 
 abbrev pub width : List ℕ → ℕ
 width v = length (restrictions v)

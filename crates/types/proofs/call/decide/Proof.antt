@@ -79,7 +79,8 @@ returns c =
       c .conclude .ensures ∙ verdict-same v (a .a) (a .b) _ _ _ _
           (first .find-first .ensures ∙ ap (least _) (size s)
           ∙ alive-first v alive (e .alive-at) (a .a) (a .b) (s .settle .last .1 .1 .1 .1 .1 .0) (e .differs-at)) (size s)
-          (some .count-alive .ensures ∙ ap (countBelow (has alive)) (size s) ∙ alive-counted v alive (e .alive-at)) (e .rounds-at),
+          (some .count-alive .ensures ∙ ap (countBelow (has alive)) (size s) ∙ alive-counted v alive (e .alive-at))
+          (e .rounds-at),
       wrote .write-form .ensures ∙ ap (λ (l : List ℕ). l ++ drop formBytes (now (a .lent))) (alive-form v alive (e .alive-at)),
     )
 

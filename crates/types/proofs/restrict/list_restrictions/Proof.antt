@@ -2,14 +2,12 @@
 -- with what is asked of each. There is room, since each is an atom.
 -- Assumes nothing.
 use Prim.Native.Nat.{ℕ, suc, _+_, _-_, _≤_, _<_}
-use native.Mathlib.Numerals.{add-one}
 use native.Mathlib.Omega.{arith}
 use mathlib.Core.Bool.{Bool, true, false}
 use mathlib.Core.List.{List}
 use mathlib.Core.Logic.{⊎-elim}
 use mathlib.Core.Path.{_≡_, refl, sym, ap, _∙_}
 use lib.Dec.{eqb}
-use lib.ListN.{set}
 use borrow.Author.Needs.{needs}
 use denote.Ref.{now}
 use Rattle.records.proofs.Accepted.{accepted-vocabulary}
@@ -20,49 +18,35 @@ use Rattle.records.specs.declared.fields.Record.{Record}
 use Rattle.types.specs.Compare.{atomLimit}
 use Rattle.records.specs.Kinds.{isRestriction}
 use Rattle.types.specs.Words.{width, negated}
-use Rattle.types.proofs.Restrictions.{entries, entry, restricts, restrictions-none}
-use Rattle.types.proofs.Restrictions.{restrictions-length, restrictions-kept, restrictions-last, restrictions-few}
-use Rattle.types.proofs.Turns.{Filled, fill-start, fill-turn, fill-same}
+use Rattle.types.proofs.Listing.{entries, entry, entries-none, entries-length, total-turn, asked-kept, asked-more}
+use Rattle.types.proofs.Restrictions.{restricts, restrictions-few}
+use Rattle.types.proofs.Turns.{Filled, fill-start}
 use Rattle.types.proofs.restrict.list_restrictions.Statement.{statement}
 use Rattle.types.proofs.restrict.list_restrictions.Tie as tie
 
 -- A table of what is asked of each restriction below i, of which there are n.
 abbrev Has : {A : Type 0} → A → List ℕ → (ℕ → A) → ℕ → ℕ → List A → Type 0
-Has d v asked i n l = Filled d atomLimit l (λ m. asked (entry v i m)) n
+Has d v ask i n l = Filled d atomLimit l (λ m. ask (entry (restricts v) i m)) n
 
 record Listing (v places fillers roles : List ℕ) (signs : List Bool) (n i : ℕ) : Type 0 where
   within : i ≤ count v
-  total : n ≡ entries v i
+  total : n ≡ entries (restricts v) i
   has-places : Has 0 v (λ j. j) i n places
   has-fillers : Has 0 v (λ j. recordAt v j .b) i n fillers
   has-roles : Has 0 v (λ j. recordAt v j .a) i n roles
   has-signs : Has false v (negated v) i n signs
 
-module _ (v : List ℕ) (n i : ℕ) (total : n ≡ entries v i) where
-  -- there is room for one more
-  room : atoms v ≤ atomLimit → i < count v → restricts v i ≡ true → n < atomLimit
-  room few h e =
-      omega (
-        arith,
-        restrictions-length v i,
-        ap digit e,
-        restrictions-few v (suc i),
-        rank-mono v (suc i) (count v) (omega arith),
-      )
-
-  total-turn : (b : Bool) → restricts v i ≡ b → n + digit b ≡ entries v (i + 1)
-  total-turn b e = rw (add-one i) (omega (arith, restrictions-length v i, ap digit e))
-
-  module _ {A : Type 0} (d : A) (asked : ℕ → A) (l : List A) (f : Has d v asked i n l) where
-    kept : Has d v asked (i + 1) n l
-    kept =
-        rw (add-one i) (fill-same d atomLimit l (λ m. asked (entry v i m)) n f (λ m. asked (entry v (suc i) m))
-        (λ m k. ap asked (sym (restrictions-kept v i m (omega arith)))))
-
-    more : (x : A) → n < atomLimit → restricts v i ≡ true → x ≡ asked i → Has d v asked (i + 1) (n + 1) (set l n x)
-    more x free e q =
-        fill-turn d atomLimit l (λ m. asked (entry v (i + 1) m)) n x free kept
-        (q ∙ ap asked (sym (rw (add-one i) (ap (entry v (suc i)) total ∙ restrictions-last v i e))))
+-- there is room for one more
+room : (v : List ℕ) (n i : ℕ) → n ≡ entries (restricts v) i → atoms v ≤ atomLimit → i < count v → restricts v i ≡ true
+    → n < atomLimit
+room v n i total few h e =
+    omega (
+      arith,
+      entries-length (restricts v) i,
+      ap digit e,
+      restrictions-few v (suc i),
+      rank-mono v (suc i) (count v) (omega arith),
+    )
 
 abbrev Inv-loop : tie.InvT-loop
 Inv-loop v records places₀ fillers₀ roles₀ signs₀ n₀ i₀ places fillers roles signs n i = Listing v places fillers roles signs n i
@@ -74,7 +58,7 @@ loop-holds : tie.Need-loop-holds Inv-loop μ-loop
 loop-holds c =
     record {
       within = omega arith;
-      total = sym (restrictions-none _);
+      total = sym (entries-none _);
       has-places = fill-start _ _ _ _ refl;
       has-fillers = fill-start _ _ _ _ refl;
       has-roles = fill-start _ _ _ _ refl;
@@ -93,8 +77,11 @@ inside c =
     let start = c .before .before .before in
     omega (arith, c .before .loop .inv .within, accepted-vocabulary (now (start .args .v)) _ (start .pre .0) .sized .most)
 
+abbrev start : tie.At-loop Inv-loop μ-loop → tie.Start Inv-loop μ-loop
+start c = c .before .before
+
 tested : (c : tie.After-is-restriction Inv-loop μ-loop)
-    → c .is-restriction .result ≡ restricts (now (c .before .before .before .before .before .args .v)) (c .before .before .before .loop .i)
+    → c .is-restriction .result ≡ restricts (now (start (c .before .before .before) .args .v)) (c .before .before .before .loop .i)
 tested c = c .is-restriction .ensures ∙ ap (λ (r : Record). isRestriction (r .kind)) (c .before .read-at .ensures)
 
 free : (c : tie.Then1 Inv-loop μ-loop) → c .before .before .before .before .loop .count < atomLimit
@@ -146,26 +133,26 @@ loop-again c =
     let h : l .i + 1 ≤ count v = omega arith in
     ⊎-elim
     (λ s. let e : restricts v (l .i) ≡ true = sym (tested (c .before)) ∙ s .0 .taken in
-    let r : l .count < atomLimit = room v (l .count) (l .i) (w .total) (in-loop .before .before .before .pre .1) (omega arith) e in
+    let r = room v (l .count) (l .i) (w .total) (in-loop .before .before .before .pre .1) (omega arith) e in
     rw (s .2, s .3, s .4, s .5, s .6) record {
       within = h;
-      total = total-turn v (l .count) (l .i) (w .total) true e;
-      has-places = more v (l .count) (l .i) (w .total) 0 (λ j. j) (l .places) (w .has-places) _ r e refl;
-      has-fillers = more v (l .count) (l .i) (w .total) 0 (λ j. recordAt v j .b) (l .fillers) (w .has-fillers) _ r e
+      total = total-turn (restricts v) (l .count) (l .i) (w .total) true e;
+      has-places = asked-more (restricts v) _ (l .i) (w .total) 0 _ (λ j. j) _ (w .has-places) _ r e refl;
+      has-fillers = asked-more (restricts v) _ (l .i) (w .total) 0 _ (λ j. recordAt v j .b) _ (w .has-fillers) _ r e
           (ap (λ (r : Record). r .b) read);
-      has-roles = more v (l .count) (l .i) (w .total) 0 (λ j. recordAt v j .a) (l .roles) (w .has-roles) _ r e
+      has-roles = asked-more (restricts v) _ (l .i) (w .total) 0 _ (λ j. recordAt v j .a) _ (w .has-roles) _ r e
           (ap (λ (r : Record). r .a) read);
-      has-signs = more v (l .count) (l .i) (w .total) false (negated v) (l .signs) (w .has-signs) _ r e
+      has-signs = asked-more (restricts v) _ (l .i) (w .total) false _ (negated v) _ (w .has-signs) _ r e
           (ap (λ (r : Record). eqb (r .kind) 8) read);
     })
     (λ s. let e : restricts v (l .i) ≡ false = sym (tested (c .before)) ∙ s .0 .left in
     rw (s .1, s .2, s .3, s .4, s .5) record {
       within = h;
-      total = omega (arith, total-turn v (l .count) (l .i) (w .total) false e);
-      has-places = kept v (l .count) (l .i) (w .total) 0 (λ j. j) (l .places) (w .has-places);
-      has-fillers = kept v (l .count) (l .i) (w .total) 0 (λ j. recordAt v j .b) (l .fillers) (w .has-fillers);
-      has-roles = kept v (l .count) (l .i) (w .total) 0 (λ j. recordAt v j .a) (l .roles) (w .has-roles);
-      has-signs = kept v (l .count) (l .i) (w .total) false (negated v) (l .signs) (w .has-signs);
+      total = omega (arith, total-turn (restricts v) (l .count) (l .i) (w .total) false e);
+      has-places = asked-kept (restricts v) _ (l .i) (w .total) 0 _ (λ j. j) _ (w .has-places);
+      has-fillers = asked-kept (restricts v) _ (l .i) (w .total) 0 _ (λ j. recordAt v j .b) _ (w .has-fillers);
+      has-roles = asked-kept (restricts v) _ (l .i) (w .total) 0 _ (λ j. recordAt v j .a) _ (w .has-roles);
+      has-signs = asked-kept (restricts v) _ (l .i) (w .total) false _ (negated v) _ (w .has-signs);
     }) (c .if1 .came)
 
 returns : tie.Need-returns Inv-loop μ-loop
@@ -174,12 +161,12 @@ returns c =
     let l = c .before .loop in
     let w = l .inv in
     let e : l .i ≡ count v = omega (arith, w .within) in
-    let all : l .count ≡ width v = w .total ∙ ap (entries v) e in record {
+    let all : l .count ≡ width v = w .total ∙ ap (entries (restricts v)) e in record {
       all = all;
-      place-at = λ m h. w .has-places .right m (omega arith) ∙ ap (λ (n : ℕ). entry v n m) e;
-      filler-at = λ m h. w .has-fillers .right m (omega arith) ∙ ap (λ (n : ℕ). recordAt v (entry v n m) .b) e;
-      role-at = λ m h. w .has-roles .right m (omega arith) ∙ ap (λ (n : ℕ). recordAt v (entry v n m) .a) e;
-      sign-at = λ m h. w .has-signs .right m (omega arith) ∙ ap (λ (n : ℕ). negated v (entry v n m)) e;
+      place-at = λ m h. w .has-places .right m (omega arith) ∙ ap (λ (n : ℕ). entry (restricts v) n m) e;
+      filler-at = λ m h. w .has-fillers .right m (omega arith) ∙ ap (λ (n : ℕ). recordAt v (entry (restricts v) n m) .b) e;
+      role-at = λ m h. w .has-roles .right m (omega arith) ∙ ap (λ (n : ℕ). recordAt v (entry (restricts v) n m) .a) e;
+      sign-at = λ m h. w .has-signs .right m (omega arith) ∙ ap (λ (n : ℕ). negated v (entry (restricts v) n m)) e;
     }
 
 pub list-restrictions-spec : {M : Type 1} → statement M

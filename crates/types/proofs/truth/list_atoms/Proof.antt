@@ -1,24 +1,25 @@
 -- `types::truth::list_atoms` meets its contract. The loop's invariant: the atoms below `i` are listed by their numbers.
 -- Assumes nothing.
-use Prim.Native.Nat.{ℕ, suc, _+_, _-_, _≤_, _<_}
-use native.Mathlib.Decide.{ℕ-discrete}
+use Prim.Native.Nat.{ℕ, zero, suc, _+_, _-_, _≤_, _<_}
 use native.Mathlib.Omega.{arith}
 use mathlib.Core.Bool.{Bool, true, false}
 use mathlib.Core.List.{List}
 use mathlib.Core.Logic.{⊎-elim}
 use mathlib.Core.Path.{_≡_, refl, sym, ap, _∙_}
-use lib.ListN.{length, getD, set, length-set}
-use lib.Seq.{getD-set-same, getD-set-other}
+use lib.ListN.{getD}
 use borrow.Author.Needs.{needs}
 use denote.Ref.{now}
 use Rattle.records.proofs.Accepted.{accepted-vocabulary}
-use Rattle.records.proofs.Passed.{clash}
-use Rattle.records.proofs.Ranks.{rank-turn, rank-mono, rank-next}
-use Rattle.records.specs.Atoms.{atoms, rank}
+use Rattle.records.proofs.Ranks.{rank-mono, rank-next, rank-below}
+use Rattle.records.specs.Atoms.{atoms, digit, rank}
 use Rattle.records.specs.Format.{count, recordAt, recordLimit}
 use Rattle.records.specs.Kinds.{isAtom}
 use Rattle.records.specs.declared.fields.Record.{Record}
 use Rattle.types.specs.Compare.{atomLimit}
+use Rattle.types.specs.Rules.{AtomsListed}
+use Rattle.types.proofs.Listing.{entries, entry, entries-none, entries-length, entry-sound, entry-number, entry-at}
+use Rattle.types.proofs.Listing.{total-turn, asked-kept, asked-more}
+use Rattle.types.proofs.Turns.{Filled, fill-start}
 use Rattle.types.proofs.truth.list_atoms.Statement.{statement}
 use Rattle.types.proofs.truth.list_atoms.Tie as tie
 
@@ -27,62 +28,32 @@ atom v i = isAtom (recordAt v i .kind)
 
 record Listing (v places : List ℕ) (found i : ℕ) : Type 0 where
   within : i ≤ count v
-  total : found ≡ rank v i
-  size : length places ≡ atomLimit
-  earlier : (j : ℕ) → j < found → getD places j 0 < i
-  ranked : (j : ℕ) → j < found → rank v (getD places j 0) ≡ j
-  finds : (u : ℕ) → u < i → atom v u ≡ true → getD places (rank v u) 0 ≡ u
+  total : found ≡ entries (atom v) i
+  filled : Filled 0 atomLimit places (entry (atom v) i) found
 
-module _ (v places : List ℕ) (found i : ℕ) (l : Listing v places found i) (h : i < count v) where
-  room : atoms v ≤ atomLimit → atom v i ≡ true → found < atomLimit
-  room few e = omega (arith, l .total, rank-next v i e, rank-mono v (suc i) (count v) (omega arith))
+module _ (v : List ℕ) where
+  -- as many as the atoms before
+  entries-rank : (n : ℕ) → entries (atom v) n ≡ rank v n
+  unfolding rank
+  entries-rank zero = entries-none (atom v)
+  entries-rank (suc n) = entries-length (atom v) n ∙ ap (λ (k : ℕ). k + digit (atom v n)) (entries-rank n)
 
-  more : found < atomLimit → atom v i ≡ true → Listing v (set places found i) (found + 1) (i + 1)
-  more free e =
+  -- there is room for one more
+  room : (n i : ℕ) → n ≡ entries (atom v) i → atoms v ≤ atomLimit → i < count v → atom v i ≡ true → n < atomLimit
+  room n i total few h e =
+      omega (arith, entries-rank i, rank-next v i e, rank-mono v (suc i) (count v) (omega arith))
+
+  listed : (places : List ℕ) → ((j : ℕ) → j < atoms v → getD places j 0 ≡ entry (atom v) (count v) j) → AtomsListed v places
+  listed places right =
       record {
-        within = omega arith;
-        total = rank-turn v i found true (l .total) e;
-        size = length-set places found i ∙ l .size;
-        earlier = λ j k. earlier-at j k (ℕ-discrete j found);
-        ranked = λ j k. ranked-at j k (ℕ-discrete j found);
-        finds = λ u k a. finds-at u k a (ℕ-discrete u i);
+        within = λ j h. omega (arith, right j h, entry-sound (atom v) (count v) j (inside j h) .before);
+        ranked = λ j h. ap (rank v) (right j h) ∙ sym (entries-rank _) ∙ entry-number (atom v) (count v) j (inside j h);
+        finds = λ i h a. right (rank v i) (rank-below v i h a) ∙ ap (entry (atom v) (count v)) (sym (entries-rank i))
+            ∙ entry-at (atom v) (count v) i h a;
       }
     where
-      listed : List ℕ
-      listed = set places found i
-
-      last : getD listed found 0 ≡ i
-      last = getD-set-same places found i 0 (omega (arith, l .size))
-
-      earlier-at : (j : ℕ) → j < found + 1 → Dec (j ≡ found) → getD listed j 0 < i + 1
-      earlier-at j k (yes q) = rw (q, last) (omega arith)
-      earlier-at j k (no q) = rw (getD-set-other places found j i 0 q) (omega (arith, l .earlier j (omega arith)))
-
-      ranked-at : (j : ℕ) → j < found + 1 → Dec (j ≡ found) → rank v (getD listed j 0) ≡ j
-      ranked-at j k (yes q) = rw (q, last) (sym (l .total))
-      ranked-at j k (no q) = rw (getD-set-other places found j i 0 q) (l .ranked j (omega arith))
-
-      finds-at : (u : ℕ) → u < i + 1 → atom v u ≡ true → Dec (u ≡ i) → getD listed (rank v u) 0 ≡ u
-      finds-at u k a (yes q) = ap (λ (n : ℕ). getD listed n 0) (ap (rank v) q ∙ sym (l .total)) ∙ last ∙ sym q
-      finds-at u k a (no q) =
-          let below : u < i = omega arith in
-          let less : rank v u < found = omega (arith, l .total, rank-next v u a, rank-mono v (suc u) i below) in
-          getD-set-other places found (rank v u) i 0 (λ e. omega arith) ∙ l .finds u below a
-
-  same : atom v i ≡ false → Listing v places found (i + 1)
-  same e =
-      record {
-        within = omega arith;
-        total = omega (arith, rank-turn v i found false (l .total) e);
-        size = l .size;
-        earlier = λ j k. omega (arith, l .earlier j k);
-        ranked = l .ranked;
-        finds = λ u k a. finds-at u k a (ℕ-discrete u i);
-      }
-    where
-      finds-at : (u : ℕ) → u < i + 1 → atom v u ≡ true → Dec (u ≡ i) → getD places (rank v u) 0 ≡ u
-      finds-at u k a (yes q) = let none : true ≡ false = sym a ∙ ap (atom v) q ∙ e in absurd (clash (cc))
-      finds-at u k a (no q) = l .finds u (omega arith) a
+      inside : (j : ℕ) → j < atoms v → j < entries (atom v) (count v)
+      inside j h = omega (arith, entries-rank (count v))
 
 abbrev Inv-loop : tie.InvT-loop
 Inv-loop v records places₀ found₀ i₀ places found i = Listing v places found i
@@ -91,16 +62,7 @@ abbrev μ-loop : tie.MeasureT-loop
 μ-loop v records places₀ found₀ i₀ places found i = count v - i
 
 loop-holds : tie.Need-loop-holds Inv-loop μ-loop
-unfolding rank
-loop-holds c =
-    record {
-      within = omega arith;
-      total = refl;
-      size = refl;
-      earlier = λ j k. absurd (omega arith);
-      ranked = λ j k. absurd (omega arith);
-      finds = λ u k a. absurd (omega arith);
-    }
+loop-holds c = record { within = omega arith; total = sym (entries-none _); filled = fill-start _ _ _ _ refl }
 
 read-at-requires : tie.Need-read-at-requires Inv-loop μ-loop
 read-at-requires c κs = omega arith
@@ -121,7 +83,7 @@ tested c = c .is-atom .ensures ∙ ap (λ (r : Record). isAtom (r .kind)) (c .be
 free : (c : tie.Then1 Inv-loop μ-loop) → c .before .before .before .before .loop .found < atomLimit
 free c =
     let l = c .before .before .before .before in
-    room _ _ _ _ (l .loop .inv) (c .before .before .before .loop-test .taken) (l .before .before .pre .1)
+    room _ _ _ (l .loop .inv .total) (l .before .before .pre .1) (c .before .before .before .loop-test .taken)
     (sym (tested (c .before)) ∙ c .if1 .taken)
 
 cast-places : tie.Need-cast-places Inv-loop μ-loop
@@ -146,22 +108,32 @@ loop-again : tie.Need-loop-again Inv-loop μ-loop
 loop-again c =
     let in-loop = c .before .before .before in
     let l = in-loop .before .loop in
-    let h = in-loop .loop-test .taken in
+    let w = l .inv in
+    let v = now (in-loop .before .before .before .args .v) in
+    let h : l .i + 1 ≤ count v = omega arith in
     ⊎-elim
-    (λ s. let e = sym (tested (c .before)) ∙ s .0 .taken in
-    rw (s .1, s .2) (more _ _ _ _ (l .inv) h (room _ _ _ _ (l .inv) h (in-loop .before .before .before .pre .1) e) e))
-    (λ s. rw (s .1, s .2) (same _ _ _ _ (l .inv) h (sym (tested (c .before)) ∙ s .0 .left))) (c .if1 .came)
+    (λ s. let e : atom v (l .i) ≡ true = sym (tested (c .before)) ∙ s .0 .taken in
+    let r = room v (l .found) (l .i) (w .total) (in-loop .before .before .before .pre .1) (omega arith) e in
+    rw (s .1, s .2) record {
+      within = h;
+      total = total-turn (atom v) (l .found) (l .i) (w .total) true e;
+      filled = asked-more (atom v) _ (l .i) (w .total) 0 _ (λ j. j) _ (w .filled) _ r e refl;
+    })
+    (λ s. let e : atom v (l .i) ≡ false = sym (tested (c .before)) ∙ s .0 .left in
+    rw (s .1, s .2) record {
+      within = h;
+      total = omega (arith, total-turn (atom v) (l .found) (l .i) (w .total) false e);
+      filled = asked-kept (atom v) _ (l .i) (w .total) 0 _ (λ j. j) _ (w .filled);
+    }) (c .if1 .came)
 
 returns : tie.Need-returns Inv-loop μ-loop
 returns c =
     let v = now (c .before .before .before .args .v) in
-    let w = c .before .loop .inv in
-    let e : c .before .loop .i ≡ count v = omega (arith, w .within) in
-    let all : c .before .loop .found ≡ atoms v = w .total ∙ ap (rank v) e in record {
-      within = λ j h. omega (arith, w .earlier j (omega arith));
-      ranked = λ j h. w .ranked j (omega arith);
-      finds = λ u h a. w .finds u (omega arith) a;
-    }
+    let l = c .before .loop in
+    let w = l .inv in
+    let e : l .i ≡ count v = omega (arith, w .within) in
+    let all : l .found ≡ atoms v = w .total ∙ entries-rank v (l .i) ∙ ap (rank v) e in
+    listed v (l .places) (λ j h. w .filled .right j (omega arith) ∙ ap (λ (n : ℕ). entry (atom v) n j) e)
 
 pub list-atoms-spec : {M : Type 1} → statement M
 list-atoms-spec =
