@@ -18,18 +18,6 @@ told c = c .before .before
 abbrev asked : tie.After-enum-told3 → tie.After-check-query
 asked c = c .before .before
 
-check-vocabulary-requires : tie.Need-check-vocabulary-requires
-check-vocabulary-requires c κs = search needs
-
-enum-told : tie.Need-enum-told
-enum-told c = search needs
-
-enum-told-2 : tie.Need-enum-told-2
-enum-told-2 c = search needs
-
-compare-after-count-requires : tie.Need-compare-after-count-requires
-compare-after-count-requires c κs = search needs
-
 returns : tie.Need-returns
 returns c =
     let first = c .before .before .before in
@@ -37,20 +25,8 @@ returns c =
     refused-vocabulary (now (a .v)) (a .a) (a .b) (now (a .lent)) (c .compare-after-count .result) _ _ _ _
     (first .check-vocabulary .ensures) (c .before .enum-told2 .given .1) (c .compare-after-count .ensures)
 
-count-atoms-requires : tie.Need-count-atoms-requires
-count-atoms-requires c κs = search needs
-
 check-query-requires : tie.Need-check-query-requires
 check-query-requires c κs = c .count-atoms .ensures
-
-enum-told-3 : tie.Need-enum-told-3
-enum-told-3 c = search needs
-
-enum-told-4 : tie.Need-enum-told-4
-enum-told-4 c = search needs
-
-compare-after-requires : tie.Need-compare-after-requires
-compare-after-requires c κs = search needs
 
 returns-2 : tie.Need-returns-2
 returns-2 c =
@@ -73,9 +49,6 @@ decide-requires c κs =
           (told query .enum-told .given .1) _ (query .check-query .ensures) (c .before .enum-told3 .given .1) .room,
     )
 
-same-length : tie.Need-same-length
-same-length c = search needs
-
 returns-3 : tie.Need-returns-3
 returns-3 c =
     let decided = c .before .before in
@@ -91,17 +64,17 @@ pub compare-spec : {M : Type 1} → statement M
 compare-spec =
     tie.close
     (tie.spec
-    check-vocabulary-requires
-    enum-told
-    enum-told-2
-    compare-after-count-requires
+    (λ c κs. search needs)
+    (λ c. search needs)
+    (λ c. search needs)
+    (λ c κs. search needs)
     returns
-    count-atoms-requires
+    (λ c κs. search needs)
     check-query-requires
-    enum-told-3
-    enum-told-4
-    compare-after-requires
+    (λ c. search needs)
+    (λ c. search needs)
+    (λ c κs. search needs)
     returns-2
     decide-requires
-    same-length
+    (λ c. search needs)
     returns-3)

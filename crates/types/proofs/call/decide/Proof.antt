@@ -60,12 +60,6 @@ write-form-requires c κs =
       (λ t h. s .settle .ensures .alive-at t ∙ survivors-end v t (omega (arith, size s)), start s .pre .1),
     )
 
-conclude-requires : tie.Need-conclude-requires
-conclude-requires c κs = search needs
-
-same-length : tie.Need-same-length
-same-length c = search needs
-
 returns : tie.Need-returns
 returns c =
     let wrote = c .before .before .before in
@@ -93,6 +87,6 @@ decide-spec =
     find-first-requires
     count-alive-requires
     write-form-requires
-    conclude-requires
-    same-length
+    (λ c κs. search needs)
+    (λ c. search needs)
     returns)

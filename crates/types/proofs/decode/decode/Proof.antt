@@ -95,12 +95,6 @@ loop-holds c =
       seconds = λ j k. absurd (omega arith);
     }
 
-read-at-requires : tie.Need-read-at-requires Inv-loop μ-loop
-read-at-requires c κs = omega arith
-
-rule-requires : tie.Need-rule-requires Inv-loop μ-loop
-rule-requires c κs = search needs
-
 mul-code : tie.Need-mul-code Inv-loop μ-loop
 mul-code c = omega (arith, inside (c .before .before))
 
@@ -110,9 +104,6 @@ element-write-code c = omega (arith, inside (c .before .before))
 cast-first-operand : tie.Need-cast-first-operand Inv-loop μ-loop
 cast-first-operand c = omega (arith, inside (c .before .before))
 
-first-operand-requires : tie.Need-first-operand-requires Inv-loop μ-loop
-first-operand-requires c κs = search needs
-
 add-code : tie.Need-add-code Inv-loop μ-loop
 add-code c = omega (arith, inside (c .before .before .before))
 
@@ -121,12 +112,6 @@ mul-code-2 c = omega (arith, inside (c .before .before .before))
 
 element-write-code-2 : tie.Need-element-write-code-2 Inv-loop μ-loop
 element-write-code-2 c = omega (arith, inside (c .before .before .before))
-
-second-operand-requires : tie.Need-second-operand-requires Inv-loop μ-loop
-second-operand-requires c κs = search needs
-
-mul-code-3 : tie.Need-mul-code-3 Inv-loop μ-loop
-mul-code-3 c = omega arith
 
 add-code-2 : tie.Need-add-code-2 Inv-loop μ-loop
 add-code-2 c = omega (arith, inside (c .before .before .before .before))
@@ -139,9 +124,6 @@ element-write-code-3 c = omega (arith, inside (c .before .before .before .before
 
 add-i : tie.Need-add-i Inv-loop μ-loop
 add-i c = omega (arith, inside (c .before .before .before .before))
-
-loop-less : tie.Need-loop-less Inv-loop μ-loop
-loop-less c = omega arith
 
 loop-again : tie.Need-loop-again Inv-loop μ-loop
 loop-again c =
@@ -170,21 +152,21 @@ decode-spec =
     Inv-loop
     μ-loop
     loop-holds
-    read-at-requires
-    rule-requires
+    (λ c κs. omega arith)
+    (λ c κs. search needs)
     mul-code
     element-write-code
     cast-first-operand
-    first-operand-requires
+    (λ c κs. search needs)
     add-code
     mul-code-2
     element-write-code-2
-    second-operand-requires
-    mul-code-3
+    (λ c κs. search needs)
+    (λ c. omega arith)
     add-code-2
     mul-code-4
     element-write-code-3
     add-i
-    loop-less
+    (λ c. omega arith)
     loop-again
     returns)

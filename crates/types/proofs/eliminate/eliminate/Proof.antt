@@ -31,9 +31,6 @@ Inv-loop v roles bits demands offers size alive₀ masks live left cover₀ done
 abbrev μ-loop : tie.MeasureT-loop
 μ-loop v roles bits demands offers size alive₀ masks live left cover₀ done₀ alive cover done = types v - done
 
-list-masks-requires : tie.Need-list-masks-requires Inv-loop μ-loop
-list-masks-requires c κs = search needs
-
 list-live-requires : tie.Need-list-live-requires Inv-loop μ-loop
 list-live-requires c κs =
     let start = c .before .before .before .before in
@@ -112,7 +109,7 @@ eliminate-spec =
     (tie.spec
     Inv-loop
     μ-loop
-    list-masks-requires
+    (λ c κs. search needs)
     list-live-requires
     loop-holds
     remove-unserved-requires

@@ -65,9 +65,6 @@ mul-cover c = omega (arith, element-write-cover c)
 add-j : tie.Need-add-j Inv-loop μ-loop
 add-j c = omega (arith, place (c .before .before .before))
 
-loop-less : tie.Need-loop-less Inv-loop μ-loop
-loop-less c = omega arith
-
 loop-again : tie.Need-loop-again Inv-loop μ-loop
 loop-again c =
     let loop = c .before .before .before .before in
@@ -103,6 +100,6 @@ enter-offers-spec =
     mul-cover
     element-write-cover
     add-j
-    loop-less
+    (λ c. omega arith)
     loop-again
     returns)

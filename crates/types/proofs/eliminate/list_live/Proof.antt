@@ -44,9 +44,6 @@ add-left c = omega (arith, place (c .before .before))
 add-t : tie.Need-add-t Inv-loop μ-loop
 add-t c = omega (arith, inside (c .before .before))
 
-loop-less : tie.Need-loop-less Inv-loop μ-loop
-loop-less c = omega arith
-
 loop-again : tie.Need-loop-again Inv-loop μ-loop
 loop-again c =
     let turn = c .before .before in
@@ -75,6 +72,6 @@ list-live-spec =
     element-write-live
     add-left
     add-t
-    loop-less
+    (λ c. omega arith)
     loop-again
     returns)

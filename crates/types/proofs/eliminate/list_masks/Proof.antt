@@ -56,9 +56,6 @@ array-write-masks c = omega (arith, inside (c .before))
 add-role : tie.Need-add-role Inv-loop μ-loop
 add-role c = omega (arith, inside (c .before))
 
-loop-less : tie.Need-loop-less Inv-loop μ-loop
-loop-less c = omega arith
-
 loop-again : tie.Need-loop-again Inv-loop μ-loop
 loop-again c =
     let loop = c .before .before .loop in
@@ -86,6 +83,6 @@ list-masks-spec =
     mul-masks
     array-write-masks
     add-role
-    loop-less
+    (λ c. omega arith)
     loop-again
     returns)

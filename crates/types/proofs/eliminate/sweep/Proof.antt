@@ -61,9 +61,6 @@ element-write-alive c = inside (c .before .before .before .before .before .befor
 add-j : tie.Need-add-j Inv-loop μ-loop
 add-j c = omega (arith, place (c .before .before .before))
 
-loop-less : tie.Need-loop-less Inv-loop μ-loop
-loop-less c = omega arith
-
 loop-again : tie.Need-loop-again Inv-loop μ-loop
 loop-again c =
     let turn = c .before .before .before in
@@ -97,6 +94,6 @@ sweep-spec =
     is-met-requires
     element-write-alive
     add-j
-    loop-less
+    (λ c. omega arith)
     loop-again
     returns)

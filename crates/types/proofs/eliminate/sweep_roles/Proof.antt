@@ -65,9 +65,6 @@ sweep-requires c κs =
     let within = keeps-within _ _ _ _ w in
     (covering-less _ _ _ _ within (s .listed), (λ t h. reached-in s _ t (below turn) (within t h), w .size ∙ s .size))
 
-either-requires : tie.Need-either-requires Inv-loop μ-loop
-either-requires c κs = search needs
-
 add-role : tie.Need-add-role Inv-loop μ-loop
 add-role c = omega (arith, inside (c .before .before))
 
@@ -115,7 +112,7 @@ sweep-roles-spec =
     mul-mask
     element-copy-out-mask
     sweep-requires
-    either-requires
+    (λ c κs. search needs)
     add-role
     loop-less
     loop-again

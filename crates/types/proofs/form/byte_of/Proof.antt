@@ -23,29 +23,14 @@ Inv-loop alive n start byte₀ j₀ byte j = (j ≤ 8) × (byte ≡ wordFrom 8 (
 abbrev μ-loop : tie.MeasureT-loop
 μ-loop alive n start byte₀ j₀ byte j = j
 
-mul-start : tie.Need-mul-start Inv-loop μ-loop
-mul-start c = omega arith
-
 loop-holds : tie.Need-loop-holds Inv-loop μ-loop
 loop-holds c = (omega arith, word-start 8 (bits (now (c .args .alive)) (c .args .n)))
-
-sub-j : tie.Need-sub-j Inv-loop μ-loop
-sub-j c = omega arith
-
-add-push-bit : tie.Need-add-push-bit Inv-loop μ-loop
-add-push-bit c = omega arith
-
-element-copy-out-push-bit : tie.Need-element-copy-out-push-bit Inv-loop μ-loop
-element-copy-out-push-bit c = omega arith
 
 push-bit-requires : tie.Need-push-bit-requires Inv-loop μ-loop
 push-bit-requires c κs =
     let at = c .before .before in
     let a = at .before .args in
     word-bound 8 (bits (now (a .alive)) (a .n)) (at .loop .j) _ (omega arith) (at .loop .inv .1)
-
-loop-less : tie.Need-loop-less Inv-loop μ-loop
-loop-less c = omega arith
 
 loop-again : tie.Need-loop-again Inv-loop μ-loop
 loop-again c =
@@ -78,13 +63,13 @@ byte-of-spec =
     (tie.spec
     Inv-loop
     μ-loop
-    mul-start
+    (λ c. omega arith)
     loop-holds
-    sub-j
-    add-push-bit
-    element-copy-out-push-bit
+    (λ c. omega arith)
+    (λ c. omega arith)
+    (λ c. omega arith)
     push-bit-requires
-    loop-less
+    (λ c. omega arith)
     loop-again
     cast-result
     returns)

@@ -18,24 +18,12 @@ abbrev μ-loop : tie.MeasureT-loop
 loop-holds : tie.Need-loop-holds Inv-loop μ-loop
 loop-holds c = (omega arith, none-start (inBoth (now (c .args .alive)) (now (c .args .differs))))
 
-element-copy-out-if1 : tie.Need-element-copy-out-if1 Inv-loop μ-loop
-element-copy-out-if1 c = omega arith
-
-element-copy-out-if2 : tie.Need-element-copy-out-if2 Inv-loop μ-loop
-element-copy-out-if2 c = omega arith
-
 returns : tie.Need-returns Inv-loop μ-loop
 returns c =
     let w = c .before .before .before .before .before in
     let a = w .before .args in
     first-found (now (a .alive)) (now (a .differs)) (w .loop .t) (a .size) (c .before .before .before .before .loop-test .taken)
     (w .loop .inv .1) (c .before .before .if1 .taken) (c .if2 .taken)
-
-add-t : tie.Need-add-t Inv-loop μ-loop
-add-t c = omega arith
-
-loop-less : tie.Need-loop-less Inv-loop μ-loop
-loop-less c = omega arith
 
 loop-again : tie.Need-loop-again Inv-loop μ-loop
 loop-again c =
@@ -61,10 +49,10 @@ find-first-spec =
     Inv-loop
     μ-loop
     loop-holds
-    element-copy-out-if1
-    element-copy-out-if2
+    (λ c. omega arith)
+    (λ c. omega arith)
     returns
-    add-t
-    loop-less
+    (λ c. omega arith)
+    (λ c. omega arith)
     loop-again
     returns-2)

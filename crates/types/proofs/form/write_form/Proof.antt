@@ -13,17 +13,8 @@ use Rattle.types.proofs.Counted.{tableOver, byte-none, cleared-over}
 use Rattle.types.proofs.form.write_form.Statement.{statement}
 use Rattle.types.proofs.form.write_form.Tie as tie
 
-add-end : tie.Need-add-end
-add-end c = omega arith
-
 write-types-requires : tie.Need-write-types-requires
 write-types-requires c κs = (omega arith, omega arith)
-
-write-zeros-requires : tie.Need-write-zeros-requires
-write-zeros-requires c κs = search needs
-
-same-length : tie.Need-same-length
-same-length c = search needs
 
 returns : tie.Need-returns
 returns c =
@@ -40,4 +31,4 @@ returns c =
 
 pub write-form-spec : {M : Type 1} → statement M
 write-form-spec =
-    tie.close (tie.spec add-end write-types-requires write-zeros-requires same-length returns)
+    tie.close (tie.spec (λ c. omega arith) write-types-requires (λ c κs. search needs) (λ c. search needs) returns)

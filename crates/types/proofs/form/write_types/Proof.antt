@@ -19,9 +19,6 @@ abbrev μ-loop : tie.MeasureT-loop
 loop-holds : tie.Need-loop-holds Inv-loop μ-loop
 loop-holds c = (omega arith, over-start (byteOf (now (c .before .args .alive))) (now (c .before .args .lent)))
 
-byte-of-requires : tie.Need-byte-of-requires Inv-loop μ-loop
-byte-of-requires c κs = omega arith
-
 -- as long as what was lent
 long : (c : tie.At-loop Inv-loop μ-loop) → length (c .loop .lent) ≡ length (now (c .before .before .args .lent))
 long c =
@@ -30,12 +27,6 @@ long c =
 
 slice-write-lent : tie.Need-slice-write-lent Inv-loop μ-loop
 slice-write-lent c = omega (arith, long (c .before .before))
-
-add-n : tie.Need-add-n Inv-loop μ-loop
-add-n c = omega arith
-
-loop-less : tie.Need-loop-less Inv-loop μ-loop
-loop-less c = omega arith
 
 loop-again : tie.Need-loop-again Inv-loop μ-loop
 loop-again c =
@@ -62,10 +53,10 @@ write-types-spec =
     Inv-loop
     μ-loop
     loop-holds
-    byte-of-requires
+    (λ c κs. omega arith)
     slice-write-lent
-    add-n
-    loop-less
+    (λ c. omega arith)
+    (λ c. omega arith)
     loop-again
     same-length
     returns)

@@ -29,12 +29,6 @@ long c =
 slice-write-lent : tie.Need-slice-write-lent Inv-loop μ-loop
 slice-write-lent c = omega (arith, long (c .before))
 
-add-n : tie.Need-add-n Inv-loop μ-loop
-add-n c = omega arith
-
-loop-less : tie.Need-loop-less Inv-loop μ-loop
-loop-less c = omega arith
-
 loop-again : tie.Need-loop-again Inv-loop μ-loop
 loop-again c =
     let w = c .before in
@@ -61,8 +55,8 @@ write-zeros-spec =
     μ-loop
     loop-holds
     slice-write-lent
-    add-n
-    loop-less
+    (λ c. omega arith)
+    (λ c. omega arith)
     loop-again
     same-length
     returns)

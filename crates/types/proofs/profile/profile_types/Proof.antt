@@ -101,9 +101,6 @@ element-write-offers c = in-tables (c .before .before)
 add-t : tie.Need-add-t Inv-loop μ-loop
 add-t c = omega (arith, in-tables (c .before .before))
 
-loop-less : tie.Need-loop-less Inv-loop μ-loop
-loop-less c = omega arith
-
 loop-again : tie.Need-loop-again Inv-loop μ-loop
 loop-again c =
     let in-loop = c .before .before in
@@ -156,6 +153,6 @@ profile-types-spec =
     mul-offers
     element-write-offers
     add-t
-    loop-less
+    (λ c. omega arith)
     loop-again
     returns)

@@ -65,12 +65,6 @@ loop-holds c =
       has-signs = fill-start _ _ _ _ refl;
     }
 
-read-at-requires : tie.Need-read-at-requires Inv-loop μ-loop
-read-at-requires c κs = omega arith
-
-is-restriction-requires : tie.Need-is-restriction-requires Inv-loop μ-loop
-is-restriction-requires c κs = search needs
-
 -- the record is in the vocabulary, and what the test tells of it
 inside : (c : tie.In-loop Inv-loop μ-loop) → c .before .loop .i < recordLimit
 inside c =
@@ -119,9 +113,6 @@ add-count c = omega (arith, free (c .before))
 
 add-i : tie.Need-add-i Inv-loop μ-loop
 add-i c = omega (arith, inside (c .before .before .before))
-
-loop-less : tie.Need-loop-less Inv-loop μ-loop
-loop-less c = omega arith
 
 loop-again : tie.Need-loop-again Inv-loop μ-loop
 loop-again c =
@@ -176,8 +167,8 @@ list-restrictions-spec =
     Inv-loop
     μ-loop
     loop-holds
-    read-at-requires
-    is-restriction-requires
+    (λ c κs. omega arith)
+    (λ c κs. search needs)
     cast-places
     mul-places
     array-write-places
@@ -188,6 +179,6 @@ list-restrictions-spec =
     array-write-signs
     add-count
     add-i
-    loop-less
+    (λ c. omega arith)
     loop-again
     returns)

@@ -18,23 +18,11 @@ abbrev μ-loop : tie.MeasureT-loop
 loop-holds : tie.Need-loop-holds Inv-loop μ-loop
 loop-holds c = (omega arith, word-start (c .args .bits) (otherRole (now (c .args .roles)) (c .args .role)))
 
-sub-m : tie.Need-sub-m Inv-loop μ-loop
-sub-m c = omega arith
-
-mul-push-bit : tie.Need-mul-push-bit Inv-loop μ-loop
-mul-push-bit c = omega arith
-
-element-copy-out-push-bit : tie.Need-element-copy-out-push-bit Inv-loop μ-loop
-element-copy-out-push-bit c = omega arith
-
 push-bit-requires : tie.Need-push-bit-requires Inv-loop μ-loop
 push-bit-requires c κs =
     let at = c .before .before in
     let a = at .before .args in
     word-bound (a .bits) (otherRole (now (a .roles)) (a .role)) (at .loop .m) _ (at .before .pre) (at .loop .inv .1)
-
-loop-less : tie.Need-loop-less Inv-loop μ-loop
-loop-less c = omega arith
 
 loop-again : tie.Need-loop-again Inv-loop μ-loop
 loop-again c =
@@ -58,10 +46,10 @@ others-of-spec =
     Inv-loop
     μ-loop
     loop-holds
-    sub-m
-    mul-push-bit
-    element-copy-out-push-bit
+    (λ c. omega arith)
+    (λ c. omega arith)
+    (λ c. omega arith)
     push-bit-requires
-    loop-less
+    (λ c. omega arith)
     loop-again
     returns)

@@ -43,9 +43,6 @@ loop-holds c =
 inside : (c : tie.In-loop Inv-loop μ-loop) → c .before .loop .m - 1 < c .before .before .args .t2 .count
 inside c = omega (arith, c .before .loop .inv .within)
 
-sub-m : tie.Need-sub-m Inv-loop μ-loop
-sub-m c = omega arith
-
 element-copy-out-sign : tie.Need-element-copy-out-sign Inv-loop μ-loop
 element-copy-out-sign c = omega (arith, inside c, c .before .before .pre .few)
 
@@ -70,9 +67,6 @@ cast-filler c = let w = c .before .before .before in omega (arith, w .before .be
 element-copy-out-apply-sign : tie.Need-element-copy-out-apply-sign Inv-loop μ-loop
 element-copy-out-apply-sign c = let w = c .before .before .before in w .before .before .pre .place-below _ (inside w)
 
-apply-sign-requires : tie.Need-apply-sign-requires Inv-loop μ-loop
-apply-sign-requires c κs = search needs
-
 push-bit-requires : tie.Need-push-bit-requires Inv-loop μ-loop
 push-bit-requires c κs =
     let at = c .before .before .before .before .before .before in
@@ -85,18 +79,12 @@ element-copy-out-apply-sign-2 c =
     let w = c .before .before .before .before .before .before in
     w .before .before .pre .filler-below _ (inside w)
 
-apply-sign-requires-2 : tie.Need-apply-sign-requires-2 Inv-loop μ-loop
-apply-sign-requires-2 c κs = search needs
-
 push-bit-requires-2 : tie.Need-push-bit-requires-2 Inv-loop μ-loop
 push-bit-requires-2 c κs =
     let at = c .before .before .before .before .before .before .before .before .before in
     let l = at .before .args .t2 in
     word-bound (l .count) (bits (now (at .before .args .done)) (l .fillers) (l .signs)) (at .loop .m) _ (at .before .pre .few)
     (at .loop .inv .offered)
-
-loop-less : tie.Need-loop-less Inv-loop μ-loop
-loop-less c = omega arith
 
 loop-again : tie.Need-loop-again Inv-loop μ-loop
 loop-again c =
@@ -132,7 +120,7 @@ words-of-spec =
     Inv-loop
     μ-loop
     loop-holds
-    sub-m
+    (λ c. omega arith)
     element-copy-out-sign
     mul-place
     element-copy-out-place
@@ -141,11 +129,11 @@ words-of-spec =
     element-copy-out-filler
     cast-filler
     element-copy-out-apply-sign
-    apply-sign-requires
+    (λ c κs. search needs)
     push-bit-requires
     element-copy-out-apply-sign-2
-    apply-sign-requires-2
+    (λ c κs. search needs)
     push-bit-requires-2
-    loop-less
+    (λ c. omega arith)
     loop-again
     returns)

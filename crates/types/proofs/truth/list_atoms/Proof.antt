@@ -64,12 +64,6 @@ abbrev μ-loop : tie.MeasureT-loop
 loop-holds : tie.Need-loop-holds Inv-loop μ-loop
 loop-holds c = record { within = omega arith; total = sym (entries-none _); filled = fill-start _ _ _ _ refl }
 
-read-at-requires : tie.Need-read-at-requires Inv-loop μ-loop
-read-at-requires c κs = omega arith
-
-is-atom-requires : tie.Need-is-atom-requires Inv-loop μ-loop
-is-atom-requires c κs = search needs
-
 -- the record is in the vocabulary, and what the test tells of it
 inside : (c : tie.In-loop Inv-loop μ-loop) → c .before .loop .i < recordLimit
 inside c =
@@ -100,9 +94,6 @@ add-found c = omega (arith, free c)
 
 add-i : tie.Need-add-i Inv-loop μ-loop
 add-i c = omega (arith, inside (c .before .before .before))
-
-loop-less : tie.Need-loop-less Inv-loop μ-loop
-loop-less c = omega arith
 
 loop-again : tie.Need-loop-again Inv-loop μ-loop
 loop-again c =
@@ -142,13 +133,13 @@ list-atoms-spec =
     Inv-loop
     μ-loop
     loop-holds
-    read-at-requires
-    is-atom-requires
+    (λ c κs. omega arith)
+    (λ c κs. search needs)
     cast-places
     mul-places
     array-write-places
     add-found
     add-i
-    loop-less
+    (λ c. omega arith)
     loop-again
     returns)

@@ -50,9 +50,6 @@ add-found c = omega (arith, inside (c .before), c .before .before .loop .inv .1 
 add-i : tie.Need-add-i Inv-loop μ-loop
 add-i c = omega (arith, inside (c .before))
 
-loop-less : tie.Need-loop-less Inv-loop μ-loop
-loop-less c = omega arith
-
 loop-again : tie.Need-loop-again Inv-loop μ-loop
 loop-again c =
     let l = c .before .before .loop .inv .1 in (
@@ -86,6 +83,6 @@ list-statements-spec =
     element-write-statements
     add-found
     add-i
-    loop-less
+    (λ c. omega arith)
     loop-again
     returns)

@@ -86,9 +86,6 @@ element-write-done c = placed (c .before)
 add-j : tie.Need-add-j Inv-loop μ-loop
 add-j c = omega (arith, inside (c .before), c .before .before .before .pre .1 .0)
 
-loop-less : tie.Need-loop-less Inv-loop μ-loop
-loop-less c = omega arith
-
 loop-again : tie.Need-loop-again Inv-loop μ-loop
 unfolding bit
 loop-again c =
@@ -119,6 +116,6 @@ set-atoms-spec =
     shr-done
     element-write-done
     add-j
-    loop-less
+    (λ c. omega arith)
     loop-again
     returns)

@@ -47,9 +47,6 @@ returns c =
 add-j : tie.Need-add-j Inv-loop μ-loop
 add-j c = omega (arith, c .before .before .before .before .before .pre .0)
 
-loop-less : tie.Need-loop-less Inv-loop μ-loop
-loop-less c = omega arith
-
 loop-again : tie.Need-loop-again Inv-loop μ-loop
 unfolding holding
 loop-again c =
@@ -80,6 +77,6 @@ statements-hold-spec =
     element-copy-out-if1
     returns
     add-j
-    loop-less
+    (λ c. omega arith)
     loop-again
     returns-2)

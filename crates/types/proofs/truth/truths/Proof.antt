@@ -112,9 +112,6 @@ element-copy-out-first c = omega (arith, inside c)
 cast-first : tie.Need-cast-first Inv-loop μ-loop
 cast-first c = omega (arith, first-inside (c .before))
 
-mul-second : tie.Need-mul-second Inv-loop μ-loop
-mul-second c = omega arith
-
 add-second : tie.Need-add-second Inv-loop μ-loop
 add-second c = omega (arith, inside (c .before))
 
@@ -139,17 +136,11 @@ element-copy-out-apply-2 c = first-inside (c .before .before .before)
 element-copy-out-apply-3 : tie.Need-element-copy-out-apply-3 Inv-loop μ-loop
 element-copy-out-apply-3 c = second-inside (c .before .before .before .before)
 
-apply-requires : tie.Need-apply-requires Inv-loop μ-loop
-apply-requires c κs = search needs
-
 element-write-done : tie.Need-element-write-done Inv-loop μ-loop
 element-write-done c = inside (c .before .before .before .before .before .before)
 
 add-i : tie.Need-add-i Inv-loop μ-loop
 add-i c = omega (arith, inside (c .before .before .before .before .before .before))
-
-loop-less : tie.Need-loop-less Inv-loop μ-loop
-loop-less c = omega arith
 
 loop-again : tie.Need-loop-again Inv-loop μ-loop
 loop-again c =
@@ -176,7 +167,7 @@ truths-spec =
     mul-first
     element-copy-out-first
     cast-first
-    mul-second
+    (λ c. omega arith)
     add-second
     mul-second-2
     element-copy-out-second
@@ -185,9 +176,9 @@ truths-spec =
     element-copy-out-apply
     element-copy-out-apply-2
     element-copy-out-apply-3
-    apply-requires
+    (λ c κs. search needs)
     element-write-done
     add-i
-    loop-less
+    (λ c. omega arith)
     loop-again
     returns)

@@ -30,9 +30,6 @@ element-write-cover c = omega (arith, inside c)
 add-x : tie.Need-add-x Inv-loop μ-loop
 add-x c = omega (arith, inside c)
 
-loop-less : tie.Need-loop-less Inv-loop μ-loop
-loop-less c = omega arith
-
 loop-again : tie.Need-loop-again Inv-loop μ-loop
 loop-again c = fill-turn 0 typeLimit _ _ _ _ (inside c) (c .before .loop .inv) refl
 
@@ -51,6 +48,6 @@ clear-words-spec =
     mul-cover
     element-write-cover
     add-x
-    loop-less
+    (λ c. omega arith)
     loop-again
     returns)

@@ -13,38 +13,8 @@ Inv-loop cover₀ at half end x₀ cover x = Joining cover₀ at half cover x
 abbrev μ-loop : tie.MeasureT-loop
 μ-loop cover₀ at half end x₀ cover x = at + half - x
 
-add-end : tie.Need-add-end Inv-loop μ-loop
-add-end c = omega arith
-
 loop-holds : tie.Need-loop-holds Inv-loop μ-loop
 loop-holds c = join-start _ _ _
-
-add-to : tie.Need-add-to Inv-loop μ-loop
-add-to c = omega arith
-
-mul-cover : tie.Need-mul-cover Inv-loop μ-loop
-mul-cover c = omega arith
-
-element-copy-out-cover : tie.Need-element-copy-out-cover Inv-loop μ-loop
-element-copy-out-cover c = omega arith
-
-mul-cover-2 : tie.Need-mul-cover-2 Inv-loop μ-loop
-mul-cover-2 c = omega arith
-
-element-copy-out-cover-2 : tie.Need-element-copy-out-cover-2 Inv-loop μ-loop
-element-copy-out-cover-2 c = omega arith
-
-mul-cover-3 : tie.Need-mul-cover-3 Inv-loop μ-loop
-mul-cover-3 c = omega arith
-
-element-write-cover : tie.Need-element-write-cover Inv-loop μ-loop
-element-write-cover c = omega arith
-
-add-x : tie.Need-add-x Inv-loop μ-loop
-add-x c = omega arith
-
-loop-less : tie.Need-loop-less Inv-loop μ-loop
-loop-less c = omega arith
 
 loop-again : tie.Need-loop-again Inv-loop μ-loop
 loop-again c =
@@ -61,16 +31,16 @@ join-block-spec =
     (tie.spec
     Inv-loop
     μ-loop
-    add-end
+    (λ c. omega arith)
     loop-holds
-    add-to
-    mul-cover
-    element-copy-out-cover
-    mul-cover-2
-    element-copy-out-cover-2
-    mul-cover-3
-    element-write-cover
-    add-x
-    loop-less
+    (λ c. omega arith)
+    (λ c. omega arith)
+    (λ c. omega arith)
+    (λ c. omega arith)
+    (λ c. omega arith)
+    (λ c. omega arith)
+    (λ c. omega arith)
+    (λ c. omega arith)
+    (λ c. omega arith)
     loop-again
     returns)

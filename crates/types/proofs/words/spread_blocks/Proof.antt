@@ -15,9 +15,6 @@ Inv-loop cover₀ size n half at₀ cover at = Paired cover₀ n cover at
 abbrev μ-loop : tie.MeasureT-loop
 μ-loop cover₀ size n half at₀ cover at = size - at
 
-shl-half : tie.Need-shl-half Inv-loop μ-loop
-shl-half c = omega arith
-
 loop-holds : tie.Need-loop-holds Inv-loop μ-loop
 loop-holds c = pair-start _ _
 
@@ -59,7 +56,7 @@ spread-blocks-spec =
     (tie.spec
     Inv-loop
     μ-loop
-    shl-half
+    (λ c. omega arith)
     loop-holds
     join-block-requires
     mul-at

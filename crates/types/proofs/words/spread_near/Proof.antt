@@ -13,35 +13,11 @@ Inv-loop cover₀ size n half x₀ cover x = Stepped cover₀ n cover x
 abbrev μ-loop : tie.MeasureT-loop
 μ-loop cover₀ size n half x₀ cover x = size - x
 
-shl-half : tie.Need-shl-half Inv-loop μ-loop
-shl-half c = omega arith
-
 loop-holds : tie.Need-loop-holds Inv-loop μ-loop
 loop-holds c = step-start _ _ (omega arith)
 
-mul-cover : tie.Need-mul-cover Inv-loop μ-loop
-mul-cover c = omega arith
-
-element-copy-out-cover : tie.Need-element-copy-out-cover Inv-loop μ-loop
-element-copy-out-cover c = omega arith
-
 sub-cover : tie.Need-sub-cover Inv-loop μ-loop
 sub-cover c = step-back _ _ (omega arith) _ _ (c .before .before .loop .inv)
-
-mul-cover-2 : tie.Need-mul-cover-2 Inv-loop μ-loop
-mul-cover-2 c = omega arith
-
-element-copy-out-cover-2 : tie.Need-element-copy-out-cover-2 Inv-loop μ-loop
-element-copy-out-cover-2 c = omega arith
-
-mul-cover-3 : tie.Need-mul-cover-3 Inv-loop μ-loop
-mul-cover-3 c = omega arith
-
-element-write-cover : tie.Need-element-write-cover Inv-loop μ-loop
-element-write-cover c = omega arith
-
-add-x : tie.Need-add-x Inv-loop μ-loop
-add-x c = omega arith
 
 loop-less : tie.Need-loop-less Inv-loop μ-loop
 loop-less c =
@@ -62,16 +38,16 @@ spread-near-spec =
     (tie.spec
     Inv-loop
     μ-loop
-    shl-half
+    (λ c. omega arith)
     loop-holds
-    mul-cover
-    element-copy-out-cover
+    (λ c. omega arith)
+    (λ c. omega arith)
     sub-cover
-    mul-cover-2
-    element-copy-out-cover-2
-    mul-cover-3
-    element-write-cover
-    add-x
+    (λ c. omega arith)
+    (λ c. omega arith)
+    (λ c. omega arith)
+    (λ c. omega arith)
+    (λ c. omega arith)
     loop-less
     loop-again
     returns)

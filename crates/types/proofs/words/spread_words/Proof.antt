@@ -16,9 +16,6 @@ Inv-loop cover₀ bits size n₀ cover n = (n ≤ bits) × SpreadTo n (2 ^ bits)
 abbrev μ-loop : tie.MeasureT-loop
 μ-loop cover₀ bits size n₀ cover n = bits - n
 
-shl-size : tie.Need-shl-size Inv-loop μ-loop
-shl-size c = omega arith
-
 loop-holds : tie.Need-loop-holds Inv-loop μ-loop
 loop-holds c = (omega arith, spread-start _ _)
 
@@ -27,12 +24,6 @@ spread-bit-requires c κs =
     let loop = c .before .before in
     let start = loop .before .pre in
     (words-room _ atomLimit (start .0) (omega arith), (omega arith, loop .loop .inv .1 .size ∙ start .1))
-
-add-n : tie.Need-add-n Inv-loop μ-loop
-add-n c = omega arith
-
-loop-less : tie.Need-loop-less Inv-loop μ-loop
-loop-less c = omega arith
 
 loop-again : tie.Need-loop-again Inv-loop μ-loop
 loop-again c =
@@ -44,4 +35,4 @@ returns c = let l = c .before .loop .inv in spread-end _ _ _ _ (l .1) (l .0) (c 
 pub spread-words-spec : {M : Type 1} → statement M
 spread-words-spec =
     tie.close
-    (tie.spec Inv-loop μ-loop shl-size loop-holds spread-bit-requires add-n loop-less loop-again returns)
+    (tie.spec Inv-loop μ-loop (λ c. omega arith) loop-holds spread-bit-requires (λ c. omega arith) (λ c. omega arith) loop-again returns)
