@@ -4,7 +4,7 @@ use Prim.Native.Nat.{ℕ, _-_, _≤_, _<_}
 use native.Mathlib.Omega.{arith}
 use mathlib.Core.Path.{refl, ap, _∙_}
 use denote.Ref.{now}
-use Rattle.records.specs.Format.{roleCount, count}
+use Rattle.records.specs.Format.{roleLimit, roleCount, count}
 use Rattle.records.specs.declared.fields.Record.{Record}
 use Rattle.records.proofs.Accepted.{accepted-vocabulary}
 use Rattle.types.specs.Words.{others}
@@ -14,12 +14,8 @@ use Rattle.types.proofs.Turns.{Filled, fill-start, fill-turn}
 use Rattle.types.proofs.eliminate.list_masks.Statement.{statement}
 use Rattle.types.proofs.eliminate.list_masks.Tie as tie
 
--- the entries of the table
-abbrev room : ℕ
-room = 64
-
 abbrev Inv-loop : tie.InvT-loop
-Inv-loop v roles bits count masks₀ role₀ masks role = (role ≤ roleCount v) × Filled 0 room masks (others v) role
+Inv-loop v roles bits count masks₀ role₀ masks role = (role ≤ roleCount v) × Filled 0 roleLimit masks (others v) role
 
 abbrev μ-loop : tie.MeasureT-loop
 μ-loop v roles bits count masks₀ role₀ masks role = count - role
@@ -28,7 +24,7 @@ read-at-requires : tie.Need-read-at-requires Inv-loop μ-loop
 read-at-requires c κs = omega (arith, accepted-vocabulary (now (c .before .args .v)) _ (c .before .pre .0) .sized .least)
 
 loop-holds : tie.Need-loop-holds Inv-loop μ-loop
-loop-holds c = (omega arith, fill-start 0 room _ _ refl)
+loop-holds c = (omega arith, fill-start 0 roleLimit _ _ refl)
 
 others-of-requires : tie.Need-others-of-requires Inv-loop μ-loop
 others-of-requires c κs =
@@ -39,7 +35,7 @@ others-of-requires c κs =
 below : (c : tie.In-loop Inv-loop μ-loop) → c .before .loop .role < roleCount (now (c .before .before .before .before .args .v))
 below c = omega (arith, c .loop-test .taken, ap (λ (r : Record). r .b) (c .before .before .read-at .ensures))
 
-inside : (c : tie.In-loop Inv-loop μ-loop) → c .before .loop .role < room
+inside : (c : tie.In-loop Inv-loop μ-loop) → c .before .loop .role < roleLimit
 inside c =
     let start = c .before .before .before .before in
     omega (arith, below c, accepted-vocabulary (now (start .args .v)) _ (start .pre .0) .roles)
@@ -62,7 +58,7 @@ loop-again c =
     let start = c .before .before .before .before .before in
     let made = c .others-of .ensures ∙ others-done (now (start .args .v)) (now (start .args .roles)) (start .args .bits) (loop .role)
     (start .pre .1 .1 .0) (start .pre .1 .1 .1) in
-    (omega (arith, below (c .before)), fill-turn 0 room _ _ _ _ (inside (c .before)) (loop .inv .1) made)
+    (omega (arith, below (c .before)), fill-turn 0 roleLimit _ _ _ _ (inside (c .before)) (loop .inv .1) made)
 
 returns : tie.Need-returns Inv-loop μ-loop
 returns c =

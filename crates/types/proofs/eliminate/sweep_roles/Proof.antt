@@ -8,7 +8,7 @@ use mathlib.Core.Path.{_≡_, ap, _∙_}
 use lib.Pow.{pow-pos}
 use borrow.Author.Needs.{needs}
 use denote.Ref.{now}
-use Rattle.records.specs.Format.{roleCount}
+use Rattle.records.specs.Format.{roleLimit, roleCount}
 use Rattle.records.specs.declared.fields.Record.{Record}
 use Rattle.types.proofs.Rounds.{AfterRoles, roles-start, roles-skip, roles-turn, round-done}
 use Rattle.types.proofs.Rounds.{good, bits-few, reached-in, met-role, role-skipped, full-word}
@@ -45,7 +45,7 @@ below : (c : tie.In-loop Inv-loop μ-loop) → c .before .loop .role < roleCount
 below c = omega (arith, c .loop-test .taken, ap (λ (r : Record). r .b) (c .before .before .read-at .ensures))
 
 -- so of the table's
-inside : (c : tie.In-loop Inv-loop μ-loop) → c .before .loop .role < 64
+inside : (c : tie.In-loop Inv-loop μ-loop) → c .before .loop .role < roleLimit
 inside c = omega (arith, below c, good (c .before .before .before .before .pre .0) .roles)
 
 cast-mask : tie.Need-cast-mask Inv-loop μ-loop
