@@ -6,11 +6,12 @@
 --   script-unpacked   the script check's
 --   Verdicts, compare-unpacked   the comparison's
 -- Assumes nothing.
-use Prim.Native.Nat.{ℕ, _/_, _%_, _^_, _<_, max}
+use Prim.Native.Nat.{ℕ, _*_, _/_, _%_, _^_, _<_, max}
 use native.Mathlib.Omega.{arith}
 use mathlib.Core.Path.{_≡_}
 use mathlib.Core.List.{List}
 use lib.ListN.{getD}
+use Rattle.records.specs.Format.{recordSize, recordLimit}
 use Rattle.records.specs.Outcome.{Outcome, accepted, refused}
 use Rattle.records.specs.Check.{vocabularyCheck}
 use Rattle.records.specs.Call.{recordCall}
@@ -42,10 +43,10 @@ unpacked m (accepted x) h s =
 unpacked m (refused n p) h s = record { number = omega arith; value = omega arith; fits = omega arith; told = λ _ _ _. s .0 }
 
 pub check-unpacked : (v : List ℕ) → Unpacked (vocabularyCheck v)
-check-unpacked v = unpacked 512 (vocabularyCheck v) (omega arith) (vocabulary-small v)
+check-unpacked v = unpacked recordLimit (vocabularyCheck v) (omega arith) (vocabulary-small v)
 
 pub record-unpacked : (v : List ℕ) (number : ℕ) → number < 2 ^ 32 → Unpacked (recordCall v number)
-record-unpacked v number h = unpacked (max 4096 number) (recordCall v number) (omega arith) (record-small v number)
+record-unpacked v number h = unpacked (max (recordSize * recordLimit) number) (recordCall v number) (omega arith) (record-small v number)
 
 -- of a script that consists of bytes
 pub script-unpacked : (v s : List ℕ) → ((i : ℕ) → getD s i 0 < 256) → Unpacked (scriptCheck v s)

@@ -16,6 +16,7 @@ use lib.ListN.{getD, drop}
 use lib.Seq.{getD-take, getD-drop}
 use lib.Dec.{leb}
 use borrow.Author.Tests.{leb-true}
+use Rattle.records.specs.Format.{recordLimit}
 use Rattle.records.specs.Outcome.{Outcome, Check, accepted, refused, _then_}
 use Rattle.records.specs.Check.{vocabularyCheck}
 use Rattle.records.proofs.Accepted.{All}
@@ -63,7 +64,7 @@ unfolding scriptCheck
 script-small v s =
     let m = mostPlace s in
     let paper = writtenOut v (queryOf s) in
-    after-count m 512 (vocabularyCheck v) _ (omega arith) (vocabulary-small v)
+    after-count m recordLimit (vocabularyCheck v) _ (omega arith) (vocabulary-small v)
     (then-small m (formCheck v s) _ (form-near m v s (omega arith) (omega arith) (omega arith))
     (λ e. let f = formed v s e in
     let few : entries s ≤ m = omega (arith, f .sized .most) in

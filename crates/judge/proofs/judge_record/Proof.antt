@@ -5,7 +5,7 @@ use native.Mathlib.Omega.{arith}
 use mathlib.Core.Path.{_≡_, _∙_, ap, sym, subst}
 use denote.Ref.{now}
 use borrow.Author.Needs.{needs}
-use Rattle.records.specs.Format.{recordLimit}
+use Rattle.records.specs.Format.{recordSize, recordLimit}
 use Rattle.records.specs.Answers.{located}
 use Rattle.records.specs.declared.answers.Located.{Located}
 use Rattle.records.proofs.Bounds.{Small, record-small}
@@ -14,7 +14,7 @@ use Rattle.judge.proofs.judge_record.Tie as tie
 
 -- the answer fits its bits
 small : (c : tie.After-find-record) (o : Located) → c .find-record .result ≡ o
-    → Small (max (8 * recordLimit) (c .before .before .args .number)) (located o)
+    → Small (max (recordSize * recordLimit) (c .before .before .args .number)) (located o)
 small c o e =
     let a = c .before .before .args in
     subst (Small _) (sym (c .find-record .ensures) ∙ ap located e) (record-small (now (a .vocabulary)) (a .number))
