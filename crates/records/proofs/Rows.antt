@@ -16,7 +16,7 @@ use borrow.Author.Tests.{eq-eqb, ne-eqb, eqb-true}
 use Rattle.records.specs.Outcome.{Check, accepted, refused, pass, _then_, require}
 use Rattle.records.specs.Format.{recordAt}
 use Rattle.records.specs.Kinds.{sortsOf}
-use Rattle.records.specs.Check.{fits, row, clear, rowFits, rowsCheck, fieldFits, noFault, firstOf, linkFits, headCheck}
+use Rattle.records.specs.Check.{fits, row, clear, rowFits, rowsCheck, fieldFits, allFit, noFault, firstOf, linkFits, headCheck}
 use Rattle.records.specs.declared.fields.Record.{Record}
 use Rattle.records.specs.declared.kinds.Sort.{Sort}
 use Rattle.records.specs.declared.kinds.Sort.the-variants.{Spare, Term, Role, Label, Link}
@@ -125,16 +125,18 @@ module _ (v : List ℕ) (i : ℕ) (s : Sorts) (r : Record) where
       ∙ rw (free-row 4 (omega arith), free-row 5 (omega arith), free-row 6 (omega arith), free-row 7 (omega arith))
 
 -- Where all fit, or not all, and the smallest row is of the first that applies.
-module _ (v : List ℕ) (i : ℕ) (s : Sorts) (r : Record) (a b c : Bool) (fa : a ≡ fieldFits v i (s .a) (r .a))
-    (fb : b ≡ fieldFits v i (s .b) (r .b)) (fc : c ≡ fieldFits v i (s .next) (r .next)) where
-  abbrev said : Check
-  said = require (eqb (firstOf s a b c) noFault) (firstOf s a b c) i
+module _ (v : List ℕ) (i : ℕ) (s : Sorts) (r : Record) where
+  abbrev fitA : Bool
+  fitA = fieldFits v i (s .a) (r .a)
 
-  told : said ≡ rowsCheck v i s r
-  told = rw (fa, fb, fc) (rows-first v i s r)
+  abbrev fitB : Bool
+  fitB = fieldFits v i (s .b) (r .b)
 
-  pub rows-fit : (o : Bool) → o ≡ (a && (b && c)) → o ≡ true → pass ≡ rowsCheck v i s r
-  rows-fit o e t = at a b c (sym e ∙ t) ∙ told
+  abbrev fitNext : Bool
+  fitNext = fieldFits v i (s .next) (r .next)
+
+  pub rows-fit : (o : Bool) → o ≡ allFit v i s r → o ≡ true → pass ≡ rowsCheck v i s r
+  rows-fit o e t = at fitA fitB fitNext (sym e ∙ t) ∙ rows-first v i s r
     where
       at : (a b c : Bool) → (a && (b && c)) ≡ true → pass ≡ require (eqb (firstOf s a b c) noFault) (firstOf s a b c) i
       at true true true e = refl
@@ -142,8 +144,9 @@ module _ (v : List ℕ) (i : ℕ) (s : Sorts) (r : Record) (a b c : Bool) (fa : 
       at true false c e = absurd (clash (cc))
       at false b c e = absurd (clash (cc))
 
-  pub rows-unfit : (o : Bool) (m : ℕ) → o ≡ (a && (b && c)) → o ≡ false → m ≡ firstOf s a b c → refused m i ≡ rowsCheck v i s r
-  rows-unfit o m e t q = rw q (at a b c (sym e ∙ t)) ∙ told
+  pub rows-unfit : (o a b c : Bool) (m : ℕ) → o ≡ allFit v i s r → o ≡ false → a ≡ fitA → b ≡ fitB → c ≡ fitNext
+      → m ≡ firstOf s a b c → refused m i ≡ rowsCheck v i s r
+  rows-unfit o a b c m e t fa fb fc q = rw (q, fa, fb, fc) (at fitA fitB fitNext (sym e ∙ t) ∙ rows-first v i s r)
     where
       under : (n : ℕ) → n < noFault → refused n i ≡ require (eqb n noFault) n i
       under n h = rw (ne-eqb n noFault (λ z. omega arith))

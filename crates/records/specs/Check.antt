@@ -96,6 +96,9 @@ fieldFits v i sort x = eqb (row sort) 8 || fits v i sort x
 abbrev pub noFault : ℕ
 noFault = 255
 
+abbrev pub allFit : List ℕ → ℕ → Sorts → Record → Bool
+allFit v i s r = fieldFits v i (s .a) (r .a) && (fieldFits v i (s .b) (r .b) && fieldFits v i (s .next) (r .next))
+
 abbrev pub firstOf : Sorts → Bool → Bool → Bool → ℕ
 firstOf s a b next = min (cond a noFault (row (s .a))) (min (cond b noFault (row (s .b))) (cond next noFault (row (s .next))))
 

@@ -19,7 +19,7 @@ ghost use Rattle.records.specs.Answers.{checked, counted};
 ghost use Rattle.records.specs.Format.{recordSize, recordAt, recordOf, roleCount, count};
 ghost use Rattle.records.specs.Kinds.{sortsOf};
 ghost use Rattle.records.specs.Check.{lengthFits, lengthCheck, headerFits, headerCheck, kindFits, kindCheck, named};
-ghost use Rattle.records.specs.Check.{labelled, termFits, linkFits, fieldFits, row};
+ghost use Rattle.records.specs.Check.{labelled, termFits, linkFits, fieldFits, allFit, row};
 ghost use Rattle.records.specs.Check.{noFault, firstOf, rowsCheck, fieldsCheck, recordCheck, linkCheck};
 ghost use Rattle.records.specs.Check.{linksCheck, recordsCheck, vocabularyCheck, AtRecord};
 
@@ -203,32 +203,37 @@ fn first_fault(sorts: Sorts, a: bool, b: bool, next: bool) -> u8
     smaller(fault_unless(a, row_of(first)), rest)
 }
 
-fn all_fit(a: bool, b: bool, next: bool) -> bool
-    ensures { λ r. ⌜ r ≡ (a && (b && next)) ⌝ }
+// Whether all three fields of record i fit.
+fn fields_fit(v: &[u8], i: usize, roles: u16, fields: Record, sorts: Sorts) -> bool
+    requires { ⌜ AtRecord (now v) i roles ⌝ }
+    ensures { λ r. ⌜ r ≡ allFit (now (v .entry)) i sorts fields ⌝ }
 {
-    if !a {
+    let first = sorts.a;
+    let second = sorts.b;
+    let third = sorts.next;
+    if !field_fits(v, i, roles, first, fields.a) {
         return false;
     }
-    if !b {
+    if !field_fits(v, i, roles, second, fields.b) {
         return false;
     }
-    next
+    field_fits(v, i, roles, third, fields.next)
 }
 
-// Rows 4 to 7 at a record whose fields hold these sorts.
+// Rows 4 to 7 at a record whose fields hold these sorts. Only where not all fit, each is asked again for its row.
 fn check_sorts(v: &[u8], i: usize, roles: u16, fields: Record, sorts: Sorts) -> Checked
     requires { ⌜ AtRecord (now v) i roles ⌝ }
     ensures { λ r. ⌜ checked r ≡ rowsCheck (now (v .entry)) i sorts fields ⌝ }
 {
+    if fields_fit(v, i, roles, fields, sorts) {
+        return Checked::Fine;
+    }
     let first = sorts.a;
     let second = sorts.b;
     let third = sorts.next;
     let a = field_fits(v, i, roles, first, fields.a);
     let b = field_fits(v, i, roles, second, fields.b);
     let next = field_fits(v, i, roles, third, fields.next);
-    if all_fit(a, b, next) {
-        return Checked::Fine;
-    }
     let number = first_fault(sorts, a, b, next);
     Checked::Refused { number, place: i }
 }

@@ -9,40 +9,28 @@ use Rattle.records.proofs.check.check_sorts.Tie as tie
 returns : tie.Need-returns
 returns c =
     let all = c .before in
-    let next = all .before in
-    let b = next .before in
-    let a = b .before in
-    let args = a .before .before .args in
-    rows-fit (now (args .v)) (args .i) (args .sorts) (args .fields) _ _ _ (a .field-fits .ensures) (b .field-fits2 .ensures)
-    (next .field-fits3 .ensures)
-    _
-    (all .all-fit .ensures)
-    (c .if1 .taken)
+    let args = all .before .before .args in
+    rows-fit (now (args .v)) (args .i) (args .sorts) (args .fields) _ (all .fields-fit .ensures) (c .if1 .taken)
 
 returns-2 : tie.Need-returns-2
 returns-2 c =
-    let test = c .before in
-    let all = test .before in
-    let next = all .before in
+    let next = c .before in
     let b = next .before in
     let a = b .before in
-    let args = a .before .before .args in
-    rows-unfit (now (args .v)) (args .i) (args .sorts) (args .fields) _ _ _ (a .field-fits .ensures) (b .field-fits2 .ensures)
-    (next .field-fits3 .ensures)
-    _
-    _
-    (all .all-fit .ensures)
-    (test .if1 .left)
-    (c .first-fault .ensures)
+    let test = a .before in
+    let all = test .before in
+    let args = all .before .before .args in
+    rows-unfit (now (args .v)) (args .i) (args .sorts) (args .fields) _ _ _ _ _ (all .fields-fit .ensures) (test .if1 .left)
+    (a .field-fits .ensures) (b .field-fits2 .ensures) (next .field-fits3 .ensures) (c .first-fault .ensures)
 
 pub check-sorts-spec : {M : Type 1} → statement M
 check-sorts-spec =
     tie.close
     (tie.spec
     (λ c κs. search needs)
-    (λ c κs. search needs)
-    (λ c κs. search needs)
-    (λ c κs. search needs)
     returns
+    (λ c κs. search needs)
+    (λ c κs. search needs)
+    (λ c κs. search needs)
     (λ c κs. search needs)
     returns-2)
