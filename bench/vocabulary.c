@@ -1,8 +1,8 @@
 /* Benchmark of the vocabulary check: the library beside plain C.
  *
  *   vocabulary                            compare the answers, then print a table of times
- *   vocabulary --calls library|plain N    only call the check N times on the 511 names,
- *                                         for counting instructions
+ *   vocabulary --calls library|plain N INPUT    only call the check N times on the input of this number, for
+ *                                               counting instructions
  *
  * Exit status: 0 done, 1 the answers differ, 2 bad usage. */
 #include "judge.h"
@@ -268,12 +268,14 @@ int main(int argc, char **argv)
         return benchmark(inputs);
     if (argc == 2 && strcmp(argv[1], "--agree") == 0)
         return agree(inputs) ? 0 : 1;
-    if (argc == 4 && strcmp(argv[1], "--calls") == 0) {
-        for (int v = 0; v < VERSIONS; v++) {
+    if (argc == 5 && strcmp(argv[1], "--calls") == 0) {
+        unsigned long at = strtoul(argv[4], NULL, 10);
+
+        for (int v = 0; v < VERSIONS && at < INPUTS; v++) {
             if (strcmp(argv[2], versions[v].name) == 0)
-                return call_only(&inputs[0], v, argv[3]);
+                return call_only(&inputs[at], v, argv[3]);
         }
     }
-    fprintf(stderr, "usage: vocabulary [--agree | --calls library|plain N]\n");
+    fprintf(stderr, "usage: vocabulary [--agree | --calls library|plain N INPUT]\n");
     return 2;
 }
