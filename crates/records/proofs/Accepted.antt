@@ -28,7 +28,7 @@ use Rattle.records.specs.Check.{linksCheck, IsWellFormed, recordsCheck, 
 use Rattle.records.specs.declared.fields.Record.{Record}
 use Rattle.records.specs.declared.kinds.Sort.{Sort}
 use Rattle.records.specs.declared.kinds.Sort.the-variants.{Spare, Term, Role, Label, Link}
-use Rattle.records.specs.declared.kinds.Sorts.{Sorts}
+use Rattle.records.specs.Kinds.{Sorts}
 use Rattle.records.proofs.Passed.{clash, Sized, length-passed, both-left, both-right, require-passed, then-passed}
 use Rattle.records.proofs.Passed.{turn-at, any-at}
 use Rattle.records.proofs.Following.{Ahead, Onward}

@@ -20,7 +20,7 @@ use Rattle.records.specs.Check.{fits, row, clear, rowFits, rowsCheck, fi
 use Rattle.records.specs.declared.fields.Record.{Record}
 use Rattle.records.specs.declared.kinds.Sort.{Sort}
 use Rattle.records.specs.declared.kinds.Sort.the-variants.{Spare, Term, Role, Label, Link}
-use Rattle.records.specs.declared.kinds.Sorts.{Sorts}
+use Rattle.records.specs.Kinds.{Sorts}
 use Rattle.records.proofs.Passed.{clash, require-passed}
 
 then-pass : (a : Check) → (a then pass) ≡ a

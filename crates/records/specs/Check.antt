@@ -11,7 +11,7 @@ use Rattle.records.specs.Kinds.{isTerm, isStatement, sortsOf, kinds}
 use Rattle.records.specs.declared.fields.Record.{Record}
 use Rattle.records.specs.declared.kinds.Sort.{Sort}
 use Rattle.records.specs.declared.kinds.Sort.the-variants.{Spare, Term, Role, Label, Link}
-use Rattle.records.specs.declared.kinds.Sorts.{Sorts}
+use Rattle.records.specs.Kinds.{Sorts}
 
 -- Row 1: "under 8, over 4,096 or no multiple of 8"; "At most 512 records, header included."
 abbrev pub lengthFits : List ℕ → Bool

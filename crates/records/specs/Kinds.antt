@@ -6,7 +6,6 @@ use lib.ListN.{getD}
 use Rattle.records.specs.declared.fields.Record.{Record}
 use Rattle.records.specs.declared.kinds.Sort.{Sort}
 use Rattle.records.specs.declared.kinds.Sort.the-variants.{Spare, Term, Role, Label, Link}
-use Rattle.records.specs.declared.kinds.Sorts.{Sorts}
 
 -- What a record says. Operands, roles and fillers are numbers; "Each name record is a name of its own; labels are for
 -- people", so a name has nothing with it.
@@ -17,6 +16,11 @@ pub data Construct : Type 0 where
 
 -- What the fields A, B and next hold: nothing ("Fields not mentioned are zero"), a term number, a role number, a name's label,
 -- or the number of the chain's next statement.
+pub record Sorts : Type 0 where
+  pub a : Sort
+  pub b : Sort
+  pub next : Sort
+
 abbrev pub holds : Sort → Sort → Sort → Sorts
 holds a b next = record { a = a; b = b; next = next }
 

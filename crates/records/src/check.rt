@@ -6,8 +6,6 @@ use crate::answers::pass_if;
 use crate::fields::Record;
 use crate::fields::read_at;
 use crate::kinds::Sort;
-use crate::kinds::Sorts;
-use crate::kinds::held;
 use crate::kinds::is_statement;
 use crate::kinds::is_term;
 ghost use mathlib.Core.Path.{_≡_};
@@ -17,6 +15,7 @@ ghost use lib.ListN.{length};
 ghost use Rattle.records.specs.Outcome.{inTurn};
 ghost use Rattle.records.specs.Answers.{checked, counted};
 ghost use Rattle.records.specs.Format.{recordSize, recordAt, recordOf, roleCount, count};
+ghost use Rattle.records.specs.Kinds as kinds;
 ghost use Rattle.records.specs.Kinds.{sortsOf};
 ghost use Rattle.records.specs.Check.{lengthFits, lengthCheck, headerFits, headerCheck, kindFits, kindCheck, named};
 ghost use Rattle.records.specs.Check.{labelled, termFits, linkFits, fieldFits, allFit, row};
@@ -189,52 +188,43 @@ fn smaller(x: u8, y: u8) -> u8
     if x < y { x } else { y }
 }
 
-// The first row that refuses one of the three fields, where it is told which fit.
-fn first_fault(sorts: Sorts, a: bool, b: bool, next: bool) -> u8
-    ensures { λ r. ⌜ r ≡ firstOf sorts a b next ⌝ }
+// The first row that refuses one of three fields of these sorts, where it is told which fit.
+fn first_fault(a: Sort, b: Sort, next: Sort, first: bool, second: bool, third: bool) -> u8
+    ensures { λ r. ⌜ r ≡ firstOf (kinds.holds a b next) first second third ⌝ }
 {
-    let first = sorts.a;
-    let second = sorts.b;
-    let third = sorts.next;
     let rest = smaller(
-        fault_unless(b, row_of(second)),
-        fault_unless(next, row_of(third)),
+        fault_unless(second, row_of(b)),
+        fault_unless(third, row_of(next)),
     );
-    smaller(fault_unless(a, row_of(first)), rest)
+    smaller(fault_unless(first, row_of(a)), rest)
 }
 
-// Whether all three fields of record i fit.
-fn fields_fit(v: &[u8], i: usize, roles: u16, fields: Record, sorts: Sorts) -> bool
+// Whether all three fields f of record i fit these sorts.
+fn fields_fit(v: &[u8], i: usize, roles: u16, f: Record, a: Sort, b: Sort, next: Sort) -> bool
     requires { ⌜ AtRecord (now v) i roles ⌝ }
-    ensures { λ r. ⌜ r ≡ allFit (now (v .entry)) i sorts fields ⌝ }
+    ensures { λ r. ⌜ r ≡ allFit (now (v .entry)) i (kinds.holds a b next) f ⌝ }
 {
-    let first = sorts.a;
-    let second = sorts.b;
-    let third = sorts.next;
-    if !field_fits(v, i, roles, first, fields.a) {
+    if !field_fits(v, i, roles, a, f.a) {
         return false;
     }
-    if !field_fits(v, i, roles, second, fields.b) {
+    if !field_fits(v, i, roles, b, f.b) {
         return false;
     }
-    field_fits(v, i, roles, third, fields.next)
+    field_fits(v, i, roles, next, f.next)
 }
 
-// Rows 4 to 7 at a record whose fields hold these sorts. Only where not all fit, each is asked again for its row.
-fn check_sorts(v: &[u8], i: usize, roles: u16, fields: Record, sorts: Sorts) -> Checked
+// Rows 4 to 7 at a record whose fields f hold these sorts. Only where not all fit, each is asked again for its row.
+fn check_sorts(v: &[u8], i: usize, roles: u16, f: Record, a: Sort, b: Sort, next: Sort) -> Checked
     requires { ⌜ AtRecord (now v) i roles ⌝ }
-    ensures { λ r. ⌜ checked r ≡ rowsCheck (now (v .entry)) i sorts fields ⌝ }
+    ensures { λ r. ⌜ checked r ≡ rowsCheck (now (v .entry)) i (kinds.holds a b next) f ⌝ }
 {
-    if fields_fit(v, i, roles, fields, sorts) {
+    if fields_fit(v, i, roles, f, a, b, next) {
         return Checked::Fine;
     }
-    let first = sorts.a;
-    let second = sorts.b;
-    let third = sorts.next;
-    let a = field_fits(v, i, roles, first, fields.a);
-    let b = field_fits(v, i, roles, second, fields.b);
-    let next = field_fits(v, i, roles, third, fields.next);
-    let number = first_fault(sorts, a, b, next);
+    let a_fits = field_fits(v, i, roles, a, f.a);
+    let b_fits = field_fits(v, i, roles, b, f.b);
+    let next_fits = field_fits(v, i, roles, next, f.next);
+    let number = first_fault(a, b, next, a_fits, b_fits, next_fits);
     Checked::Refused { number, place: i }
 }
 
@@ -246,12 +236,12 @@ fn check_rows(v: &[u8], i: usize, roles: u16, f: Record) -> Checked
 {
     let kind = f.kind;
     match kind {
-        3 => check_sorts(v, i, roles, f, held(Sort::Label, Sort::Spare, Sort::Spare)),
-        4 => check_sorts(v, i, roles, f, held(Sort::Term, Sort::Spare, Sort::Spare)),
-        5..=6 => check_sorts(v, i, roles, f, held(Sort::Term, Sort::Term, Sort::Spare)),
-        7..=8 => check_sorts(v, i, roles, f, held(Sort::Role, Sort::Term, Sort::Spare)),
-        9 => check_sorts(v, i, roles, f, held(Sort::Term, Sort::Term, Sort::Link)),
-        _ => check_sorts(v, i, roles, f, held(Sort::Spare, Sort::Spare, Sort::Spare)),
+        3 => check_sorts(v, i, roles, f, Sort::Label, Sort::Spare, Sort::Spare),
+        4 => check_sorts(v, i, roles, f, Sort::Term, Sort::Spare, Sort::Spare),
+        5..=6 => check_sorts(v, i, roles, f, Sort::Term, Sort::Term, Sort::Spare),
+        7..=8 => check_sorts(v, i, roles, f, Sort::Role, Sort::Term, Sort::Spare),
+        9 => check_sorts(v, i, roles, f, Sort::Term, Sort::Term, Sort::Link),
+        _ => check_sorts(v, i, roles, f, Sort::Spare, Sort::Spare, Sort::Spare),
     }
 }
 

@@ -1,7 +1,6 @@
 // Which kinds of records are terms, atoms, restrictions and statements, and what a field may hold.
 ghost use mathlib.Core.Path.{_≡_};
 ghost use Rattle.records.specs.Kinds.{isTerm, isAtom, isRestriction, isStatement};
-ghost use Rattle.records.specs.Kinds as kinds;
 
 // What a field holds: nothing, a term number, a role number, a name's label, or the number of the chain's next statement.
 pub enum Sort {
@@ -15,20 +14,6 @@ pub enum Sort {
 impl Sort {
     // No row refuses the field.
     pub const NO_FAULT: u8 = 255;
-}
-
-// What the fields A, B and next hold.
-pub struct Sorts {
-    pub a: Sort,
-    pub b: Sort,
-    pub next: Sort,
-}
-
-// The three in one.
-pub fn held(a: Sort, b: Sort, next: Sort) -> Sorts
-    ensures { λ r. ⌜ r ≡ kinds.holds a b next ⌝ }
-{
-    Sorts { a, b, next }
 }
 
 pub fn is_term(kind: u8) -> bool

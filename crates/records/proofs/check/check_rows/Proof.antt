@@ -14,58 +14,52 @@ use Rattle.records.proofs.check.check_rows.Tie as tie
 returns : tie.Need-returns
 unfolding kindOf
 returns c =
-    let a = c .before .before .before .before .args in
+    let a = c .before .before .before .args in
     rows-at (now (a .v)) (a .i) (a .f) _ _ (c .check-sorts .ensures)
-    (c .before .held .ensures ∙ ap sortsOf (sym (c .before .before .match .keys1)))
+    (ap sortsOf (sym (c .before .match .keys1)))
 
 returns-2 : tie.Need-returns-2
 unfolding kindOf
 returns-2 c =
-    let a = c .before .before .before .before .args in
+    let a = c .before .before .before .args in
     rows-at (now (a .v)) (a .i) (a .f) _ _ (c .check-sorts2 .ensures)
-    (c .before .held2 .ensures ∙ ap sortsOf (sym (c .before .before .match .keys2)))
+    (ap sortsOf (sym (c .before .match .keys2)))
 
 returns-3 : tie.Need-returns-3
 unfolding kindOf
 returns-3 c =
-    let a = c .before .before .before .before .args in
+    let a = c .before .before .before .args in
     rows-at (now (a .v)) (a .i) (a .f) _ _ (c .check-sorts3 .ensures)
-    (c .before .held3 .ensures ∙ ap sortsOf (sym (c .before .before .match .keys3)))
+    (ap sortsOf (sym (c .before .match .keys3)))
 
 returns-4 : tie.Need-returns-4
 unfolding kindOf
 returns-4 c =
-    let a = c .before .before .before .before .before .before .args in
+    let a = c .before .before .before .before .before .args in
     rows-at (now (a .v)) (a .i) (a .f) _ _ (c .check-sorts4 .ensures)
-    (c .before .held4 .ensures ∙ between (λ k. junctionFields ≡ sortsOf k) 2 5 (refl, (refl, tt)) (a .f .kind) (omega arith) (omega arith))
+    (between (λ k. junctionFields ≡ sortsOf k) 2 5 (refl, (refl, tt)) (a .f .kind) (omega arith) (omega arith))
 
 returns-5 : tie.Need-returns-5
 unfolding kindOf
 returns-5 c =
-    let a = c .before .before .before .before .before .before .before .args in
+    let a = c .before .before .before .before .before .before .args in
     rows-at (now (a .v)) (a .i) (a .f) _ _ (c .check-sorts5 .ensures)
-    (c .before .held5 .ensures ∙ between (λ k. restrictionFields ≡ sortsOf k) 2 7 (refl, (refl, tt)) (a .f .kind) (omega arith) (omega arith))
+    (between (λ k. restrictionFields ≡ sortsOf k) 2 7 (refl, (refl, tt)) (a .f .kind) (omega arith) (omega arith))
 
 returns-6 : tie.Need-returns-6
 unfolding kindOf
 returns-6 c =
-    let a = c .before .before .before .before .before .args in
+    let a = c .before .before .before .before .args in
     rows-at (now (a .v)) (a .i) (a .f) _ _ (c .check-sorts6 .ensures)
-    (c .before .held6 .ensures ∙ ⊎-elim
+    (⊎-elim
     (λ w. between (λ k. constantFields ≡ sortsOf k) 3 0 (refl, (refl, (refl, tt))) (a .f .kind) (omega arith) (omega arith))
     (λ w. sym (ap (λ (k : Kind). k .fields) (kind-past (a .f .kind) (omega arith))))
-    (c .before .before .if1 .came))
+    (c .before .if1 .came))
 
 pub check-rows-spec : {M : Type 1} → statement M
 check-rows-spec =
     tie.close
     (tie.spec
-    (λ c κs. search needs)
-    (λ c κs. search needs)
-    (λ c κs. search needs)
-    (λ c κs. search needs)
-    (λ c κs. search needs)
-    (λ c κs. search needs)
     (λ c κs. search needs)
     (λ c κs. search needs)
     (λ c κs. search needs)
