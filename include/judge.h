@@ -51,7 +51,7 @@ enum {
 };
 
 /* Stack that is enough for any call. Measured (tests/stack.c; the kit's compiler, x86-64): the vocabulary check needs
- * 128 bytes, the record call 8, the comparison 46,208, the script check 2,464, and at most 3,100 more where the
+ * 104 bytes, the record call 8, the comparison 46,184, the script check 2,440, and at most 3,100 more where the
  * program binds memset or memcpy only at the first call. */
 enum { JUDGE_STACK_BYTES = 131072 };
 
