@@ -23,7 +23,8 @@ use Rattle.records.specs.Kinds.{universal, inclusion, constructOf, holds
 use Rattle.records.specs.Kinds.{Class, Silent, Connective, Name, Restriction, Statement, Kind, noKind, kinds, kindOf}
 use Rattle.records.specs.Kinds.{sortsOf, isTerm, isStatement}
 use Rattle.records.specs.Check.{headCheck, lengthCheck, headerFits, headerCheck, kindCheck, named, labelled, termFits}
-use Rattle.records.specs.Check.{linkFits, fieldFits, rowsCheck, recordCheck, nextFits, linkCheck}
+use Rattle.records.specs.Check.{linkFits, rowsCheck, recordCheck, nextFits, linkCheck}
+use Rattle.records.specs.Fields.{fieldFits}
 use Rattle.records.specs.Check.{linksCheck, IsWellFormed, recordsCheck, vocabularyCheck}
 use Rattle.records.specs.declared.fields.Record.{Record}
 use Rattle.records.specs.declared.kinds.Sort.{Sort}

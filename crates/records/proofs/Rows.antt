@@ -16,7 +16,8 @@ use borrow.Author.Tests.{eq-eqb, ne-eqb, eqb-true}
 use Rattle.records.specs.Outcome.{Check, accepted, refused, pass, _then_, require}
 use Rattle.records.specs.Format.{recordAt}
 use Rattle.records.specs.Kinds.{sortsOf}
-use Rattle.records.specs.Check.{fits, row, clear, rowFits, rowsCheck, fieldFits, allFit, noFault, firstOf, linkFits, headCheck}
+use Rattle.records.specs.Check.{fits, row, clear, rowFits, rowsCheck, linkFits, headCheck}
+use Rattle.records.specs.Fields.{fieldFits, allFit, noFault, firstOf}
 use Rattle.records.specs.declared.fields.Record.{Record}
 use Rattle.records.specs.declared.kinds.Sort.{Sort}
 use Rattle.records.specs.declared.kinds.Sort.the-variants.{Spare, Term, Role, Label, Link}

@@ -1,17 +1,16 @@
 -- Rows 1 to 8 of the table of refusals, and the vocabulary check.
-use Prim.Native.Nat.{ℕ, zero, suc, _-_, _*_, _%_, _≤_, min}
+use Prim.Native.Nat.{ℕ, zero, suc, _-_, _*_, _%_}
 use mathlib.Core.Path.{_≡_}
-use mathlib.Core.Bool.{Bool, false, cond, not, _&&_, _||_}
+use mathlib.Core.Bool.{Bool, false, not, _&&_, _||_}
 use mathlib.Core.List.{List}
 use lib.ListN.{length}
 use lib.Dec.{ltb, leb, eqb}
 use Rattle.records.specs.Outcome.{Outcome, Check, accepted, pass, _then_, require, inTurn}
 use Rattle.records.specs.Format.{recordSize, recordLimit, roleLimit, recordAt, count, firstStatement, roleCount}
-use Rattle.records.specs.Kinds.{isTerm, isStatement, sortsOf, kinds}
+use Rattle.records.specs.Kinds.{Sorts, isTerm, isStatement, sortsOf, kinds}
 use Rattle.records.specs.declared.fields.Record.{Record}
 use Rattle.records.specs.declared.kinds.Sort.{Sort}
 use Rattle.records.specs.declared.kinds.Sort.the-variants.{Spare, Term, Role, Label, Link}
-use Rattle.records.specs.Kinds.{Sorts}
 
 -- Row 1: "under 8, over 4,096 or no multiple of 8"; "At most 512 records, header included."
 abbrev pub lengthFits : List ℕ → Bool
@@ -87,25 +86,6 @@ rowCheck v i n s r = require (rowFits v i n s r) n i
 -- Rows 4 to 7, at one record
 abbrev pub rowsCheck : List ℕ → ℕ → Sorts → Record → Check
 rowsCheck v i s r = rowCheck v i 4 s r then rowCheck v i 5 s r then rowCheck v i 6 s r then rowCheck v i 7 s r
-
--- Rows 4 to 7 have nothing against x in a field of record i that holds this sort. Row 8 comes after all records.
-abbrev pub fieldFits : List ℕ → ℕ → Sort → ℕ → Bool
-fieldFits v i sort x = eqb (row sort) 8 || fits v i sort x
-
--- What the code computes with: of the fields that do not fit, the smallest row is the first that applies (proofs/Rows.antt).
-abbrev pub noFault : ℕ
-noFault = 255
-
-abbrev pub allFit : List ℕ → ℕ → Sorts → Record → Bool
-allFit v i s r = fieldFits v i (s .a) (r .a) && (fieldFits v i (s .b) (r .b) && fieldFits v i (s .next) (r .next))
-
-abbrev pub firstOf : Sorts → Bool → Bool → Bool → ℕ
-firstOf s a b next = min (cond a noFault (row (s .a))) (min (cond b noFault (row (s .b))) (cond next noFault (row (s .next))))
-
--- What the check of record i may use: the records before it can be read, and how many roles there are.
-pub record AtRecord (v : List ℕ) (i roles : ℕ) : Type 0 where
-  pub earlier : recordSize * i ≤ length v
-  pub counted : roles ≡ roleCount v
 
 -- Rows 3 to 7
 abbrev pub fieldsCheck : List ℕ → ℕ → Record → Check

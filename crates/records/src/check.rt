@@ -18,9 +18,9 @@ ghost use Rattle.records.specs.Format.{recordSize, recordAt, recordOf, r
 ghost use Rattle.records.specs.Kinds as kinds;
 ghost use Rattle.records.specs.Kinds.{sortsOf};
 ghost use Rattle.records.specs.Check.{lengthFits, lengthCheck, headerFits, headerCheck, kindFits, kindCheck, named};
-ghost use Rattle.records.specs.Check.{labelled, termFits, linkFits, fieldFits, allFit, row};
-ghost use Rattle.records.specs.Check.{noFault, firstOf, rowsCheck, fieldsCheck, recordCheck, linkCheck};
-ghost use Rattle.records.specs.Check.{linksCheck, recordsCheck, vocabularyCheck, AtRecord};
+ghost use Rattle.records.specs.Check.{labelled, termFits, linkFits, row, rowsCheck, fieldsCheck, recordCheck};
+ghost use Rattle.records.specs.Check.{linkCheck, linksCheck, recordsCheck, vocabularyCheck};
+ghost use Rattle.records.specs.Fields.{fieldFits, allFit, noFault, firstOf, AtRecord};
 
 // Row 1: the length.
 fn length_fits(v: &[u8]) -> bool
