@@ -5,6 +5,7 @@ use mathlib.Core.Bool.{Bool, false, not, _&&_, _||_}
 use mathlib.Core.List.{List}
 use lib.ListN.{length}
 use lib.Dec.{ltb, leb, eqb}
+use Rattle.records.specs.Finite.{anyBelow}
 use Rattle.records.specs.Outcome.{Outcome, Check, accepted, pass, _then_, require, inTurn}
 use Rattle.records.specs.Format.{recordSize, recordLimit, roleLimit, recordAt, count, firstStatement, roleCount}
 use Rattle.records.specs.Kinds.{Sorts, isTerm, isStatement, sortsOf, kinds}
@@ -34,11 +35,6 @@ kindFits r = leb 1 (r .kind) && (ltb (r .kind) (length kinds) && eqb (r .second)
 
 abbrev pub kindCheck : Record → ℕ → Check
 kindCheck r i = require (kindFits r) 3 i
-
--- Whether a test holds at a number below n.
-unfoldable pub anyBelow : (ℕ → Bool) → ℕ → Bool
-anyBelow test zero = false
-anyBelow test (suc n) = anyBelow test n || test n
 
 -- record j is a name with this label
 abbrev pub named : List ℕ → ℕ → ℕ → Bool

@@ -14,13 +14,13 @@ ghost use mathlib.Core.Bool.{cond, _&&_};
 ghost use lib.ListN.{length};
 ghost use Rattle.records.specs.Outcome.{inTurn};
 ghost use Rattle.records.specs.Answers.{checked, counted};
-ghost use Rattle.records.specs.Format.{recordSize, recordAt, recordOf, roleCount, count};
+ghost use Rattle.records.specs.Format.{recordSize, recordOf, roleCount, count};
 ghost use Rattle.records.specs.Kinds as kinds;
 ghost use Rattle.records.specs.Kinds.{sortsOf};
 ghost use Rattle.records.specs.Check.{lengthFits, lengthCheck, headerFits, headerCheck, kindFits, kindCheck, named};
-ghost use Rattle.records.specs.Check.{labelled, termFits, linkFits, row, rowsCheck, fieldsCheck, recordCheck};
-ghost use Rattle.records.specs.Check.{linkCheck, linksCheck, recordsCheck, vocabularyCheck};
-ghost use Rattle.records.specs.Fields.{fieldFits, allFit, noFault, firstOf, AtRecord};
+ghost use Rattle.records.specs.Check.{labelled, termFits, linkFits, row, rowsCheck, fieldsCheck, recordCheck, linkCheck};
+ghost use Rattle.records.specs.Check.{linksCheck, recordsCheck, vocabularyCheck};
+ghost use Rattle.records.specs.Code.Fields.{fieldFits, allFit, noFault, firstOf, AtRecord};
 
 // Row 1: the length.
 fn length_fits(v: &[u8]) -> bool

@@ -3,15 +3,10 @@ use Prim.Native.Nat.{ℕ, zero, suc, _-_, _≤_, _<_, max}
 use mathlib.Core.Path.{_≡_}
 use mathlib.Core.List.{List, [], _∷_, _++_}
 use lib.ListN.{length, getD}
+use Rattle.records.specs.Finite.{without}
 use Rattle.columns.specs.Literals.{SkolemTerm, constant, Literal, complement, noLiteral}
 use Rattle.columns.specs.Columns.{Query, columnAt, instanceAt}
 use Rattle.scripts.specs.Steps.{Extension, Step, start, extension, reduction}
-
--- A list without the entry at a position.
-unfoldable pub without : {A : Type 0} → ℕ → List A → List A
-without p [] = []
-without zero (x ∷ l) = l
-without (suc p) (x ∷ l) = x ∷ without p l
 
 -- The column that is used, C₂ of Definition 10; its literal at the position, L₂; and the others, C₂ \ {L₂}.
 abbrev pub used : List ℕ → Query → Extension SkolemTerm → List (Literal SkolemTerm)

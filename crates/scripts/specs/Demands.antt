@@ -11,7 +11,7 @@ use lib.ListN.{length}
 use Rattle.records.specs.Outcome.{Outcome, accepted, refused, pass}
 use Rattle.records.specs.Check.{vocabularyCheck}
 use Rattle.records.specs.Call.{recordCall, recordPart}
-use Rattle.records.specs.Chain.{occurs}
+use Rattle.records.specs.Finite.{occurs}
 use Rattle.records.specs.Atoms.{atoms}
 use Rattle.types.specs.Meaning.{Interpretation, Element, belongs, Model, AlwaysEqual, AlwaysWithin}
 use Rattle.types.specs.Compare.{Verdict, equal, different, termCheck, comparison}

@@ -4,6 +4,7 @@ use mathlib.Core.Bool.{Bool, true, false, not, _&&_, _||_}
 use mathlib.Core.List.{List, [], _∷_}
 use lib.ListN.{length, getD}
 use lib.Dec.{ltb}
+use Rattle.records.specs.Finite.{isNil, without}
 use Rattle.records.specs.Outcome.{Outcome, Check, accepted, refused, _then_, require}
 use Rattle.records.specs.Check.{vocabularyCheck}
 use Rattle.columns.specs.Literals.{SkolemTerm, Literal, complementary, noLiteral}
@@ -11,11 +12,7 @@ use Rattle.columns.specs.Columns.{Query}
 use Rattle.scripts.specs.Steps.{Extension, Step, start, extension, reduction, stepBy}
 use Rattle.scripts.specs.Format.{queryOf, termAt, recordStep, chain}
 use Rattle.scripts.specs.Form.{formCheck}
-use Rattle.scripts.specs.Calculus.{without, used, startColumn, frameLimit}
-
-abbrev pub isNil : {A : Type 0} → List A → Bool
-isNil [] = true
-isNil (x ∷ l) = false
+use Rattle.scripts.specs.Calculus.{used, startColumn, frameLimit}
 
 abbrev pub isStart : {A : Type 0} → Step A → Bool
 isStart (start n) = true

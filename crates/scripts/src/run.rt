@@ -20,16 +20,17 @@ ghost use mathlib.Core.List.{[], _∷_};
 ghost use Prim.Native.Nat.{_<_};
 ghost use lib.ListN.{length};
 ghost use lib.Dec.{ltb};
-ghost use Rattle.columns.specs.Packed.{literals};
+ghost use Rattle.columns.specs.Code.Packed.{literals};
 ghost use Rattle.scripts.specs.Format.{extensionOf};
 ghost use Rattle.scripts.specs.Calculus.{frameLimit};
-ghost use Rattle.scripts.specs.Run.{isNil, extendBy};
-ghost use Rattle.scripts.specs.Codes.{codeOf, codeAt, opposed};
-ghost use Rattle.scripts.specs.Machine.{places, framesFrom, framesOf, Standing, Shows};
-ghost use Rattle.scripts.specs.Numbered.{secondCode, usedNumbers};
-ghost use Rattle.scripts.specs.Tested.{reducesTo, ExtensionTested, TestedAt, runAfter, chainOutcome};
+ghost use Rattle.records.specs.Finite.{isNil};
+ghost use Rattle.scripts.specs.Run.{extendBy};
+ghost use Rattle.scripts.specs.Code.Codes.{codeOf, codeAt, opposed};
+ghost use Rattle.scripts.specs.Code.Machine.{places, framesFrom, framesOf, Standing, Shows};
+ghost use Rattle.scripts.specs.Code.Numbered.{secondCode, usedNumbers};
+ghost use Rattle.scripts.specs.Code.Tested.{reducesTo, ExtensionTested, TestedAt, runAfter, chainOutcome};
 ghost use Rattle.scripts.specs.Answers.{judged};
-ghost use Rattle.scripts.specs.Ready.{HasEntry, Ready, IsStep, IsExtension};
+ghost use Rattle.scripts.specs.Code.Ready.{HasEntry, Ready, IsStep, IsExtension};
 
 // A step's answer and, if it passed, the literals of the frame that it opens: the other literals of an extension's column.
 // A step that closes the goal has none.

@@ -8,7 +8,7 @@ use Rattle.records.specs.Format.{recordAt, count}
 use Rattle.records.specs.Kinds.{isTerm}
 use Rattle.records.specs.Check.{vocabularyCheck}
 use Rattle.records.specs.Atoms.{atoms}
-use Rattle.types.specs.Below.{least, has, members}
+use Rattle.records.specs.Finite.{least, has, members}
 use Rattle.types.specs.Types.{types, truth}
 use Rattle.types.specs.Survivors.{survivors, rounds}
 

@@ -4,7 +4,7 @@ use mathlib.Core.Bool.{Bool}
 use mathlib.Core.List.{List, _++_}
 use lib.ListN.{getD, drop}
 use Rattle.records.specs.Outcome.{Outcome, accepted, refused}
-use Rattle.types.specs.Below.{table, has, bit, number}
+use Rattle.records.specs.Finite.{table, has, bit, number}
 use Rattle.types.specs.Meaning.{Interpretation}
 use Rattle.types.specs.Types.{truth, allowed}
 use Rattle.types.specs.Survivors.{survivors}

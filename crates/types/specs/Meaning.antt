@@ -4,11 +4,10 @@ use mathlib.Core.Path.{_≡_}
 use mathlib.Core.Bool.{Bool, true, false, not, _&&_, _||_}
 use mathlib.Core.List.{List}
 use Rattle.records.specs.Format.{recordAt}
-use Rattle.records.specs.Kinds.{Construct, none, top, bottom, name, negation, conjunction, disjunction, existential}
-use Rattle.records.specs.Kinds.{universal, inclusion, constructOf}
-use Rattle.records.specs.Check.{anyBelow}
+use Rattle.records.specs.Kinds.{Construct, none, top, bottom, name, negation, conjunction, disjunction, existential, universal}
+use Rattle.records.specs.Kinds.{inclusion, constructOf}
+use Rattle.records.specs.Finite.{anyBelow, allBelow, inRecordOrder}
 use Rattle.records.specs.Chain.{chained}
-use Rattle.types.specs.Below.{allBelow, inRecordOrder}
 
 -- "a set of elements for each name and a set of pairs for each role". The elements are the numbers below a bound that are
 -- in the domain; a name goes by its record ("Each name record is a name of its own"), a role by its number.

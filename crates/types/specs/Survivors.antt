@@ -3,9 +3,8 @@ use Prim.Native.Nat.{ℕ, zero, suc}
 use mathlib.Core.Bool.{Bool, not, _&&_, _||_}
 use mathlib.Core.List.{List}
 use Rattle.records.specs.Format.{count}
-use Rattle.records.specs.Check.{anyBelow}
+use Rattle.records.specs.Finite.{anyBelow, allBelow, least, table, has}
 use Rattle.records.specs.Chain.{chained}
-use Rattle.types.specs.Below.{allBelow, least, table, has}
 use Rattle.types.specs.Types.{types, truth, served}
 
 -- Every chained statement holds at t.

@@ -5,9 +5,8 @@ use mathlib.Core.List.{List}
 use lib.Dec.{eqb}
 use Rattle.records.specs.Format.{recordAt, count}
 use Rattle.records.specs.Kinds.{constructOf}
-use Rattle.records.specs.Check.{anyBelow}
+use Rattle.records.specs.Finite.{anyBelow, allBelow, has, bit, inRecordOrder}
 use Rattle.records.specs.Atoms.{rank, atoms}
-use Rattle.types.specs.Below.{allBelow, has, bit, inRecordOrder}
 use Rattle.types.specs.Meaning.{Restriction, some, all, plain, restrictionAt, connect}
 
 -- "A type is a number from 0 to 2^k − 1": how many there are.

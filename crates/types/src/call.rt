@@ -26,11 +26,10 @@ ghost use Rattle.records.specs.Answers.{checked};
 ghost use Rattle.records.specs.Format.{recordAt, count};
 ghost use Rattle.records.specs.Kinds.{isTerm};
 ghost use Rattle.records.specs.Atoms.{atoms};
-ghost use Rattle.types.specs.Compare.{termCheck, queryCheck, verdict, comparison};
+ghost use Rattle.types.specs.Compare.{termCheck, queryCheck, verdict, comparison, formBytes};
 ghost use Rattle.types.specs.Form.{form, written};
 ghost use Rattle.types.specs.Answers.{compared};
-ghost use Rattle.types.specs.Compare.{formBytes};
-ghost use Rattle.types.specs.Settling.{Comparable};
+ghost use Rattle.types.specs.Code.Settling.{Comparable};
 
 // Row 10: whether a number of the query names a term.
 fn names_term(v: &[u8], number: usize) -> bool

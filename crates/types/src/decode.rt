@@ -5,7 +5,7 @@ use records::fields::read_at;
 ghost use mathlib.Core.Path.{_≡_};
 ghost use lib.ListN.{length};
 ghost use Rattle.records.specs.Check.{IsAccepted};
-ghost use Rattle.types.specs.Rules.{ruleOf, firstOf, secondOf, codeLength, Decoded};
+ghost use Rattle.types.specs.Code.Rules.{ruleOf, firstOf, secondOf, codeLength, Decoded};
 
 // The truth rule of a kind, as a table of four bits: bit x + 2 y is the truth where the first operand is x and the second y.
 pub fn rule(kind: u8) -> u16

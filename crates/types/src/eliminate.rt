@@ -12,11 +12,12 @@ ghost use lib.ListN.{length, getD};
 ghost use lib.Bits.{bitOr};
 ghost use Rattle.records.specs.Check.{IsAccepted};
 ghost use Rattle.records.specs.Atoms.{atoms};
-ghost use Rattle.types.specs.Below.{has};
+ghost use Rattle.records.specs.Finite.{has};
 ghost use Rattle.types.specs.Types.{types};
 ghost use Rattle.types.specs.Survivors.{stage, rounds, survivors};
-ghost use Rattle.types.specs.Words.{width, Roles, Demands, Offers, SameSet};
-ghost use Rattle.types.specs.Elimination.{Masks, Covering, Covers, Enters, Eliminating, AfterRound, Keeps, metBy, metAt};
+ghost use Rattle.types.specs.Code.Words.{width, Roles, Demands, Offers, SameSet};
+ghost use Rattle.types.specs.Code.Elimination.{Masks, Covering, Covers, Enters, Eliminating, AfterRound, Keeps, metBy};
+ghost use Rattle.types.specs.Code.Elimination.{metAt};
 ghost use Rattle.types.specs.Compare.{atomLimit, typeLimit};
 
 // The words of the other roles, for each role: no round works them out again.

@@ -6,9 +6,9 @@ ghost use mathlib.Core.Bool.{false, _&&_};
 ghost use mathlib.Core.List.{_++_};
 ghost use Prim.Native.Nat.{ℕ, _-_, _≤_, _<_};
 ghost use lib.ListN.{length, getD, drop};
-ghost use Rattle.types.specs.Below.{has, least, table, countBelow};
+ghost use Rattle.records.specs.Finite.{has, least, table, countBelow};
 ghost use Rattle.types.specs.Form.{byteOf};
-ghost use Rattle.types.specs.Settling.{cleared};
+ghost use Rattle.types.specs.Code.Settling.{cleared};
 ghost use Rattle.types.specs.Compare.{typeLimit, formBytes};
 
 // How many are below `size`.

@@ -7,7 +7,7 @@ use records::fields::Record;
 ghost use mathlib.Core.Path.{_≡_};
 ghost use lib.ListN.{length};
 ghost use Rattle.records.specs.Format.{recordLimit};
-ghost use Rattle.types.specs.Settling.{Prepared, Blank, Started, Worded, profileAt};
+ghost use Rattle.types.specs.Code.Settling.{Prepared, Blank, Started, Worded, profileAt};
 
 // At one type: whether every chained statement holds, whether the two terms differ, and the words of what it demands and
 // offers.

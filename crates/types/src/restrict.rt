@@ -8,10 +8,10 @@ ghost use mathlib.Core.Path.{_≡_};
 ghost use Prim.Native.Nat.{_≤_};
 ghost use lib.ListN.{getD};
 ghost use Rattle.records.specs.Check.{IsAccepted};
-ghost use Rattle.types.specs.Below.{number};
-ghost use Rattle.types.specs.Words.{signed};
-ghost use Rattle.types.specs.Settling.{Listed, Bounded, wordAt};
-ghost use Rattle.types.specs.Elimination.{otherRole};
+ghost use Rattle.records.specs.Finite.{number};
+ghost use Rattle.types.specs.Code.Words.{signed};
+ghost use Rattle.types.specs.Code.Settling.{Listed, Bounded, wordAt};
+ghost use Rattle.types.specs.Code.Elimination.{otherRole};
 ghost use Rattle.records.specs.Atoms.{atoms};
 ghost use Rattle.types.specs.Compare.{atomLimit};
 

@@ -8,7 +8,7 @@ use crate::restrict::list_restrictions;
 use crate::truth::list_atoms;
 use crate::truth::list_statements;
 use records::fields::Record;
-ghost use Rattle.types.specs.Settling.{Comparable, Vacant, Settled};
+ghost use Rattle.types.specs.Code.Settling.{Comparable, Vacant, Settled};
 
 // Settles the terms a and b of a vocabulary of k atoms, in empty tables; how many rounds removed something.
 pub fn settle(

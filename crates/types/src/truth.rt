@@ -9,10 +9,11 @@ ghost use Prim.Native.Nat.{ℕ, _+_, _*_, _≤_, _<_};
 ghost use lib.ListN.{length, getD};
 ghost use Rattle.records.specs.Check.{IsAccepted};
 ghost use Rattle.types.specs.Compare.{atomLimit, typeLimit};
-ghost use Rattle.types.specs.Rules.{select, Decoded, holding, AtomsListed, AtomsSet, Truths};
-ghost use Rattle.types.specs.Settling.{Stating};
+ghost use Rattle.types.specs.Code.Rules.{select, Decoded, holding, AtomsListed, AtomsSet, Truths};
+ghost use Rattle.types.specs.Code.Settling.{Stating};
 ghost use Rattle.records.specs.Format.{recordLimit};
-ghost use Rattle.records.specs.Atoms.{atoms, digit};
+ghost use Rattle.records.specs.Atoms.{atoms};
+ghost use Rattle.records.specs.Finite.{digit};
 
 // 1 for true, 0 for false.
 pub fn digit(b: bool) -> u16

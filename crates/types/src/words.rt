@@ -3,7 +3,7 @@ use crate::profile::Profile;
 ghost use mathlib.Core.Path.{_≡_};
 ghost use Prim.Native.Nat.{ℕ, _+_, _*_, _^_, _≤_, _<_};
 ghost use lib.ListN.{length, getD};
-ghost use Rattle.types.specs.Elimination.{between, Joined, Spreads, SpreadTo};
+ghost use Rattle.types.specs.Code.Elimination.{between, Joined, Spreads, SpreadTo};
 ghost use Rattle.types.specs.Compare.{atomLimit, typeLimit};
 
 // Clears the words below `size`. (The caller makes the power of two: with `1 << bits` in its test, LLVM makes no memset of

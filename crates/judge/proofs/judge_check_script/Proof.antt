@@ -6,11 +6,11 @@ use native.Mathlib.Omega.{arith}
 use mathlib.Core.Path.{_≡_, _∙_, ap, sym, subst}
 use denote.Ref.{now}
 use borrow.Author.Needs.{needs}
-use Rattle.records.proofs.Bounds.{Small}
+use Rattle.records.proofs.Theorems.Bounds.{Small}
 use Rattle.scripts.specs.Format.{queryOf}
 use Rattle.scripts.specs.Answers.{judged}
 use Rattle.scripts.specs.declared.answers.Judged.{Judged}
-use Rattle.scripts.proofs.Bounds.{mostPlace, script-small, query-below}
+use Rattle.scripts.proofs.Theorems.Bounds.{mostPlace, script-small, query-below}
 use Rattle.judge.proofs.judge_check_script.Statement.{statement}
 use Rattle.judge.proofs.judge_check_script.Tie as tie
 

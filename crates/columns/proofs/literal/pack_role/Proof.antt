@@ -4,7 +4,7 @@ use native.Mathlib.Omega.{arith}
 use borrow.Author.Needs.{needs}
 use Rattle.columns.proofs.literal.pack_role.Statement.{statement}
 use Rattle.columns.proofs.literal.pack_role.Tie as tie
-use Rattle.records.proofs.Ranks.{digit-small}
+use Rattle.records.proofs.Laws.Bits.{digit-small}
 
 add-result-2 : tie.Need-add-result-2
 add-result-2 c = omega (arith, digit-small (c .before .args .positive), c .digit .ensures)

@@ -10,9 +10,10 @@ use borrow.Author.Needs.{needs}
 use borrow.Author.Tests.{not-true, not-false}
 use Rattle.records.specs.Kinds.{constructOf}
 use Rattle.records.specs.declared.fields.Record.{Record}
-use Rattle.records.proofs.Accepted.{Accepted, accepted-vocabulary}
+use Rattle.records.proofs.Theorems.Accepted.{Accepted, accepted-vocabulary}
 use Rattle.columns.specs.Columns.{columnsOf, states, takesY}
-use Rattle.columns.proofs.Owners.{columns-record, columns-silent, columns-past, query-shape, none-shape, record-shape}
+use Rattle.columns.proofs.Theorems.Owners.{columns-record, columns-silent, columns-past, query-shape, none-shape}
+use Rattle.columns.proofs.Theorems.Owners.{record-shape}
 use Rattle.columns.proofs.owner.column_shape.Statement.{statement}
 use Rattle.columns.proofs.owner.column_shape.Tie as tie
 

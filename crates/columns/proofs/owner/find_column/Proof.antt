@@ -6,10 +6,10 @@ use mathlib.Core.Path.{_≡_, sym, _∙_}
 use denote.Ref.{now}
 use borrow.Author.Needs.{needs}
 use borrow.Author.Tests.{not-true, not-false}
-use Rattle.records.proofs.Accepted.{Accepted, accepted-vocabulary}
+use Rattle.records.proofs.Theorems.Accepted.{Accepted, accepted-vocabulary}
 use Rattle.columns.specs.Columns.{states, columnsAt}
-use Rattle.columns.proofs.Groups.{none-at, same-at}
-use Rattle.columns.proofs.Owners.{columns-record, columns-silent, columns-past}
+use Rattle.columns.proofs.Refinement.Groups.{none-at, same-at}
+use Rattle.columns.proofs.Theorems.Owners.{columns-record, columns-silent, columns-past}
 use Rattle.columns.proofs.owner.find_column.Statement.{statement}
 use Rattle.columns.proofs.owner.find_column.Tie as tie
 

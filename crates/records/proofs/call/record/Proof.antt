@@ -5,7 +5,7 @@ use native.Mathlib.Omega.{arith}
 use mathlib.Core.Path.{_∙_, sym, ap}
 use borrow.Author.Needs.{needs}
 use Rattle.records.specs.Answers.{located}
-use Rattle.records.proofs.Bounds.{record-within}
+use Rattle.records.proofs.Theorems.Bounds.{record-within}
 use Rattle.records.proofs.call.record.Statement.{statement}
 use Rattle.records.proofs.call.record.Tie as tie
 

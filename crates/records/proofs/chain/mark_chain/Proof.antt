@@ -7,8 +7,8 @@ use mathlib.Core.Path.{ap, subst}
 use denote.Ref.{now}
 use Rattle.records.specs.Format.{count}
 use Rattle.records.specs.declared.fields.Record.{Record}
-use Rattle.records.proofs.Accepted.{Accepted, Later, well-formed-vocabulary}
-use Rattle.records.proofs.Following.{left}
+use Rattle.records.proofs.Theorems.Accepted.{Accepted, Later, well-formed-vocabulary}
+use Rattle.records.proofs.Theorems.Following.{left}
 use Rattle.records.proofs.chain.mark_chain.Proof.Marks.{Marking, start, standing, next, done, falls}
 use Rattle.records.proofs.chain.mark_chain.Statement.{statement}
 use Rattle.records.proofs.chain.mark_chain.Tie as tie

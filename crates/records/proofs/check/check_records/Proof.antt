@@ -3,10 +3,9 @@
 use mathlib.Core.Path.{_≡_}
 use denote.Ref.{now}
 use borrow.Author.Needs.{needs}
-use Rattle.records.specs.Outcome.{pass}
-use Rattle.records.specs.Check.{lengthCheck, recordsCheck}
-use Rattle.records.proofs.Order.{stops, goes, passed}
-use Rattle.records.proofs.Passed.{Sized, length-passed}
+use Rattle.records.specs.Check.{recordsCheck}
+use Rattle.records.proofs.Laws.Order.{stops, goes, passed}
+use Rattle.records.proofs.Laws.Passed.{Sized, length-passed}
 use Rattle.records.proofs.check.check_records.Statement.{statement}
 use Rattle.records.proofs.check.check_records.Tie as tie
 

@@ -6,8 +6,8 @@ use mathlib.Core.Path.{_≡_, refl, sym, ap, _∙_}
 use denote.Ref.{now}
 use borrow.Author.Needs.{needs}
 use Rattle.records.specs.Kinds.{Kind, kindOf, sortsOf, constantFields, junctionFields, restrictionFields}
-use Rattle.records.proofs.Ranges.{between, kind-past}
-use Rattle.records.proofs.Rows.{rows-at}
+use Rattle.records.proofs.Laws.Ranges.{between, kind-past}
+use Rattle.records.proofs.Refinement.Rows.{rows-at}
 use Rattle.records.proofs.check.check_rows.Statement.{statement}
 use Rattle.records.proofs.check.check_rows.Tie as tie
 

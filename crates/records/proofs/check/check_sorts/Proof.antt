@@ -3,7 +3,7 @@
 use denote.Ref.{now}
 use borrow.Author.Needs.{needs}
 use Rattle.records.specs.Kinds.{holds}
-use Rattle.records.proofs.Rows.{rows-fit, rows-unfit}
+use Rattle.records.proofs.Refinement.Rows.{rows-fit, rows-unfit}
 use Rattle.records.proofs.check.check_sorts.Statement.{statement}
 use Rattle.records.proofs.check.check_sorts.Tie as tie
 

@@ -1,7 +1,7 @@
 -- `records::check::fields_fit` meets its contract. At each return the tests that led there say what the conjunction is.
 -- Assumes nothing.
 use borrow.Author.Needs.{needs}
-use Rattle.records.proofs.Order.{fails, rests}
+use Rattle.records.proofs.Laws.Order.{fails, rests}
 use Rattle.records.proofs.check.fields_fit.Statement.{statement}
 use Rattle.records.proofs.check.fields_fit.Tie as tie
 

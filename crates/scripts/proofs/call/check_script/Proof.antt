@@ -7,11 +7,11 @@ use borrow.Author.Needs.{needs}
 use Rattle.records.specs.Outcome.{pass}
 use Rattle.records.specs.Check.{IsAccepted}
 use Rattle.records.specs.Answers.{checked}
-use Rattle.records.proofs.Accepted.{accepted-well-formed}
-use Rattle.records.proofs.Order.{asked, passed}
+use Rattle.records.proofs.Theorems.Accepted.{accepted-well-formed}
+use Rattle.records.proofs.Laws.Order.{asked, passed}
 use Rattle.scripts.specs.Form.{lengthCheck, formCheck}
-use Rattle.scripts.proofs.Formed.{length-sized}
-use Rattle.scripts.proofs.Outcomes.{vocabulary-at, refused-vocabulary, refused-length, refused-form, decided}
+use Rattle.scripts.proofs.Theorems.Form.{length-sized}
+use Rattle.scripts.proofs.Refinement.Outcomes.{vocabulary-at, refused-vocabulary, refused-length, refused-form, decided}
 use Rattle.scripts.proofs.call.check_script.Statement.{statement}
 use Rattle.scripts.proofs.call.check_script.Tie as tie
 

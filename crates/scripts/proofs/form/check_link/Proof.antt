@@ -4,7 +4,7 @@ use mathlib.Core.Path.{_∙_}
 use denote.Ref.{now}
 use borrow.Author.Needs.{needs}
 use Rattle.scripts.specs.Form.{linkCheck}
-use Rattle.scripts.proofs.Lines.{link-made, link-none}
+use Rattle.scripts.proofs.Refinement.Lines.{link-made, link-none}
 use Rattle.scripts.proofs.form.check_link.Statement.{statement}
 use Rattle.scripts.proofs.form.check_link.Tie as tie
 

@@ -5,7 +5,7 @@ use mathlib.Core.Bool.{Bool}
 use denote.Ref.{now}
 use borrow.Author.Needs.{needs}
 use borrow.Author.Tests.{lt-ltb, le-ltb}
-use Rattle.records.proofs.Order.{fails, rests}
+use Rattle.records.proofs.Laws.Order.{fails, rests}
 use Rattle.scripts.specs.Form.{yFits}
 use Rattle.scripts.proofs.form.extension_fits.Statement.{statement}
 use Rattle.scripts.proofs.form.extension_fits.Tie as tie

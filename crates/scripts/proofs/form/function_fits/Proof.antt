@@ -4,10 +4,10 @@ use mathlib.Core.Path.{_≡_, sym, ap, _∙_}
 use mathlib.Core.Bool.{not}
 use denote.Ref.{now}
 use borrow.Author.Needs.{needs}
-use Rattle.records.proofs.Order.{fails, rests}
+use Rattle.records.proofs.Laws.Order.{fails, rests}
 use Rattle.scripts.specs.Format.{applied, lineOf}
 use Rattle.scripts.specs.Form.{functionFits}
-use Rattle.scripts.proofs.Lines.{function-line, function-other}
+use Rattle.scripts.proofs.Refinement.Lines.{function-line, function-other}
 use Rattle.scripts.proofs.form.function_fits.Statement.{statement}
 use Rattle.scripts.proofs.form.function_fits.Tie as tie
 

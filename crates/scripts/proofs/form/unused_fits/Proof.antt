@@ -7,9 +7,9 @@ use mathlib.Core.Path.{_≡_, sym, _∙_}
 use mathlib.Core.Bool.{true, and-true}
 use borrow.Author.Needs.{needs}
 use Rattle.scripts.specs.Format.{kindOf}
-use Rattle.scripts.specs.Form.{allZero}
+use Rattle.records.specs.Finite.{allZero}
 use Rattle.scripts.specs.declared.entry.Entry.{Entry}
-use Rattle.scripts.proofs.Lines.{unused-none, unused-past}
+use Rattle.scripts.proofs.Refinement.Lines.{unused-none, unused-past}
 use Rattle.scripts.proofs.form.unused_fits.Statement.{statement}
 use Rattle.scripts.proofs.form.unused_fits.Tie as tie
 

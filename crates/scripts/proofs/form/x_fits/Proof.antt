@@ -2,7 +2,7 @@
 -- Assumes nothing.
 use borrow.Author.Needs.{needs}
 use borrow.Author.Tests.{eq-eqb, ne-eqb}
-use Rattle.records.proofs.Order.{fails, rests}
+use Rattle.records.proofs.Laws.Order.{fails, rests}
 use Rattle.scripts.proofs.form.x_fits.Statement.{statement}
 use Rattle.scripts.proofs.form.x_fits.Tie as tie
 

@@ -2,7 +2,7 @@
 -- Assumes nothing.
 use denote.Ref.{now}
 use borrow.Author.Needs.{needs}
-use Rattle.scripts.proofs.Frames.{goal-next, goal-last}
+use Rattle.scripts.proofs.Refinement.Frames.{goal-next, goal-last}
 use Rattle.scripts.proofs.machine.has_next.Statement.{statement}
 use Rattle.scripts.proofs.machine.has_next.Tie as tie
 

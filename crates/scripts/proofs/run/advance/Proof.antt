@@ -2,7 +2,7 @@
 -- Assumes nothing.
 use mathlib.Core.Path.{_∙_}
 use borrow.Author.Needs.{needs}
-use Rattle.scripts.proofs.Frames.{open-none}
+use Rattle.scripts.proofs.Refinement.Frames.{open-none}
 use Rattle.scripts.proofs.run.advance.Statement.{statement}
 use Rattle.scripts.proofs.run.advance.Tie as tie
 

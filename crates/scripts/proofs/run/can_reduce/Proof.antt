@@ -3,7 +3,7 @@
 use native.Mathlib.Omega.{arith}
 use denote.Ref.{now}
 use borrow.Author.Needs.{needs}
-use Rattle.scripts.proofs.Stepping.{reduce-told, reduce-never}
+use Rattle.scripts.proofs.Refinement.Stepping.{reduce-told, reduce-never}
 use Rattle.scripts.proofs.run.can_reduce.Statement.{statement}
 use Rattle.scripts.proofs.run.can_reduce.Tie as tie
 

@@ -7,15 +7,15 @@ use mathlib.Core.Path.{_≡_, ap, _∙_}
 use denote.Ref.{now}
 use borrow.Author.Needs.{needs}
 use borrow.Author.Tests.{eqb-true}
-use Rattle.records.proofs.Passed.{require-passed}
-use Rattle.records.proofs.Order.{passed}
-use Rattle.columns.specs.Packed.{literals}
+use Rattle.records.proofs.Laws.Passed.{require-passed}
+use Rattle.records.proofs.Laws.Order.{passed}
+use Rattle.columns.specs.Code.Packed.{literals}
 use Rattle.scripts.specs.Format.{queryIn, firstStep}
-use Rattle.scripts.specs.Ready.{IsStep}
+use Rattle.scripts.specs.Code.Ready.{IsStep}
 use Rattle.scripts.specs.declared.entry.Entry.{Entry}
-use Rattle.scripts.proofs.Formed.{Formed, formed}
-use Rattle.scripts.proofs.Starting.{start-listed, start-some, start-column, chain-none, chain-other, chain-started}
-use Rattle.scripts.proofs.Starting.{first-step}
+use Rattle.scripts.proofs.Theorems.Form.{Formed, formed}
+use Rattle.scripts.proofs.Refinement.Starting.{start-listed, start-some, start-column, chain-none, chain-other}
+use Rattle.scripts.proofs.Refinement.Starting.{chain-started, first-step}
 use Rattle.scripts.proofs.run.check_chain.Statement.{statement}
 use Rattle.scripts.proofs.run.check_chain.Tie as tie
 

@@ -5,9 +5,9 @@ use mathlib.Core.Path.{_≡_, refl}
 use mathlib.Core.Bool.{Bool, _||_}
 use lib.Dec.{ltb}
 use borrow.Author.Needs.{needs}
-use Rattle.columns.specs.Packed.{listed}
+use Rattle.columns.specs.Code.Packed.{listed}
 use Rattle.scripts.specs.Calculus.{frameLimit}
-use Rattle.scripts.specs.Run.{isNil}
+use Rattle.records.specs.Finite.{isNil}
 use Rattle.scripts.proofs.run.has_room.Statement.{statement}
 use Rattle.scripts.proofs.run.has_room.Tie as tie
 

@@ -8,17 +8,17 @@ use denote.Ref.{now}
 use borrow.Author.Needs.{needs}
 use borrow.Author.Tests.{eqb-true}
 use Rattle.records.specs.Answers.{checked}
-use Rattle.records.proofs.Following.{left}
+use Rattle.records.proofs.Theorems.Following.{left}
 use Rattle.scripts.specs.Format.{entries, nextStep}
 use Rattle.scripts.specs.Calculus.{frameLimit}
 use Rattle.scripts.specs.Run.{Frames}
-use Rattle.scripts.specs.Machine.{framesOf, Standing}
-use Rattle.scripts.specs.Tested.{runAfter}
-use Rattle.scripts.specs.Ready.{IsStep}
+use Rattle.scripts.specs.Code.Machine.{framesOf, Standing}
+use Rattle.scripts.specs.Code.Tested.{runAfter}
+use Rattle.scripts.specs.Code.Ready.{IsStep}
 use Rattle.scripts.specs.declared.entry.Entry.{Entry}
-use Rattle.scripts.proofs.Formed.{Formed, formed}
-use Rattle.scripts.proofs.Frames.{frames-length}
-use Rattle.scripts.proofs.Walking.{Walk, standing, walk-start, walk-next, walk-refused, walk-done, walk-falls}
+use Rattle.scripts.proofs.Theorems.Form.{Formed, formed}
+use Rattle.scripts.proofs.Refinement.Frames.{frames-length}
+use Rattle.scripts.proofs.Invariants.Walk.{Walk, standing, walk-start, walk-next, walk-refused, walk-done, walk-falls}
 use Rattle.scripts.proofs.run.run_steps.Statement.{statement}
 use Rattle.scripts.proofs.run.run_steps.Tie as tie
 

@@ -10,18 +10,19 @@ use denote.Ref.{now}
 use borrow.Author.Needs.{needs}
 use Rattle.records.specs.Outcome.{Check, require}
 use Rattle.records.specs.Answers.{checked}
-use Rattle.records.proofs.Passed.{require-passed}
-use Rattle.records.proofs.Order.{stops, goes, asked}
+use Rattle.records.proofs.Laws.Passed.{require-passed}
+use Rattle.records.proofs.Laws.Order.{stops, goes, asked}
 use Rattle.columns.specs.Columns.{columnAt}
-use Rattle.columns.specs.Packed.{literals}
+use Rattle.columns.specs.Code.Packed.{literals}
 use Rattle.scripts.specs.Steps.{Extension}
 use Rattle.scripts.specs.Format.{queryOf, extensionOf}
-use Rattle.scripts.specs.Calculus.{without, frameLimit}
-use Rattle.scripts.specs.Run.{isNil, meets, leaves}
-use Rattle.scripts.specs.Codes.{opposed}
-use Rattle.scripts.specs.Numbered.{noNumber, numbered}
-use Rattle.scripts.proofs.Extending.{read-extends}
-use Rattle.scripts.proofs.Stepping.{not-passed, room-left}
+use Rattle.records.specs.Finite.{without, isNil}
+use Rattle.scripts.specs.Calculus.{frameLimit}
+use Rattle.scripts.specs.Run.{meets, leaves}
+use Rattle.scripts.specs.Code.Codes.{opposed}
+use Rattle.scripts.specs.Code.Numbered.{noNumber, numbered}
+use Rattle.scripts.proofs.Refinement.Extensions.{read-extends}
+use Rattle.scripts.proofs.Refinement.Stepping.{not-passed, room-left}
 use Rattle.scripts.proofs.run.test_extension.Statement.{statement}
 use Rattle.scripts.proofs.run.test_extension.Tie as tie
 

@@ -10,18 +10,19 @@ use denote.Ref.{now}
 use borrow.Author.Needs.{needs}
 use Rattle.records.specs.Outcome.{refused, pass, require}
 use Rattle.records.specs.Answers.{checked}
-use Rattle.records.proofs.Passed.{require-passed, clash}
-use Rattle.records.proofs.Order.{stops, goes, asked, passed}
+use Rattle.records.proofs.Laws.Passed.{require-passed, clash}
+use Rattle.records.proofs.Laws.Order.{stops, goes, asked, passed}
 use Rattle.scripts.specs.Format.{extensionOf}
 use Rattle.scripts.specs.Calculus.{frameLimit}
-use Rattle.scripts.specs.Run.{isNil, Frames, extendBy, goal, stepCheck}
-use Rattle.scripts.specs.Machine.{framesFrom}
-use Rattle.scripts.specs.Numbered.{numbered}
+use Rattle.records.specs.Finite.{isNil}
+use Rattle.scripts.specs.Run.{Frames, extendBy, goal, stepCheck}
+use Rattle.scripts.specs.Code.Machine.{framesFrom}
+use Rattle.scripts.specs.Code.Numbered.{numbered}
 use Rattle.scripts.specs.declared.entry.Entry.{Entry}
-use Rattle.scripts.proofs.Frames.{frames-length, listed-none}
-use Rattle.scripts.proofs.Stepping.{open-positive, not-passed, open-told, goal-told, step-extending, step-reducing}
-use Rattle.scripts.proofs.Stepping.{step-neither, extension-rows, reduction-rows, start-rows, extension-after}
-use Rattle.scripts.proofs.Stepping.{reduction-after}
+use Rattle.scripts.proofs.Refinement.Frames.{frames-length, listed-none}
+use Rattle.scripts.proofs.Refinement.Stepping.{open-positive, not-passed, open-told, goal-told, step-extending}
+use Rattle.scripts.proofs.Refinement.Stepping.{step-reducing, step-neither, extension-rows, reduction-rows, start-rows}
+use Rattle.scripts.proofs.Refinement.Stepping.{extension-after, reduction-after}
 use Rattle.scripts.proofs.run.test_step.Statement.{statement}
 use Rattle.scripts.proofs.run.test_step.Tie as tie
 

@@ -4,7 +4,8 @@
 use Prim.Native.Nat.{_-_}
 use borrow.Author.Needs.{needs}
 use denote.Ref.{now}
-use Rattle.types.proofs.Outcomes.{refused-vocabulary, refused-query, query-passed, query-comparable, decided-call}
+use Rattle.types.proofs.Refinement.Outcomes.{refused-vocabulary, refused-query, query-passed, query-comparable}
+use Rattle.types.proofs.Refinement.Outcomes.{decided-call}
 use Rattle.types.proofs.call.compare.Statement.{statement}
 use Rattle.types.proofs.call.compare.Tie as tie
 

@@ -7,12 +7,12 @@ use mathlib.Core.Path.{_≡_, refl, ap, _∙_}
 use lib.ListN.{drop}
 use borrow.Author.Needs.{needs}
 use denote.Ref.{now}
-use Rattle.types.specs.Below.{least, countBelow, has}
+use Rattle.records.specs.Finite.{least, countBelow, has}
 use Rattle.types.specs.Compare.{typeLimit, formBytes}
 use Rattle.types.specs.Types.{types}
-use Rattle.types.proofs.Counted.{size-word, verdict-same, alive-counted, alive-first, alive-form}
-use Rattle.types.proofs.Rounds.{survivors-end}
-use Rattle.types.proofs.Turns.{types-bound, ends-empty}
+use Rattle.types.proofs.Invariants.Answers.{size-word, verdict-same, alive-counted, alive-first, alive-form}
+use Rattle.types.proofs.Refinement.Rounds.{survivors-end}
+use Rattle.types.proofs.Invariants.Tables.{types-bound, ends-empty}
 use Rattle.types.proofs.call.decide.Statement.{statement}
 use Rattle.types.proofs.call.decide.Tie as tie
 

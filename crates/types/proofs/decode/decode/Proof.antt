@@ -7,11 +7,11 @@ use mathlib.Core.Path.{_≡_, ap, _∙_}
 use lib.ListN.{length, set, length-set}
 use borrow.Author.Needs.{needs}
 use denote.Ref.{now}
-use Rattle.records.proofs.Accepted.{accepted-vocabulary}
+use Rattle.records.proofs.Theorems.Accepted.{accepted-vocabulary}
 use Rattle.records.specs.Format.{count, recordAt, recordLimit}
 use Rattle.records.specs.declared.fields.Record.{Record}
-use Rattle.types.specs.Rules.{ruleOf, firstOf, secondOf, codeLength}
-use Rattle.types.proofs.Turns.{RightAt, right-turn, right-kept}
+use Rattle.types.specs.Code.Rules.{ruleOf, firstOf, secondOf, codeLength}
+use Rattle.types.proofs.Invariants.Tables.{RightAt, right-turn, right-kept}
 use Rattle.types.proofs.decode.decode.Statement.{statement}
 use Rattle.types.proofs.decode.decode.Tie as tie
 

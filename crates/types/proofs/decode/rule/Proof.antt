@@ -1,8 +1,8 @@
 -- `types::decode::rule` meets its contract. The arm that was taken tells the kind, and so its line of the table of shapes.
 -- Assumes nothing.
 use native.Mathlib.Omega.{arith}
-use Rattle.types.specs.Rules.{shapeOf}
-use Rattle.types.proofs.Connects.{rule-restriction, rule-low, rule-high}
+use Rattle.types.specs.Code.Rules.{shapeOf}
+use Rattle.types.proofs.Refinement.TruthRules.{rule-restriction, rule-low, rule-high}
 use Rattle.types.proofs.decode.rule.Statement.{statement}
 use Rattle.types.proofs.decode.rule.Tie as tie
 

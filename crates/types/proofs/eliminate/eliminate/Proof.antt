@@ -12,9 +12,9 @@ use borrow.Author.Needs.{needs}
 use denote.Ref.{now}
 use Rattle.types.specs.Types.{types}
 use Rattle.types.specs.Compare.{typeLimit}
-use Rattle.types.specs.Elimination.{Eliminating}
-use Rattle.types.proofs.Rounds.{stage-ends, eliminating-on, AtStage, rests-survivors, stage-on, rounds-left}
-use Rattle.types.proofs.Turns.{types-bound}
+use Rattle.types.specs.Code.Elimination.{Eliminating}
+use Rattle.types.proofs.Refinement.Rounds.{stage-ends, eliminating-on, AtStage, rests-survivors, stage-on, rounds-left}
+use Rattle.types.proofs.Invariants.Tables.{types-bound}
 use Rattle.types.proofs.eliminate.eliminate.Statement.{statement}
 use Rattle.types.proofs.eliminate.eliminate.Tie as tie
 

@@ -8,7 +8,7 @@ use mathlib.Core.Path.{_≡_, subst}
 use lib.ListN.{getD}
 use denote.Ref.{now}
 use Rattle.types.specs.Compare.{typeLimit}
-use Rattle.types.proofs.Sweeps.{Entered, enter-start, enter-more, enter-same}
+use Rattle.types.proofs.Invariants.Elimination.{Entered, enter-start, enter-more, enter-same}
 use Rattle.types.proofs.eliminate.enter_offers.Statement.{statement}
 use Rattle.types.proofs.eliminate.enter_offers.Tie as tie
 

@@ -5,8 +5,8 @@ use Prim.Native.Nat.{_-_, _≤_, _<_}
 use native.Mathlib.Omega.{arith}
 use mathlib.Core.Logic.{⊎-elim}
 use Rattle.types.specs.Compare.{typeLimit}
-use Rattle.types.proofs.Listing.{ListedBelow, list-start, list-more, list-same}
-use Rattle.types.proofs.Sweeps.{list-covering}
+use Rattle.types.proofs.Invariants.Lists.{ListedBelow, list-start, list-more, list-same}
+use Rattle.types.proofs.Invariants.Elimination.{list-covering}
 use Rattle.types.proofs.eliminate.list_live.Statement.{statement}
 use Rattle.types.proofs.eliminate.list_live.Tie as tie
 

@@ -6,11 +6,11 @@ use mathlib.Core.Path.{refl, ap, _∙_}
 use denote.Ref.{now}
 use Rattle.records.specs.Format.{roleLimit, roleCount, count}
 use Rattle.records.specs.declared.fields.Record.{Record}
-use Rattle.records.proofs.Accepted.{accepted-vocabulary}
-use Rattle.types.specs.Words.{others}
-use Rattle.types.proofs.Restrictions.{width-bound}
-use Rattle.types.proofs.Rounds.{others-done}
-use Rattle.types.proofs.Turns.{Filled, fill-start, fill-turn}
+use Rattle.records.proofs.Theorems.Accepted.{accepted-vocabulary}
+use Rattle.types.specs.Code.Words.{others}
+use Rattle.types.proofs.Refinement.Restrictions.{width-bound}
+use Rattle.types.proofs.Refinement.Rounds.{others-done}
+use Rattle.types.proofs.Invariants.Tables.{Filled, fill-start, fill-turn}
 use Rattle.types.proofs.eliminate.list_masks.Statement.{statement}
 use Rattle.types.proofs.eliminate.list_masks.Tie as tie
 

@@ -5,8 +5,8 @@ use native.Mathlib.Omega.{arith}
 use mathlib.Core.Path.{_∙_}
 use denote.Ref.{now}
 use Rattle.types.specs.Compare.{atomLimit}
-use Rattle.types.proofs.Spreading.{power, words-room}
-use Rattle.types.proofs.Rounds.{bits-few, offer-in, covers-done}
+use Rattle.types.proofs.Invariants.Zeta.{power, words-room}
+use Rattle.types.proofs.Refinement.Rounds.{bits-few, offer-in, covers-done}
 use Rattle.types.proofs.eliminate.remove_unserved.Statement.{statement}
 use Rattle.types.proofs.eliminate.remove_unserved.Tie as tie
 

@@ -7,11 +7,11 @@ use mathlib.Core.Logic.{⊎-elim}
 use mathlib.Core.Path.{sym, _∙_}
 use lib.ListN.{length, getD}
 use denote.Ref.{now}
-use Rattle.records.proofs.Passed.{clash}
+use Rattle.records.proofs.Laws.Passed.{clash}
 use borrow.Author.Tests.{not-true, not-false}
 use Rattle.types.specs.Compare.{typeLimit}
-use Rattle.types.specs.Elimination.{metAt}
-use Rattle.types.proofs.Sweeps.{keeps-within, Swept, sweep-start, sweep-out, sweep-kept, sweep-end}
+use Rattle.types.specs.Code.Elimination.{metAt}
+use Rattle.types.proofs.Invariants.Elimination.{keeps-within, Swept, sweep-start, sweep-out, sweep-kept, sweep-end}
 use Rattle.types.proofs.eliminate.sweep.Statement.{statement}
 use Rattle.types.proofs.eliminate.sweep.Tie as tie
 

@@ -10,9 +10,9 @@ use borrow.Author.Needs.{needs}
 use denote.Ref.{now}
 use Rattle.records.specs.Format.{roleLimit, roleCount}
 use Rattle.records.specs.declared.fields.Record.{Record}
-use Rattle.types.proofs.Rounds.{AfterRoles, roles-start, roles-skip, roles-turn, round-done}
-use Rattle.types.proofs.Rounds.{good, bits-few, reached-in, met-role, role-skipped, full-word}
-use Rattle.types.proofs.Sweeps.{covering-less, keeps-within}
+use Rattle.types.proofs.Refinement.Rounds.{AfterRoles, roles-start, roles-skip, roles-turn, round-done, good, bits-few}
+use Rattle.types.proofs.Refinement.Rounds.{reached-in, met-role, role-skipped, full-word}
+use Rattle.types.proofs.Invariants.Elimination.{covering-less, keeps-within}
 use Rattle.types.proofs.eliminate.sweep_roles.Statement.{statement}
 use Rattle.types.proofs.eliminate.sweep_roles.Tie as tie
 

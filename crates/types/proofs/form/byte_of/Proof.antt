@@ -6,10 +6,10 @@ use mathlib.Core.Bool.{Bool}
 use mathlib.Core.List.{List}
 use mathlib.Core.Path.{_≡_, refl, _∙_}
 use denote.Ref.{now}
-use Rattle.types.specs.Below.{has}
+use Rattle.records.specs.Finite.{has}
 use Rattle.types.specs.Form.{byteOf}
-use Rattle.types.proofs.Bits.{number-small}
-use Rattle.types.proofs.Turns.{wordFrom, word-start, word-turn, word-end, word-bound}
+use Rattle.records.proofs.Laws.Bits.{number-small}
+use Rattle.types.proofs.Invariants.Tables.{wordFrom, word-start, word-turn, word-end, word-bound}
 use Rattle.types.proofs.form.byte_of.Statement.{statement}
 use Rattle.types.proofs.form.byte_of.Tie as tie
 

@@ -5,8 +5,8 @@ use native.Mathlib.Omega.{arith}
 use mathlib.Core.Logic.{⊎-elim}
 use mathlib.Core.Path.{_≡_, _∙_, ap}
 use denote.Ref.{now}
-use Rattle.types.specs.Below.{has, countBelow}
-use Rattle.types.proofs.Counted.{count-start, count-hit, count-miss, count-bound}
+use Rattle.records.specs.Finite.{has, countBelow}
+use Rattle.types.proofs.Invariants.Answers.{count-start, count-hit, count-miss, count-bound}
 use Rattle.types.proofs.form.count_alive.Statement.{statement}
 use Rattle.types.proofs.form.count_alive.Tie as tie
 

@@ -4,8 +4,8 @@ use Prim.Native.Nat.{_-_, _≤_}
 use native.Mathlib.Omega.{arith}
 use mathlib.Core.Logic.{⊎-elim}
 use denote.Ref.{now}
-use Rattle.types.proofs.Below.{None, none-start}
-use Rattle.types.proofs.Counted.{inBoth, first-out, first-other, first-found, first-none}
+use Rattle.records.proofs.Laws.Below.{None, none-start}
+use Rattle.types.proofs.Invariants.Answers.{inBoth, first-out, first-other, first-found, first-none}
 use Rattle.types.proofs.form.find_first.Statement.{statement}
 use Rattle.types.proofs.form.find_first.Tie as tie
 

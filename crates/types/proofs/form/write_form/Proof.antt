@@ -8,8 +8,8 @@ use denote.Ref.{now}
 use borrow.Author.Needs.{needs}
 use Rattle.types.specs.Compare.{formBytes}
 use Rattle.types.specs.Form.{byteOf}
-use Rattle.types.specs.Settling.{cleared}
-use Rattle.types.proofs.Counted.{tableOver, byte-none, cleared-over}
+use Rattle.types.specs.Code.Settling.{cleared}
+use Rattle.types.proofs.Invariants.Answers.{tableOver, byte-none, cleared-over}
 use Rattle.types.proofs.form.write_form.Statement.{statement}
 use Rattle.types.proofs.form.write_form.Tie as tie
 

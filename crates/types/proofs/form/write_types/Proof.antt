@@ -6,7 +6,7 @@ use mathlib.Core.Path.{_≡_, _∙_, ap}
 use lib.ListN.{length}
 use denote.Ref.{now}
 use Rattle.types.specs.Form.{byteOf}
-use Rattle.types.proofs.Counted.{tableOver, over-start, over-turn, over-length}
+use Rattle.types.proofs.Invariants.Answers.{tableOver, over-start, over-turn, over-length}
 use Rattle.types.proofs.form.write_types.Statement.{statement}
 use Rattle.types.proofs.form.write_types.Tie as tie
 

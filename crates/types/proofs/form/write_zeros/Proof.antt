@@ -6,8 +6,8 @@ use mathlib.Core.Path.{_≡_, _∙_, ap}
 use lib.ListN.{length}
 use denote.Ref.{now}
 use Rattle.types.specs.Compare.{formBytes}
-use Rattle.types.specs.Settling.{cleared}
-use Rattle.types.proofs.Counted.{cleared-start, cleared-length, cleared-turn}
+use Rattle.types.specs.Code.Settling.{cleared}
+use Rattle.types.proofs.Invariants.Answers.{cleared-start, cleared-length, cleared-turn}
 use Rattle.types.proofs.form.write_zeros.Statement.{statement}
 use Rattle.types.proofs.form.write_zeros.Tie as tie
 

@@ -4,7 +4,7 @@ use Prim.Native.Nat.{_-_}
 use native.Mathlib.Omega.{arith}
 use mathlib.Core.Path.{refl}
 use denote.Ref.{now}
-use Rattle.types.proofs.Profiles.{few-records, listing-bounded, profile-done}
+use Rattle.types.proofs.Refinement.Summaries.{few-records, listing-bounded, profile-done}
 use Rattle.types.proofs.profile.profile_of.Statement.{statement}
 use Rattle.types.proofs.profile.profile_of.Tie as tie
 

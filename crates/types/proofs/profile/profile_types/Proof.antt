@@ -9,15 +9,15 @@ use mathlib.Core.List.{List}
 use mathlib.Core.Path.{_≡_, sym, ap, _∙_, subst}
 use lib.ListN.{length}
 use denote.Ref.{now}
-use Rattle.types.specs.Below.{has, table}
+use Rattle.records.specs.Finite.{has, table}
 use Rattle.types.specs.Survivors.{fits, stage}
 use Rattle.types.specs.Types.{types}
-use Rattle.types.specs.Words.{demand, offer}
-use Rattle.types.specs.Settling.{differ}
+use Rattle.types.specs.Code.Words.{demand, offer}
+use Rattle.types.specs.Code.Settling.{differ}
 use Rattle.types.specs.declared.profile.Profile.{Profile}
-use Rattle.types.proofs.Sets.{table-at, table-past}
-use Rattle.types.proofs.Counted.{size-word}
-use Rattle.types.proofs.Turns.{Filled, fill-start, fill-turn, Ends, ends-turn, types-bound}
+use Rattle.records.proofs.Laws.Sets.{table-at, table-past}
+use Rattle.types.proofs.Invariants.Answers.{size-word}
+use Rattle.types.proofs.Invariants.Tables.{Filled, fill-start, fill-turn, Ends, ends-turn, types-bound}
 use Rattle.types.proofs.profile.profile_types.Statement.{statement}
 use Rattle.types.proofs.profile.profile_types.Tie as tie
 use Rattle.records.specs.Format.{recordLimit}

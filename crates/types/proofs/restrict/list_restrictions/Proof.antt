@@ -10,17 +10,19 @@ use mathlib.Core.Path.{_≡_, refl, sym, ap, _∙_}
 use lib.Dec.{eqb}
 use borrow.Author.Needs.{needs}
 use denote.Ref.{now}
-use Rattle.records.proofs.Accepted.{accepted-vocabulary}
-use Rattle.records.proofs.Ranks.{rank-mono}
-use Rattle.records.specs.Atoms.{atoms, digit}
+use Rattle.records.proofs.Theorems.Accepted.{accepted-vocabulary}
+use Rattle.records.proofs.Theorems.Ranks.{rank-mono}
+use Rattle.records.specs.Atoms.{atoms}
+use Rattle.records.specs.Finite.{digit}
 use Rattle.records.specs.Format.{count, recordAt, recordLimit}
 use Rattle.records.specs.declared.fields.Record.{Record}
 use Rattle.types.specs.Compare.{atomLimit}
 use Rattle.records.specs.Kinds.{isRestriction}
-use Rattle.types.specs.Words.{width, negated}
-use Rattle.types.proofs.Listing.{entries, entry, entries-none, entries-length, total-turn, asked-kept, asked-more}
-use Rattle.types.proofs.Restrictions.{restricts, restrictions-few}
-use Rattle.types.proofs.Turns.{Filled, fill-start}
+use Rattle.types.specs.Code.Words.{width, negated}
+use Rattle.types.proofs.Invariants.Lists.{entries, entry, entries-none, entries-length, total-turn, asked-kept}
+use Rattle.types.proofs.Invariants.Lists.{asked-more}
+use Rattle.types.proofs.Refinement.Restrictions.{restricts, restrictions-few}
+use Rattle.types.proofs.Invariants.Tables.{Filled, fill-start}
 use Rattle.types.proofs.restrict.list_restrictions.Statement.{statement}
 use Rattle.types.proofs.restrict.list_restrictions.Tie as tie
 

@@ -4,8 +4,8 @@ use Prim.Native.Nat.{ℕ, _-_, _≤_}
 use native.Mathlib.Omega.{arith}
 use mathlib.Core.Path.{_≡_, refl, _∙_}
 use denote.Ref.{now}
-use Rattle.types.specs.Elimination.{otherRole}
-use Rattle.types.proofs.Turns.{wordFrom, word-start, word-turn, word-end, word-bound}
+use Rattle.types.specs.Code.Elimination.{otherRole}
+use Rattle.types.proofs.Invariants.Tables.{wordFrom, word-start, word-turn, word-end, word-bound}
 use Rattle.types.proofs.restrict.others_of.Statement.{statement}
 use Rattle.types.proofs.restrict.others_of.Tie as tie
 

@@ -8,9 +8,8 @@ use mathlib.Core.Path.{_≡_, _∙_}
 use lib.ListN.{getD}
 use borrow.Author.Needs.{needs}
 use denote.Ref.{now}
-use Rattle.records.specs.Format.{recordLimit}
-use Rattle.types.specs.Words.{signed}
-use Rattle.types.proofs.Turns.{wordFrom, word-start, word-turn, word-end, word-bound}
+use Rattle.types.specs.Code.Words.{signed}
+use Rattle.types.proofs.Invariants.Tables.{wordFrom, word-start, word-turn, word-end, word-bound}
 use Rattle.types.proofs.restrict.words_of.Statement.{statement}
 use Rattle.types.proofs.restrict.words_of.Tie as tie
 

@@ -9,17 +9,18 @@ use mathlib.Core.Path.{_≡_, refl, sym, ap, _∙_}
 use lib.ListN.{getD}
 use borrow.Author.Needs.{needs}
 use denote.Ref.{now}
-use Rattle.records.proofs.Accepted.{accepted-vocabulary}
-use Rattle.records.proofs.Ranks.{rank-mono, rank-next, rank-below}
-use Rattle.records.specs.Atoms.{atoms, digit, rank}
+use Rattle.records.proofs.Theorems.Accepted.{accepted-vocabulary}
+use Rattle.records.proofs.Theorems.Ranks.{rank-mono, rank-next, rank-below}
+use Rattle.records.specs.Atoms.{atoms, rank}
+use Rattle.records.specs.Finite.{digit}
 use Rattle.records.specs.Format.{count, recordAt, recordLimit}
 use Rattle.records.specs.Kinds.{isAtom}
 use Rattle.records.specs.declared.fields.Record.{Record}
 use Rattle.types.specs.Compare.{atomLimit}
-use Rattle.types.specs.Rules.{AtomsListed}
-use Rattle.types.proofs.Listing.{entries, entry, entries-none, entries-length, entry-sound, entry-number, entry-at}
-use Rattle.types.proofs.Listing.{total-turn, asked-kept, asked-more}
-use Rattle.types.proofs.Turns.{Filled, fill-start}
+use Rattle.types.specs.Code.Rules.{AtomsListed}
+use Rattle.types.proofs.Invariants.Lists.{entries, entry, entries-none, entries-length, entry-sound, entry-number}
+use Rattle.types.proofs.Invariants.Lists.{entry-at, total-turn, asked-kept, asked-more}
+use Rattle.types.proofs.Invariants.Tables.{Filled, fill-start}
 use Rattle.types.proofs.truth.list_atoms.Statement.{statement}
 use Rattle.types.proofs.truth.list_atoms.Tie as tie
 

@@ -10,17 +10,17 @@ use lib.ListN.{getD, set}
 use lib.Seq.{getD-set-other}
 use borrow.Author.Needs.{needs}
 use denote.Ref.{now}
-use Rattle.records.proofs.Accepted.{Accepted, accepted-vocabulary}
-use Rattle.records.proofs.Constructs.{construct-earlier, construct-atom}
+use Rattle.records.proofs.Theorems.Accepted.{Accepted, accepted-vocabulary}
+use Rattle.records.proofs.Theorems.Constructs.{construct-earlier, construct-atom}
 use Rattle.records.specs.Atoms.{rank}
 use Rattle.records.specs.Format.{count, recordAt, recordLimit}
 use Rattle.records.specs.Kinds.{constructOf, isAtom}
-use Rattle.types.specs.Below.{bit}
-use Rattle.types.specs.Rules.{Decoded, select, ruleOf, firstOf, secondOf}
+use Rattle.records.specs.Finite.{bit}
+use Rattle.types.specs.Code.Rules.{Decoded, select, ruleOf}
 use Rattle.types.specs.Types.{truth}
-use Rattle.types.proofs.Connects.{rule-connects, operands-earlier}
-use Rattle.types.proofs.Truths.{truth-eq, connect-cong}
-use Rattle.types.proofs.Turns.{Filled, fill-start, fill-turn}
+use Rattle.types.proofs.Refinement.TruthRules.{rule-connects, operands-earlier}
+use Rattle.types.proofs.Theorems.Truth.{truth-eq, connect-cong}
+use Rattle.types.proofs.Invariants.Tables.{Filled, fill-start, fill-turn}
 use Rattle.types.proofs.truth.truths.Statement.{statement}
 use Rattle.types.proofs.truth.truths.Tie as tie
 

@@ -3,7 +3,7 @@
 -- Assumes nothing.
 use Prim.Native.Nat.{_+_, _-_}
 use native.Mathlib.Omega.{arith}
-use Rattle.types.proofs.Spreading.{Joining, join-start, join-turn, join-end}
+use Rattle.types.proofs.Invariants.Zeta.{Joining, join-start, join-turn, join-end}
 use Rattle.types.proofs.words.join_block.Statement.{statement}
 use Rattle.types.proofs.words.join_block.Tie as tie
 

@@ -4,7 +4,7 @@
 use Prim.Native.Nat.{_+_, _-_, _*_, _≤_}
 use native.Mathlib.Omega.{arith}
 use mathlib.Core.Path.{_∙_}
-use Rattle.types.proofs.Spreading.{shifted, Paired, pair-start, pair-room, pair-less, pair-turn, spreads-end}
+use Rattle.types.proofs.Invariants.Zeta.{shifted, Paired, pair-start, pair-room, pair-less, pair-turn, spreads-end}
 use Rattle.types.specs.Compare.{atomLimit, typeLimit}
 use Rattle.types.proofs.words.spread_blocks.Statement.{statement}
 use Rattle.types.proofs.words.spread_blocks.Tie as tie

@@ -3,7 +3,7 @@
 -- Assumes nothing.
 use Prim.Native.Nat.{_-_}
 use native.Mathlib.Omega.{arith}
-use Rattle.types.proofs.Spreading.{Stepped, step-start, step-back, step-less, step-turn, spreads-end}
+use Rattle.types.proofs.Invariants.Zeta.{Stepped, step-start, step-back, step-less, step-turn, spreads-end}
 use Rattle.types.proofs.words.spread_near.Statement.{statement}
 use Rattle.types.proofs.words.spread_near.Tie as tie
 

@@ -5,8 +5,8 @@ use Prim.Native.Nat.{_-_, _^_, _≤_}
 use native.Mathlib.Omega.{arith}
 use mathlib.Core.Path.{_∙_}
 use Rattle.types.specs.Compare.{atomLimit}
-use Rattle.types.specs.Elimination.{SpreadTo}
-use Rattle.types.proofs.Spreading.{words-room, spread-start, spread-turn, spread-end}
+use Rattle.types.specs.Code.Elimination.{SpreadTo}
+use Rattle.types.proofs.Invariants.Zeta.{words-room, spread-start, spread-turn, spread-end}
 use Rattle.types.proofs.words.spread_words.Statement.{statement}
 use Rattle.types.proofs.words.spread_words.Tie as tie
 

@@ -4,8 +4,8 @@
 use native.Mathlib.Omega.{arith}
 use mathlib.Core.Path.{_∙_}
 use borrow.Author.Needs.{needs}
-use Rattle.columns.specs.Packed.{literals}
-use Rattle.scripts.proofs.Frames.{open-none, open-some, listed-some}
+use Rattle.columns.specs.Code.Packed.{literals}
+use Rattle.scripts.proofs.Refinement.Frames.{open-none, open-some, listed-some}
 use Rattle.scripts.proofs.machine.Machine.extend.Statement.{statement}
 use Rattle.scripts.proofs.machine.Machine.extend.Tie as tie
 

@@ -7,7 +7,7 @@ use lib.ListN.{length}
 use denote.Ref.{now}
 use borrow.Author.Needs.{needs}
 use Rattle.scripts.specs.Calculus.{frameLimit}
-use Rattle.scripts.proofs.Frames.{entries-length, listed-some, frames-push, stands-push}
+use Rattle.scripts.proofs.Refinement.Frames.{entries-length, listed-some, frames-push, stands-push}
 use Rattle.scripts.proofs.machine.Machine.open_frame.Statement.{statement}
 use Rattle.scripts.proofs.machine.Machine.open_frame.Tie as tie
 
