@@ -17,7 +17,7 @@ use Rattle.records.specs.Check.{vocabularyCheck}
 use Rattle.records.specs.Call.{recordCall}
 use Rattle.records.proofs.Theorems.Bounds.{Small, vocabulary-small, record-small}
 use Rattle.records.proofs.Laws.Passed.{clash}
-use Rattle.types.specs.Compare.{Verdict, equal, different, comparison}
+use Rattle.types.specs.Comparison.{Verdict, equal, different, comparison}
 use Rattle.types.proofs.Theorems.Bounds.{SmallVerdict, most, comparison-small}
 use Rattle.scripts.specs.Run.{scriptCheck}
 use Rattle.scripts.proofs.Theorems.Bounds.{mostPlace, script-small, query-below}

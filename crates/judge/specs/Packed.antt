@@ -2,7 +2,7 @@
 use Prim.Native.Nat.{ℕ, _+_, _*_, _^_}
 use mathlib.Core.Bool.{Bool, true, false}
 use Rattle.records.specs.Outcome.{Outcome, accepted, refused}
-use Rattle.types.specs.Compare.{Verdict, equal, different}
+use Rattle.types.specs.Comparison.{Verdict, equal, different}
 
 -- "Bits 0-7: the refusal number, 0 where there is none."
 abbrev pub numberOf : Outcome ℕ → ℕ

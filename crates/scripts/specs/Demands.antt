@@ -14,8 +14,8 @@ use Rattle.records.specs.Call.{recordCall, recordPart}
 use Rattle.records.specs.Finite.{occurs}
 use Rattle.records.specs.Atoms.{atoms}
 use Rattle.types.specs.Meaning.{Interpretation, Element, belongs, Model, AlwaysEqual, AlwaysWithin}
-use Rattle.types.specs.Compare.{Verdict, equal, different, termCheck, comparison}
-use Rattle.types.specs.Form.{written, readBack}
+use Rattle.types.specs.Comparison.{Verdict, equal, different, termCheck, comparison}
+use Rattle.types.specs.Bitmap.{written, readBack}
 use Rattle.scripts.specs.Format.{queryOf, chain}
 use Rattle.scripts.specs.Form.{formCheck}
 use Rattle.scripts.specs.Calculus.{Derives}

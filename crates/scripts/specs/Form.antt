@@ -8,7 +8,7 @@ use Rattle.records.specs.Finite.{allZero, anyBelow}
 use Rattle.records.specs.Outcome.{Check, _then_, require, inTurn}
 use Rattle.records.specs.Format.{recordAt, count}
 use Rattle.records.specs.Kinds.{isRestriction}
-use Rattle.types.specs.Compare.{termCheck}
+use Rattle.types.specs.Comparison.{termCheck}
 use Rattle.columns.specs.Columns.{Query, Column, columnAt, takesY}
 use Rattle.scripts.specs.Steps.{Extension, Step, start, extension, reduction}
 use Rattle.scripts.specs.Format.{entrySize, entryLimit, entryAt, entries, queryOf, firstStep, Line, blank, named, applied}

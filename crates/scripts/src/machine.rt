@@ -141,15 +141,15 @@ impl Machine {
     }
 
     // The goal is connected with a column, whose other literals are the next frame; with none it is closed.
-    pub fn extend(self, table: &mut [u64; Machine::PLACES], others: Column) -> Self
+    pub fn extend(self, table: &mut [u64; Machine::PLACES], remainder: Column) -> Self
         requires { ⌜ Standing (now table) (self .closed) (self .depth) ⌝ }
-        requires { ⌜ (0 < others .first → self .depth < frameLimit) ⌝ }
-        ensures { λ r. ⌜ Shows (now (table .exit)) r (extendBy (literals others) (framesOf (now (table .entry)) self)) ⌝ }
+        requires { ⌜ (0 < remainder .first → self .depth < frameLimit) ⌝ }
+        ensures { λ r. ⌜ Shows (now (table .exit)) r (extendBy (literals remainder) (framesOf (now (table .entry)) self)) ⌝ }
     {
-        if others.first == 0 {
+        if remainder.first == 0 {
             return self.close(table);
         }
-        self.open_frame(table, others)
+        self.open_frame(table, remainder)
     }
 
     // The goal is connected with the goal of a lower frame.

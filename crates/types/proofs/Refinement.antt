@@ -5,6 +5,6 @@ mod Signed
 mod Words
 mod Allowed
 mod Served
-pub mod Summaries
+pub mod TypeData
 pub mod Rounds
 pub mod Outcomes

@@ -1,7 +1,7 @@
 -- When literals and columns hold.
 --   beq-is, is-beq                 a test of signs
 --   Says, says-holds, holds-says   what a literal says, and the test of it
---   complement-holds               a complement holds if the literal does not
+--   complement-holds               a complement literalsHold if the literal does not
 --   lone-false                     a column of one literal, whose complement is so, does not hold
 --   follows-false                  nor one with a literal and the complement of what follows from it
 --   joint-false                    nor one with two literals and the complement of what follows from both
@@ -13,7 +13,7 @@ use mathlib.Core.List.{List, [], _∷_}
 use Rattle.records.proofs.Laws.Passed.{clash}
 use Rattle.types.specs.Meaning.{Interpretation, belongs}
 use Rattle.columns.specs.Literals.{Literal, concept, role, complement}
-use Rattle.columns.specs.Holding.{literalHolds, holds}
+use Rattle.columns.specs.Holding.{literalHolds, literalsHold}
 
 pub beq-is : (s b : Bool) → Bool·beq s b ≡ true → b ≡ s
 beq-is true true e = refl
@@ -59,18 +59,18 @@ module _ (I : Interpretation) (v : List ℕ) where
   complement-holds (concept s i d) = beq-not s (belongs I v i d)
   complement-holds (role s r d e) = beq-not s (I .roles r d e)
 
-  pub lone-false : (l : Literal ℕ) → Says l → holds I v (complement l ∷ []) ≡ false
-  unfolding holds
+  pub lone-false : (l : Literal ℕ) → Says l → literalsHold I v (complement l ∷ []) ≡ false
+  unfolding literalsHold
   lone-false l h = rw (complement-holds l, says-holds l h)
 
-  pub follows-false : (l m : Literal ℕ) → (Says l → Says m) → holds I v (l ∷ complement m ∷ []) ≡ false
-  unfolding holds
+  pub follows-false : (l m : Literal ℕ) → (Says l → Says m) → literalsHold I v (l ∷ complement m ∷ []) ≡ false
+  unfolding literalsHold
   follows-false l m h =
       rw (complement-holds m)
       (follows (literalHolds I v l) (literalHolds I v m) (λ e. says-holds m (h (holds-says l e))))
 
-  pub joint-false : (l m n : Literal ℕ) → (Says m → Says n → Says l) → holds I v (complement l ∷ m ∷ n ∷ []) ≡ false
-  unfolding holds
+  pub joint-false : (l m n : Literal ℕ) → (Says m → Says n → Says l) → literalsHold I v (complement l ∷ m ∷ n ∷ []) ≡ false
+  unfolding literalsHold
   joint-false l m n h =
       rw (complement-holds l)
       (joint (literalHolds I v l) (literalHolds I v m) (literalHolds I v n)

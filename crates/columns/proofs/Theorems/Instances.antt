@@ -1,7 +1,7 @@
 -- What the literals of an instance say of the elements that its terms stand for.
 --   value-element    a term stands for an element
 --   instance-value   an instance's literals say what the column's do at those elements
---   instance-false   where no column holds, no instance does
+--   instance-false   where no column literalsHold, no instance does
 -- Assumes nothing.
 use Prim.Native.Nat.{ℕ, _<_}
 use mathlib.Core.Path.{_≡_, refl, ap, ap₂, fun-ext, _∙_}
@@ -11,7 +11,7 @@ use lib.ListN.{length}
 use Rattle.types.specs.Meaning.{Interpretation, Element}
 use Rattle.columns.specs.Literals.{SkolemTerm, constant, apply, Literal, concept, role, substitute}
 use Rattle.columns.specs.Columns.{Argument, x, y, fx, a, Column, Query, arguments, columnsAt, columnAt, instanceAt}
-use Rattle.columns.specs.Holding.{holds, Choice, NoneHolds, value}
+use Rattle.columns.specs.Holding.{literalsHold, Choice, NoneHolds, value}
 
 module _ (I : Interpretation) (k : Choice I) where
   value-element : (t : SkolemTerm) → Element I (value k t)
@@ -44,7 +44,7 @@ module _ (I : Interpretation) (k : Choice I) where
         ∙ ap (λ (f : Literal Argument → Literal ℕ). map f c) (fun-ext literal-value)
 
     pub instance-false : (v : List ℕ) (q : Query) → NoneHolds I k v q → (n : ℕ) → n < length (columnsAt v q owner)
-        → holds I v (map (substitute (value k)) (instanceAt owner t u (columnAt v q owner n))) ≡ false
+        → literalsHold I v (map (substitute (value k)) (instanceAt owner t u (columnAt v q owner n))) ≡ false
     instance-false v q none n h =
-        ap (holds I v) (instance-value (columnAt v q owner n))
+        ap (literalsHold I v) (instance-value (columnAt v q owner n))
         ∙ none owner n (value k t) (value k u) (value-element t) (value-element u) h

@@ -27,7 +27,7 @@ use Rattle.records.proofs.Laws.Search.{any-intro, any-elim}
 use Rattle.records.proofs.Theorems.Accepted.{Accepted, All, all-at}
 use Rattle.records.proofs.Laws.Ranges.{statement-kind}
 use Rattle.records.proofs.Theorems.Constructs.{stating, construct-statement, construct-inclusion}
-use Rattle.types.specs.Meaning.{Interpretation, Element, Restriction, some, all, plain, restrictionOf, restrictionAt, connect}
+use Rattle.types.specs.Meaning.{Interpretation, Element, Restriction, some, all, plain, restrictionOf, restrictionAt, evaluate}
 use Rattle.types.specs.Meaning.{atomAt, belongs, Model}
 use Rattle.records.proofs.Laws.Tests.{both-true, implies-rest, unless-true}
 use Rattle.records.proofs.Laws.Below.{least-holds, least-before}
@@ -160,10 +160,10 @@ module _ (v : List ℕ) (good : Accepted v) (q : Query) (I : Interpretation) (mo
 
   module _ (i d e : ℕ) (at : Element I d) (to : Element I e) where
     belongs-says : (c : Construct) → constructOf (recordAt v i) ≡ c
-        → belongs I v i d ≡ connect c (atomAt I i (restrictionOf c) (belongs I v) d) (λ j. belongs I v j d)
+        → belongs I v i d ≡ evaluate c (atomAt I i (restrictionOf c) (belongs I v) d) (λ j. belongs I v j d)
     belongs-says c m =
         belongs-eq v good I i d
-        ∙ ap (λ (c : Construct). connect c (atomAt I i (restrictionOf c) (belongs I v) d) (λ j. belongs I v j d)) m
+        ∙ ap (λ (c : Construct). evaluate c (atomAt I i (restrictionOf c) (belongs I v) d) (λ j. belongs I v j d)) m
 
     junction-none : (s : Bool) (j k : ℕ) → (belongs I v i d ≡ s → belongs I v j d ≡ s)
         → (belongs I v i d ≡ s → belongs I v k d ≡ s)

@@ -45,15 +45,15 @@ abbrev pub packedBy : Terms → Column → List ℕ
 packedBy at c = packedAt (at .x) (at .y) (at .fx) c
 
 -- Up to three numbers, of which the first that is 0 ends the list.
-abbrev pub listed : ℕ → ℕ → ℕ → List ℕ
-listed zero m n = []
-listed (suc l) zero n = suc l ∷ []
-listed (suc l) (suc m) zero = suc l ∷ suc m ∷ []
-listed (suc l) (suc m) (suc n) = suc l ∷ suc m ∷ suc n ∷ []
+abbrev pub untilZero : ℕ → ℕ → ℕ → List ℕ
+untilZero zero m n = []
+untilZero (suc l) zero n = suc l ∷ []
+untilZero (suc l) (suc m) zero = suc l ∷ suc m ∷ []
+untilZero (suc l) (suc m) (suc n) = suc l ∷ suc m ∷ suc n ∷ []
 
 -- The literals of a column as the code keeps it.
 abbrev pub literals : code.Column → List ℕ
-literals c = listed (c .first) (c .second) (c .third)
+literals c = untilZero (c .first) (c .second) (c .third)
 
 -- How many literals a column has, and whether y stands in it.
 pub record HasShape (s : Shape) (c : Column) : Type 0 where

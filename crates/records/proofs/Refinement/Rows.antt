@@ -16,7 +16,7 @@ use borrow.Author.Tests.{eq-eqb, ne-eqb, eqb-true}
 use Rattle.records.specs.Outcome.{Check, accepted, refused, pass, _then_, require}
 use Rattle.records.specs.Format.{recordAt}
 use Rattle.records.specs.Kinds.{sortsOf, Sorts}
-use Rattle.records.specs.Check.{fits, row, clear, rowFits, rowsCheck, linkFits, headCheck}
+use Rattle.records.specs.Check.{sortFits, row, clear, rowFits, rowsCheck, linkFits, headCheck}
 use Rattle.records.specs.Code.Fields.{fieldFits, allFit, noFault, firstOf}
 use Rattle.records.specs.declared.fields.Record.{Record}
 use Rattle.records.specs.declared.kinds.Sort.{Sort}
@@ -95,10 +95,10 @@ module _ (v : List ℕ) (i : ℕ) where
   clear-fault n Link x h = rw (ne-eqb 8 n (λ e. omega arith), ne-eqb noFault n (λ e. omega arith))
 
   fault-known : (sort : Sort) (x : ℕ) → (4 ≤ fault sort x) × (7 < fault sort x → fault sort x ≡ noFault)
-  fault-known Spare x = either-row (fits v i Spare x) 4 (omega arith) (omega arith)
-  fault-known Term x = either-row (fits v i Term x) 5 (omega arith) (omega arith)
-  fault-known Role x = either-row (fits v i Role x) 6 (omega arith) (omega arith)
-  fault-known Label x = either-row (fits v i Label x) 7 (omega arith) (omega arith)
+  fault-known Spare x = either-row (sortFits v i Spare x) 4 (omega arith) (omega arith)
+  fault-known Term x = either-row (sortFits v i Term x) 5 (omega arith) (omega arith)
+  fault-known Role x = either-row (sortFits v i Role x) 6 (omega arith) (omega arith)
+  fault-known Label x = either-row (sortFits v i Label x) 7 (omega arith) (omega arith)
   fault-known Link x = (omega arith, λ z. refl)
 
 module _ (v : List ℕ) (i : ℕ) (s : Sorts) (r : Record) where

@@ -1,8 +1,8 @@
 -- What acceptance gives the crates above: fields hold what their sorts say, so that operands are earlier terms and roles are
 -- below the count; labels differ, and links lead to later statements.
---   All, all-at, all-map                what holds of every entry of a list
---   Parts, partsOf, Over, over-map                a construct's class, its roles and its operands; what holds of each operand
---   Operand, Linked, Held, Formed, Accepted   what is told of a field, of a record, of a vocabulary
+--   All, all-at, all-map                what sorts of every entry of a list
+--   Parts, partsOf, Over, over-map                a construct's class, its roles and its operands; what sorts of each operand
+--   Operand, Linked, Held, WellFounded, Accepted   what is told of a field, of a record, of a vocabulary
 --   well-formed-vocabulary              a vocabulary that passed rows 1 to 8 is Accepted
 --   accepted-well-formed                one that the vocabulary check accepts passed them
 --   accepted-vocabulary                 and so is Accepted
@@ -19,7 +19,7 @@ use borrow.Author.Tests.{ltb-true, leb-true, eqb-true, eq-eqb, not-true}
 use Rattle.records.specs.Outcome.{accepted, pass, _then_, inTurn}
 use Rattle.records.specs.Format.{roleLimit, recordAt, count, firstStatement, roleCount}
 use Rattle.records.specs.Kinds.{Construct, none, top, bottom, name, negation, conjunction, disjunction, existential}
-use Rattle.records.specs.Kinds.{universal, inclusion, holds, negationFields, restrictionFields, Class, Silent, Connective}
+use Rattle.records.specs.Kinds.{universal, inclusion, sorts, negationFields, restrictionFields, Class, Silent, Connective}
 use Rattle.records.specs.Kinds.{Name, Restriction, Statement, Kind, noKind, kinds, kindOf, sortsOf, isTerm, isStatement}
 use Rattle.records.specs.Kinds.{Sorts}
 use Rattle.records.specs.Check.{headCheck, lengthCheck, headerFits, headerCheck, kindCheck, named, labelled, termFits}
@@ -35,7 +35,7 @@ use Rattle.records.proofs.Theorems.Following.{Ahead, Onward}
 use Rattle.records.proofs.Laws.Ranges.{statement-range, statement-kind}
 use Rattle.records.proofs.Refinement.Rows.{rows-passed}
 
--- What holds of every entry of a list holds of the entry at an index, and so does what follows from it.
+-- What sorts of every entry of a list sorts of the entry at an index, and so does what follows from it.
 abbrev pub All : {A : Type 0} → (A → Type 0) → List A → Type 0
 All P [] = Unit {0}
 All P (x ∷ xs) = P x × All P xs
@@ -104,7 +104,7 @@ Later v i x = Ahead (IsStatement v) (count v) i x
 abbrev pub Linked : List ℕ → ℕ → ℕ → Type 0
 Linked v i x = Onward (IsStatement v) (count v) i x
 
--- x fits a field of record i that holds this sort. (A link is looked at after all records.)
+-- x fits a field of record i that sorts this sort. (A link is looked at after all records.)
 abbrev pub Held : List ℕ → ℕ → Sort → ℕ → Type 0
 Held v i Spare x = x ≡ 0
 Held v i Term x = Operand v i x
@@ -118,8 +118,8 @@ pub record Fields (v : List ℕ) (i : ℕ) (s : Sorts) (r : Record) : Type 0 whe
   pub next : Held v i (s .next) (r .next)
 
 -- What record i says is about earlier terms and roles below the count.
-abbrev pub Formed : List ℕ → ℕ → Construct → Type 0
-Formed v i c = RoleBelow (roleCount v) c × Over (Operand v i) c
+abbrev pub WellFounded : List ℕ → ℕ → Construct → Type 0
+WellFounded v i c = RoleBelow (roleCount v) c × Over (Operand v i) c
 
 pub record Accepted (v : List ℕ) : Type 0 where
   pub sized : Sized v
@@ -179,25 +179,25 @@ module _ (v : List ℕ) (i : ℕ) where
       rows-held (sortsOf (r .kind)) r (then-passed (kindCheck r i) (rowsCheck v i (sortsOf (r .kind)) r) tt e .1)
 
   -- what the fields of a record hold, and what it says
-  abbrev FieldsFormed : Record → Kind → Type 0
-  FieldsFormed r k = Fields v i (k .fields) r → Formed v i (k .says r)
+  abbrev FieldsWellFounded : Record → Kind → Type 0
+  FieldsWellFounded r k = Fields v i (k .fields) r → WellFounded v i (k .says r)
 
-  pub fields-formed : (r : Record) (k : ℕ) → FieldsFormed r (kindOf k)
+  pub fields-well-founded : (r : Record) (k : ℕ) → FieldsWellFounded r (kindOf k)
   unfolding kindOf
-  fields-formed r k =
-      all-default (FieldsFormed r) kinds noKind nothing
+  fields-well-founded r k =
+      all-default (FieldsWellFounded r) kinds noKind nothing
       (nothing, (nothing, (nothing, (nothing, (one, (two, (two, (restricted, (restricted, (two, tt)))))))))) k
     where
-      nothing : {s : Sorts} → Fields v i s r → Formed v i none
+      nothing : {s : Sorts} → Fields v i s r → WellFounded v i none
       nothing f = (tt, tt)
 
-      one : Fields v i negationFields r → Formed v i (negation (r .a))
+      one : Fields v i negationFields r → WellFounded v i (negation (r .a))
       one f = (tt, (f .a, tt))
 
-      two : {next : Sort} → Fields v i (holds Term Term next) r → Formed v i (conjunction (r .a) (r .b))
+      two : {next : Sort} → Fields v i (sorts Term Term next) r → WellFounded v i (conjunction (r .a) (r .b))
       two f = (tt, (f .a, (f .b, tt)))
 
-      restricted : Fields v i restrictionFields r → Formed v i (existential (r .a) (r .b))
+      restricted : Fields v i restrictionFields r → WellFounded v i (existential (r .a) (r .b))
       restricted f = ((f .a, tt), (f .b, tt))
 
   record-unlabelled : Fields v i (sortsOf (recordAt v i .kind)) (recordAt v i) → recordAt v i .kind ≡ 3

@@ -22,8 +22,8 @@ use Rattle.records.specs.Kinds.{Kind, noKind, kindOf, kinds, isAtom, isR
 use Rattle.records.specs.declared.fields.Record.{Record}
 use Rattle.records.proofs.Laws.Passed.{Sized}
 use Rattle.records.proofs.Laws.Ranges.{tested, kind-tested, same-true}
-use Rattle.records.proofs.Theorems.Accepted.{Accepted, all-default, Formed, Operand, Over, over-map, partsOf}
-use Rattle.records.proofs.Theorems.Accepted.{fields-formed}
+use Rattle.records.proofs.Theorems.Accepted.{Accepted, all-default, WellFounded, Operand, Over, over-map, partsOf}
+use Rattle.records.proofs.Theorems.Accepted.{fields-well-founded}
 pub use Rattle.records.proofs.Laws.Ranges.{kind-past}
 pub use Rattle.records.proofs.Theorems.Accepted.{RoleBelow}
 
@@ -46,11 +46,11 @@ abbrev pub Earlier : ℕ → Construct → Type 0
 Earlier i c = Over (λ j. j < i) c
 
 module _ (v : List ℕ) (good : Accepted v) where
-  pub construct-formed : (i : ℕ) → 0 < i → i < count v → Formed v i (constructOf (recordAt v i))
-  construct-formed i l h = fields-formed v i (recordAt v i) (recordAt v i .kind) (good .fields i l h)
+  pub construct-well-founded : (i : ℕ) → 0 < i → i < count v → WellFounded v i (constructOf (recordAt v i))
+  construct-well-founded i l h = fields-well-founded v i (recordAt v i) (recordAt v i .kind) (good .fields i l h)
 
   pub construct-role : (i : ℕ) → 0 < i → i < count v → RoleBelow (roleCount v) (constructOf (recordAt v i))
-  construct-role i l h = construct-formed i l h .0
+  construct-role i l h = construct-well-founded i l h .0
 
   silent : (i : ℕ) → kindOf (recordAt v i .kind) ≡ noKind → constructOf (recordAt v i) ≡ none
   silent i e = ap (λ (k : Kind). k .says (recordAt v i)) e
@@ -68,7 +68,7 @@ module _ (v : List ℕ) (good : Accepted v) where
   construct-over (suc i) = at (decLt (suc i) (count v))
     where
       at : Dec (suc i < count v) → Over (Operand v (suc i)) (constructOf (recordAt v (suc i)))
-      at (yes h) = construct-formed (suc i) (omega arith) h .1
+      at (yes h) = construct-well-founded (suc i) (omega arith) h .1
       at (no n) = subst (Over (Operand v (suc i))) (sym (past-silent (suc i) (omega arith))) tt
 
   pub construct-earlier : (i : ℕ) → Earlier i (constructOf (recordAt v i))

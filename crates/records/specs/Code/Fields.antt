@@ -7,13 +7,13 @@ use lib.ListN.{length}
 use lib.Dec.{eqb}
 use Rattle.records.specs.Format.{recordSize, roleCount}
 use Rattle.records.specs.Kinds.{Sorts}
-use Rattle.records.specs.Check.{fits, row}
+use Rattle.records.specs.Check.{sortFits, row}
 use Rattle.records.specs.declared.fields.Record.{Record}
 use Rattle.records.specs.declared.kinds.Sort.{Sort}
 
 -- Rows 4 to 7 have nothing against x in a field of record i that holds this sort. Row 8 comes after all records.
 abbrev pub fieldFits : List ℕ → ℕ → Sort → ℕ → Bool
-fieldFits v i sort x = eqb (row sort) 8 || fits v i sort x
+fieldFits v i sort x = eqb (row sort) 8 || sortFits v i sort x
 
 -- Of the fields that do not fit, the smallest row is the first that applies (proofs/Rows.antt); above all rows, where all fit.
 abbrev pub noFault : ℕ

@@ -25,7 +25,7 @@ use Rattle.scripts.specs.Code.Machine.{framesFrom}
 use Rattle.scripts.specs.Code.Numbered.{numbered}
 use Rattle.scripts.specs.Code.Tested.{stepsAfter, runAfter}
 use Rattle.scripts.specs.Code.Ready.{IsStep, Reached}
-use Rattle.scripts.proofs.Theorems.Form.{Formed, IsStepAt, OnChain}
+use Rattle.scripts.proofs.Theorems.Form.{KeepsForm, IsStepAt, OnChain}
 
 pub standing : (s : List ℕ) (i : ℕ) → Reached s i → (i ≡ 0 → ⊥) → IsStep s i
 standing s i (inl e) n = absurd (n e)
@@ -54,7 +54,7 @@ pub record Walk (v s : List ℕ) (whole : Outcome ℕ) (frames : Frames ℕ) (la
   pub run : whole ≡ outcome v s frames last at steps
   pub few : steps + length (chainFrom s at) ≤ suc entryLimit
 
-module _ (v s : List ℕ) (f : Formed v s) where
+module _ (v s : List ℕ) (f : KeepsForm v s) where
   pub chain-at : (i : ℕ) → IsStep s i → chainFrom s i ≡ i ∷ chainFrom s (nextStep s i)
   chain-at i t = follow-step (nextStep s) (IsStepAt s) (entries s) (f .links) 0 i (step-ahead s i t)
 
@@ -117,10 +117,10 @@ module _ (v s : List ℕ) (f : Formed v s) where
         a ∙ (rw (r) (sym (w .run ∙ (further t ∙ rw no))))
 
 -- no frame is open exactly at depth 0
-nil-told : (table closed : List ℕ) (n : ℕ) → eqb n 0 ≡ isNil (framesFrom table closed n)
+nil-frames : (table closed : List ℕ) (n : ℕ) → eqb n 0 ≡ isNil (framesFrom table closed n)
 unfolding framesFrom
-nil-told table closed zero = refl
-nil-told table closed (suc n) = ne-eqb (suc n) 0 (λ z. absurd (omega arith))
+nil-frames table closed zero = refl
+nil-frames table closed (suc n) = ne-eqb (suc n) 0 (λ z. absurd (omega arith))
 
 pub walk-done : (v s : List ℕ) (whole : Outcome ℕ) (table closed : List ℕ) (n last at steps : ℕ)
     → Walk v s whole (framesFrom table closed n) last at steps → at ≡ 0 → (answer : Outcome ℕ) (k : Check)
@@ -129,4 +129,4 @@ unfolding run
 walk-done v s whole table closed n last at steps w z answer k e a =
     let none : chainFrom s at ≡ [] = rw z (chain-end s) in
     let same : steps + 0 ≡ steps = omega arith in
-    a ∙ (rw (e, nil-told table closed n) (sym (w .run ∙ rw (none, same))))
+    a ∙ (rw (e, nil-frames table closed n) (sym (w .run ∙ rw (none, same))))

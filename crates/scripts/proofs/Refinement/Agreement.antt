@@ -16,26 +16,26 @@ use Rattle.scripts.specs.Format.{entries, queryOf, termAt, recordStep, c
 use Rattle.scripts.specs.Form.{stepFits}
 use Rattle.scripts.specs.Run.{chainCheck, writtenOut, stepAt}
 use Rattle.scripts.specs.Code.Numbered.{numbered}
-use Rattle.scripts.proofs.Theorems.Form.{Formed, OnChain, chain-ahead, step-fits}
+use Rattle.scripts.proofs.Theorems.Form.{KeepsForm, OnChain, chain-ahead, step-fits}
 use Rattle.scripts.proofs.Refinement.Literals.{opposed-complementary}
 use Rattle.scripts.proofs.Laws.Correspondence.{Alike, Corresponds, chain-same}
-use Rattle.scripts.proofs.Refinement.Columns.{Means, about-constant, query-means, used-means}
+use Rattle.scripts.proofs.Refinement.Columns.{Denotes, about-constant, query-means, used-denotes}
 
-module _ (v s : List ℕ) (good : Accepted v) (f : Formed v s) where
-  numbers-alike : Alike (numbered v s) (writtenOut v (queryOf s)) (termAt s) (Means s)
+module _ (v s : List ℕ) (good : Accepted v) (f : KeepsForm v s) where
+  numbers-alike : Alike (numbered v s) (writtenOut v (queryOf s)) (termAt s) (Denotes s)
   numbers-alike =
       record {
-        opposed = λ l k m n p q. rw (p .number, q .number, p .meant, q .meant)
+        opposed = λ l k m n p q. rw (p .number, q .number, p .denoted, q .denoted)
             (opposed-complementary v s good f (p .literal) (q .literal) (p .valid) (q .valid));
         nothing = about-constant s false 0 (omega arith);
       }
 
   abbrev Matches : Step ℕ → Type 0
-  Matches t = Corresponds (numbered v s) (writtenOut v (queryOf s)) (termAt s) (Means s) t
+  Matches t = Corresponds (numbered v s) (writtenOut v (queryOf s)) (termAt s) (Denotes s) t
 
   step-corresponds : (i : ℕ) (t : Step ℕ) → i ≤ entries s → stepFits v s i t ≡ true → Matches t
   step-corresponds i (start n) h e = query-means v s good f n 0 0 0 constant constant
-  step-corresponds i (extension x) h e = used-means v s good f i x h e
+  step-corresponds i (extension x) h e = used-denotes v s good f i x h e
   step-corresponds i (reduction k) h e = tt
 
   chain-corresponds : (is : List ℕ) → All (OnChain s) is → All (λ i. Matches (recordStep s i)) is
@@ -45,8 +45,8 @@ module _ (v s : List ℕ) (good : Accepted v) (f : Formed v s) where
     chain-corresponds is (a .1),
   )
 
-pub numbers-agree : (v s : List ℕ) → Accepted v → Formed v s
+pub numbers-agree : (v s : List ℕ) → Accepted v → KeepsForm v s
     → chainCheck (numbered v s) (recordStep s) (chain s) ≡ chainCheck (writtenOut v (queryOf s)) (stepAt s) (chain s)
 numbers-agree v s good f =
-    chain-same (numbered v s) (writtenOut v (queryOf s)) (termAt s) (Means s) (numbers-alike v s good f) (recordStep s) (chain s)
+    chain-same (numbered v s) (writtenOut v (queryOf s)) (termAt s) (Denotes s) (numbers-alike v s good f) (recordStep s) (chain s)
     (chain-corresponds v s good f (chain s) (chain-ahead v s f))

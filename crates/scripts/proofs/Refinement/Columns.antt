@@ -1,9 +1,9 @@
 -- A column at codes, as numbers, corresponds to the column at the terms that the codes stand for.
---   Means                           a number is that of a literal at codes, which means a literal about terms
+--   Denotes                           a number is that of a literal at codes, which means a literal about terms
 --   about-constant                  a literal about the constant
 --   literal-means, column-means     a literal, and a column, at codes and at their terms
 --   query-means                     a query column, which speaks of a alone
---   used-means                      the column of an extension, where row 18 passed
+--   used-denotes                      the column of an extension, where row 18 passed
 -- Assumes nothing.
 use Prim.Native.Nat.{ℕ, zero, suc, _≤_, _<_}
 use native.Mathlib.Omega.{arith}
@@ -17,57 +17,57 @@ use Rattle.columns.specs.Code.Packed.{packed, packedAt, predicateLimit}
 use Rattle.scripts.specs.Steps.{Extension, extension, extensionBy}
 use Rattle.scripts.specs.Format.{entries, queryOf, termAt}
 use Rattle.scripts.specs.Form.{stepFits}
-use Rattle.scripts.specs.Calculus.{used}
+use Rattle.scripts.specs.Calculus.{usedColumn}
 use Rattle.scripts.specs.Code.Codes.{codeOf, codeAt, codeTerm}
 use Rattle.scripts.specs.Code.Numbered.{secondCode, usedNumbers}
-use Rattle.scripts.proofs.Theorems.Form.{Formed}
+use Rattle.scripts.proofs.Theorems.Form.{KeepsForm}
 use Rattle.scripts.proofs.Refinement.Terms.{code-zero}
 use Rattle.scripts.proofs.Refinement.Literals.{Code, ValidLiteral, zero-code, Small, column-small}
 use Rattle.scripts.proofs.Refinement.Extensions.{Extends, extends, term-coded, second-coded, apply-coded}
 use Rattle.scripts.proofs.Laws.Correspondence.{Pairs}
 
-pub record Means (s : List ℕ) (n : ℕ) (l : Literal SkolemTerm) : Type 0 where
+pub record Denotes (s : List ℕ) (n : ℕ) (l : Literal SkolemTerm) : Type 0 where
   pub literal : Literal ℕ
   pub valid : ValidLiteral s literal
   pub number : n ≡ packed literal
-  pub meant : l ≡ substitute (codeTerm s) literal
+  pub denoted : l ≡ substitute (codeTerm s) literal
 
 pub about-constant : (s : List ℕ) (b : Bool) (i : ℕ) → i < predicateLimit
-    → Means s (packed (concept b i 0)) (concept b i constant)
+    → Denotes s (packed (concept b i 0)) (concept b i constant)
 about-constant s b i h =
     record {
       literal = concept b i 0;
       valid = (h, zero-code s .0, zero-code s .1);
       number = refl;
-      meant = ap (concept b i) (sym (code-zero s));
+      denoted = ap (concept b i) (sym (code-zero s));
     }
 
 -- σ gives each argument its code, τ the term that the code stands for.
 module _ (s : List ℕ) (σ : Argument → ℕ) (τ : Argument → SkolemTerm) (codes : (w : Argument) → Code s (σ w))
     (stands : (w : Argument) → codeTerm s (σ w) ≡ τ w) where
-  literal-means : (l : Literal Argument) → Small l → Means s (packed (substitute σ l)) (substitute τ l)
+  literal-means : (l : Literal Argument) → Small l → Denotes s (packed (substitute σ l)) (substitute τ l)
   literal-means (concept b i t) h =
       record {
         literal = concept b i (σ t);
         valid = (h, codes t .0, codes t .1);
         number = refl;
-        meant = ap (concept b i) (sym (stands t));
+        denoted = ap (concept b i) (sym (stands t));
       }
   literal-means (role b r t u) h =
       record {
         literal = role b r (σ t) (σ u);
         valid = (h, codes t .0, codes u .0, codes t .1, codes u .1);
         number = refl;
-        meant = ap₂ (role b r) (sym (stands t)) (sym (stands u));
+        denoted = ap₂ (role b r) (sym (stands t)) (sym (stands u));
       }
 
-  column-means : (c : Column) → All Small c → Pairs (Means s) (map (λ l. packed (substitute σ l)) c) (map (substitute τ) c)
+  column-means : (c : Column) → All Small c → Pairs (Denotes s) (map (λ l. packed (substitute σ l)) c) (map (substitute τ) c)
   column-means [] h = tt
   column-means (l ∷ c) h = (literal-means l (h .0), column-means c (h .1))
 
-module _ (v s : List ℕ) (good : Accepted v) (f : Formed v s) where
+module _ (v s : List ℕ) (good : Accepted v) (f : KeepsForm v s) where
   pub query-means : (n cx cy cf : ℕ) (tx ty : SkolemTerm)
-      → Pairs (Means s) (packedAt cx cy cf (columnAt v (queryOf s) 0 n)) (instanceAt 0 tx ty (columnAt v (queryOf s) 0 n))
+      → Pairs (Denotes s) (packedAt cx cy cf (columnAt v (queryOf s) 0 n)) (instanceAt 0 tx ty (columnAt v (queryOf s) 0 n))
   unfolding columnsAt
   query-means zero cx cy cf tx ty =
       (about-constant s false (queryOf s .a) (omega (arith, f .query .0 .0, good .sized .most)), tt)
@@ -76,7 +76,7 @@ module _ (v s : List ℕ) (good : Accepted v) (f : Formed v s) where
   query-means (suc (suc n)) cx cy cf tx ty = tt
 
   record-means : (e : Extension ℕ) → 0 < e .owner → Extends v s e
-      → Pairs (Means s) (usedNumbers v s e) (used v (queryOf s) (extensionBy (termAt s) e))
+      → Pairs (Denotes s) (usedNumbers v s e) (usedColumn v (queryOf s) (extensionBy (termAt s) e))
   record-means e l t =
       column-means s (arguments cx cy cf 0) (arguments tx (termAt s (e .second)) (apply (e .owner) tx) constant) codes stands
       (columnAt v (queryOf s) (e .owner) (e .column)) (column-small v s good f (e .owner) (e .column))
@@ -108,10 +108,10 @@ module _ (v s : List ℕ) (good : Accepted v) (f : Formed v s) where
 
   used-at : (owner n : ℕ) (t u p : ℕ)
       → let e : Extension ℕ = record { owner = owner; column = n; first = t; second = u; position = p } in
-      Extends v s e → Pairs (Means s) (usedNumbers v s e) (used v (queryOf s) (extensionBy (termAt s) e))
+      Extends v s e → Pairs (Denotes s) (usedNumbers v s e) (usedColumn v (queryOf s) (extensionBy (termAt s) e))
   used-at zero n t u p h = query-means n (codeAt s t) (secondCode s u) (codeOf 0 t) (termAt s t) (termAt s u)
   used-at (suc owner) n t u p h = record-means _ (omega arith) h
 
-  pub used-means : (i : ℕ) (e : Extension ℕ) → i ≤ entries s → stepFits v s i (extension e) ≡ true
-      → Pairs (Means s) (usedNumbers v s e) (used v (queryOf s) (extensionBy (termAt s) e))
-  used-means i e h fits = used-at (e .owner) (e .column) (e .first) (e .second) (e .position) (extends v s good f i e h fits)
+  pub used-denotes : (i : ℕ) (e : Extension ℕ) → i ≤ entries s → stepFits v s i (extension e) ≡ true
+      → Pairs (Denotes s) (usedNumbers v s e) (usedColumn v (queryOf s) (extensionBy (termAt s) e))
+  used-denotes i e h fits = used-at (e .owner) (e .column) (e .first) (e .second) (e .position) (extends v s good f i e h fits)

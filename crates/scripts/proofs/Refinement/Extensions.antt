@@ -24,7 +24,7 @@ use Rattle.scripts.specs.Code.Numbered.{secondCode}
 use Rattle.scripts.specs.Code.Ready.{Ready, IsExtension}
 use Rattle.scripts.specs.declared.entry.Entry.{Entry}
 use Rattle.scripts.proofs.Refinement.Lines.{step-extension}
-use Rattle.scripts.proofs.Theorems.Form.{Formed, formed}
+use Rattle.scripts.proofs.Theorems.Form.{KeepsForm, keeps-form}
 use Rattle.scripts.proofs.Refinement.Terms.{TermRecord, earlier-term, code-zero, header-term, apply-valid, apply-small}
 use Rattle.scripts.proofs.Refinement.Terms.{apply-term, code-valid, code-small, code-term}
 use Rattle.scripts.proofs.Refinement.Literals.{Code, zero-code, owner-below}
@@ -41,7 +41,7 @@ pub record Coded (s : List ℕ) (c : ℕ) (t : SkolemTerm) : Type 0 where
   pub code : Code s c
   pub stands : codeTerm s c ≡ t
 
-module _ (v s : List ℕ) (good : Accepted v) (f : Formed v s) where
+module _ (v s : List ℕ) (good : Accepted v) (f : KeepsForm v s) where
   pub extends : (i : ℕ) (e : Extension ℕ) → i ≤ entries s → stepFits v s i (extension e) ≡ true → Extends v s e
   extends i e h fits =
       let c = columnAt v (queryOf s) (e .owner) (e .column) in
@@ -82,6 +82,6 @@ module _ (v s : List ℕ) (good : Accepted v) (f : Formed v s) where
 pub read-extends : (v s : List ℕ) (marks : List Bool) (header : Entry) → Ready v s marks header → (i : ℕ) (e : Entry)
     → IsExtension s i e → Extends v s (extensionOf e)
 read-extends v s marks header r i e t =
-    let f = formed v s (r .form) in
+    let f = keeps-form v s (r .form) in
     extends v s (accepted-vocabulary v _ (r .begun .marked .vocabulary)) f i (extensionOf e) (omega (arith, t .step .within))
     (step-extension v s i e (t .kind) ∙ (rw (t .read) (f .steps i (t .step .positive) (t .step .within))))

@@ -2,7 +2,7 @@
 --   entries-length                                  how many entries an array has, as owning it tells
 --   literal-first, literal-second, literal-third    the literal at a position
 --   without-first, without-second, without-third    the literals without the one at a position
---   listed-few, listed-some, listed-none            at most three are listed; one at least, or none, by the first
+--   untilZero-few, untilZero-some, untilZero-none            at most three are untilZero; one at least, or none, by the first
 --   open-none, open-some                            a column's literals are the next frame; with none the goal is closed
 --   goal-first, goal-next                           a frame's goal, and whether a literal is open after it, by the table
 --   frames-length, frame-at                         there are as many frames as are asked for; a frame, counted from the start
@@ -23,7 +23,7 @@ use lib.Seq.{getD-set-same, getD-set-other}
 use lib.Dec.{eqb}
 use borrow.Author.Tests.{ne-eqb}
 use Rattle.records.proofs.Laws.Passed.{clash}
-use Rattle.columns.specs.Code.Packed.{listed}
+use Rattle.columns.specs.Code.Packed.{untilZero}
 use Rattle.records.specs.Finite.{without, isNil}
 use Rattle.scripts.specs.Calculus.{frameLimit}
 use Rattle.scripts.specs.Run.{Frames, close, extendBy}
@@ -34,64 +34,64 @@ entries-length l n e = sym (length-map l (λ x. x)) ∙ e
 
 -- A column's literals, of which d stands where there is none.
 module _ (d : ℕ) where
-  pub literal-first : (a b c p : ℕ) → p ≡ 0 → p < length (listed a b c) → a ≡ getD (listed a b c) p d
+  pub literal-first : (a b c p : ℕ) → p ≡ 0 → p < length (untilZero a b c) → a ≡ getD (untilZero a b c) p d
   literal-first zero b c p e h = absurd (omega arith)
   literal-first (suc a) zero c p e h = rw e
   literal-first (suc a) (suc b) zero p e h = rw e
   literal-first (suc a) (suc b) (suc c) p e h = rw e
 
-  pub literal-second : (a b c p : ℕ) → p ≡ 1 → p < length (listed a b c) → b ≡ getD (listed a b c) p d
+  pub literal-second : (a b c p : ℕ) → p ≡ 1 → p < length (untilZero a b c) → b ≡ getD (untilZero a b c) p d
   literal-second zero b c p e h = absurd (omega arith)
   literal-second (suc a) zero c p e h = absurd (omega arith)
   literal-second (suc a) (suc b) zero p e h = rw e
   literal-second (suc a) (suc b) (suc c) p e h = rw e
 
-  pub literal-third : (a b c p : ℕ) → 2 ≤ p → p < length (listed a b c) → c ≡ getD (listed a b c) p d
+  pub literal-third : (a b c p : ℕ) → 2 ≤ p → p < length (untilZero a b c) → c ≡ getD (untilZero a b c) p d
   literal-third zero b c p k h = absurd (omega arith)
   literal-third (suc a) zero c p k h = absurd (omega arith)
   literal-third (suc a) (suc b) zero p k h = absurd (omega arith)
   literal-third (suc a) (suc b) (suc c) p k h = let e : p ≡ 2 = omega arith in rw e
 
-pub without-first : (a b c p : ℕ) → p ≡ 0 → p < length (listed a b c) → listed b c 0 ≡ without p (listed a b c)
+pub without-first : (a b c p : ℕ) → p ≡ 0 → p < length (untilZero a b c) → untilZero b c 0 ≡ without p (untilZero a b c)
 unfolding without
 without-first zero b c p e h = absurd (omega arith)
 without-first (suc a) zero c p e h = rw e
 without-first (suc a) (suc b) zero p e h = rw e
 without-first (suc a) (suc b) (suc c) p e h = rw e
 
-pub without-second : (a b c p : ℕ) → p ≡ 1 → p < length (listed a b c) → listed a c 0 ≡ without p (listed a b c)
+pub without-second : (a b c p : ℕ) → p ≡ 1 → p < length (untilZero a b c) → untilZero a c 0 ≡ without p (untilZero a b c)
 unfolding without
 without-second zero b c p e h = absurd (omega arith)
 without-second (suc a) zero c p e h = absurd (omega arith)
 without-second (suc a) (suc b) zero p e h = rw e
 without-second (suc a) (suc b) (suc c) p e h = rw e
 
-pub without-third : (a b c p : ℕ) → 2 ≤ p → p < length (listed a b c) → listed a b 0 ≡ without p (listed a b c)
+pub without-third : (a b c p : ℕ) → 2 ≤ p → p < length (untilZero a b c) → untilZero a b 0 ≡ without p (untilZero a b c)
 unfolding without
 without-third zero b c p k h = absurd (omega arith)
 without-third (suc a) zero c p k h = absurd (omega arith)
 without-third (suc a) (suc b) zero p k h = absurd (omega arith)
 without-third (suc a) (suc b) (suc c) p k h = let e : p ≡ 2 = omega arith in rw e
 
-pub listed-few : (a b c : ℕ) → length (listed a b c) ≤ frameWidth
-listed-few zero b c = omega arith
-listed-few (suc a) zero c = omega arith
-listed-few (suc a) (suc b) zero = omega arith
-listed-few (suc a) (suc b) (suc c) = omega arith
+pub untilZero-few : (a b c : ℕ) → length (untilZero a b c) ≤ frameWidth
+untilZero-few zero b c = omega arith
+untilZero-few (suc a) zero c = omega arith
+untilZero-few (suc a) (suc b) zero = omega arith
+untilZero-few (suc a) (suc b) (suc c) = omega arith
 
-pub listed-some : (a b c : ℕ) → 0 < a → 0 < length (listed a b c)
-listed-some zero b c h = absurd (omega arith)
-listed-some (suc a) zero c h = omega arith
-listed-some (suc a) (suc b) zero h = omega arith
-listed-some (suc a) (suc b) (suc c) h = omega arith
+pub untilZero-some : (a b c : ℕ) → 0 < a → 0 < length (untilZero a b c)
+untilZero-some zero b c h = absurd (omega arith)
+untilZero-some (suc a) zero c h = omega arith
+untilZero-some (suc a) (suc b) zero h = omega arith
+untilZero-some (suc a) (suc b) (suc c) h = omega arith
 
-pub listed-none : (a b c : ℕ) → listed a b c ≡ [] → a ≡ 0
-listed-none zero b c e = refl
-listed-none (suc a) zero c e = let n : _≡_ {A = ℕ} 1 0 = ap length e in absurd (omega arith)
-listed-none (suc a) (suc b) zero e = let n : _≡_ {A = ℕ} 2 0 = ap length e in absurd (omega arith)
-listed-none (suc a) (suc b) (suc c) e = let n : _≡_ {A = ℕ} 3 0 = ap length e in absurd (omega arith)
+pub untilZero-none : (a b c : ℕ) → untilZero a b c ≡ [] → a ≡ 0
+untilZero-none zero b c e = refl
+untilZero-none (suc a) zero c e = let n : _≡_ {A = ℕ} 1 0 = ap length e in absurd (omega arith)
+untilZero-none (suc a) (suc b) zero e = let n : _≡_ {A = ℕ} 2 0 = ap length e in absurd (omega arith)
+untilZero-none (suc a) (suc b) (suc c) e = let n : _≡_ {A = ℕ} 3 0 = ap length e in absurd (omega arith)
 
-pub open-none : (a b c : ℕ) (frames : Frames ℕ) → a ≡ 0 → close frames ≡ extendBy (listed a b c) frames
+pub open-none : (a b c : ℕ) (frames : Frames ℕ) → a ≡ 0 → close frames ≡ extendBy (untilZero a b c) frames
 unfolding extendBy
 open-none a b c frames e = rw e
 
@@ -108,16 +108,16 @@ first-drop (x ∷ l) zero d = refl
 first-drop (x ∷ l) (suc k) d = first-drop l k d
 
 -- the entry of a table at a place of three, of which k is one
-place-literal : (a b c k d x : ℕ) → k < length (listed a b c) → (k ≡ 0 → x ≡ a) → (k ≡ 1 → x ≡ b) → (k ≡ 2 → x ≡ c)
-    → x ≡ getD (listed a b c) k d
+place-literal : (a b c k d x : ℕ) → k < length (untilZero a b c) → (k ≡ 0 → x ≡ a) → (k ≡ 1 → x ≡ b) → (k ≡ 2 → x ≡ c)
+    → x ≡ getD (untilZero a b c) k d
 place-literal a b c zero d x h p q r = p refl ∙ literal-first d a b c 0 refl h
 place-literal a b c (suc zero) d x h p q r = q refl ∙ literal-second d a b c 1 refl h
 place-literal a b c (suc (suc zero)) d x h p q r = r refl ∙ literal-third d a b c 2 (omega arith) h
-place-literal a b c (suc (suc (suc k))) d x h p q r = absurd (omega (arith, listed-few a b c))
+place-literal a b c (suc (suc (suc k))) d x h p q r = absurd (omega (arith, untilZero-few a b c))
 
 -- whether there is a literal after the k-th of three
-next-listed : (a b c k x : ℕ) → k < length (listed a b c) → (k ≡ 0 → x ≡ b) → (k ≡ 1 → x ≡ c) → k < 2
-    → not (eqb x 0) ≡ not (isNil (drop (suc k) (listed a b c)))
+next-listed : (a b c k x : ℕ) → k < length (untilZero a b c) → (k ≡ 0 → x ≡ b) → (k ≡ 1 → x ≡ c) → k < 2
+    → not (eqb x 0) ≡ not (isNil (drop (suc k) (untilZero a b c)))
 next-listed zero b c k x h p q m = absurd (omega arith)
 next-listed (suc a) zero c zero x h p q m = rw (p refl)
 next-listed (suc a) zero c (suc k) x h p q m = absurd (omega arith)
@@ -160,13 +160,13 @@ module _ (table : List ℕ) (f k : ℕ) (h : k < length (opened table f)) where
   pub goal-few : k < frameWidth
   goal-few =
       let place = frameWidth * f in
-      omega (arith, listed-few (getD table place 0) (getD table (place + 1) 0) (getD table (place + 2) 0))
+      omega (arith, untilZero-few (getD table place 0) (getD table (place + 1) 0) (getD table (place + 2) 0))
 
   pub goal-last : 2 ≤ k → false ≡ not (isNil (drop (suc k) (opened table f)))
   goal-last m =
       let place = frameWidth * f in
       next-never (opened table f) k
-      (omega (arith, listed-few (getD table place 0) (getD table (place + 1) 0) (getD table (place + 2) 0)))
+      (omega (arith, untilZero-few (getD table place 0) (getD table (place + 1) 0) (getD table (place + 2) 0)))
 
 module _ (table closed : List ℕ) where
   pub frames-length : (n : ℕ) → length (framesFrom table closed n) ≡ n
@@ -218,7 +218,7 @@ module _ (table : List ℕ) (n a b c : ℕ) where
         written-other (frameWidth * f + 2) (omega arith),
       )
 
-  opened-new : frameWidth * n + 2 < length table → opened written n ≡ listed a b c
+  opened-new : frameWidth * n + 2 < length table → opened written n ≡ untilZero a b c
   opened-new h =
       let one = set table (frameWidth * n) a in
       let two = set one (frameWidth * n + 1) b in
@@ -243,11 +243,11 @@ module _ (table : List ℕ) (n a b c : ℕ) where
 
     -- the frame that is written is the last
     pub frames-push : (m : ℕ) → m ≡ suc n → n < length closed → frameWidth * n + 2 < length table
-        → framesFrom written (set closed n k) m ≡ drop k (listed a b c) ∷ framesFrom table closed n
+        → framesFrom written (set closed n k) m ≡ drop k (untilZero a b c) ∷ framesFrom table closed n
     unfolding framesFrom
     frames-push m e h l = rw (e, getD-set-same closed n k 0 h, opened-new l, frames-below n (omega arith))
 
-    pub stands-push : (m : ℕ) → m ≡ suc n → n < frameLimit → n < length closed → k < length (listed a b c)
+    pub stands-push : (m : ℕ) → m ≡ suc n → n < frameLimit → n < length closed → k < length (untilZero a b c)
         → Standing table closed n → Standing written (set closed n k) m
     stands-push m e d h l s =
         record { deep = omega arith; size = written-size ∙ s .size; goals = λ f g. goals f g (ℕ-discrete f n) }

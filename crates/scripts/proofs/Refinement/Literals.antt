@@ -30,7 +30,7 @@ use Rattle.columns.specs.Code.Packed.{packed, termLimit, predicateLimit}
 use Rattle.columns.proofs.Theorems.Owners.{columns-record, columns-silent, columns-past}
 use Rattle.scripts.specs.Format.{queryOf}
 use Rattle.scripts.specs.Code.Codes.{codeTerm, opposed}
-use Rattle.scripts.proofs.Theorems.Form.{Formed}
+use Rattle.scripts.proofs.Theorems.Form.{KeepsForm}
 use Rattle.scripts.proofs.Refinement.Terms.{Valid, code-same}
 
 abbrev pub Code : List ℕ → ℕ → Type 0
@@ -135,7 +135,7 @@ role-same r t u q w z h k l m = at (ℕ-discrete r q) (ℕ-discrete t w) (ℕ-di
 other-body : (i t r u w : ℕ) → conceptBody i t ≡ roleBody r u w → ⊥
 other-body i t r u w e = omega arith
 
-module _ (v s : List ℕ) (good : Accepted v) (f : Formed v s) where
+module _ (v s : List ℕ) (good : Accepted v) (f : KeepsForm v s) where
   bodies-same : (l m : Literal ℕ) → ValidLiteral s l → ValidLiteral s m
       → (not (Bool·beq (sign l) (sign m)) && eqb (body l) (body m))
       ≡ complementary (substitute (codeTerm s) l) (substitute (codeTerm s) m)
@@ -201,7 +201,7 @@ small-at (c ∷ cs) h (suc n) = small-at cs (h .1) n
 pub zero-code : (s : List ℕ) → Code s 0
 zero-code s = (omega arith, inl refl)
 
-module _ (v s : List ℕ) (good : Accepted v) (f : Formed v s) where
+module _ (v s : List ℕ) (good : Accepted v) (f : KeepsForm v s) where
   columns-small : (owner : ℕ) → AllSmall (columnsAt v (queryOf s) owner)
   unfolding columnsAt
   columns-small zero =

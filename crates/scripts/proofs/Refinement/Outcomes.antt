@@ -19,7 +19,7 @@ use Rattle.records.proofs.Theorems.Accepted.{accepted-vocabulary}
 use Rattle.scripts.specs.Form.{lengthCheck, formCheck}
 use Rattle.scripts.specs.Run.{scriptCheck}
 use Rattle.scripts.specs.Code.Tested.{chainOutcome}
-use Rattle.scripts.proofs.Theorems.Form.{formed}
+use Rattle.scripts.proofs.Theorems.Form.{keeps-form}
 use Rattle.scripts.proofs.Refinement.Agreement.{numbers-agree}
 
 module _ (v : List ℕ) where
@@ -55,5 +55,5 @@ module _ (v s : List ℕ) where
       → answer ≡ chainOutcome v s → answer ≡ scriptCheck v s
   unfolding scriptCheck
   decided answer taken form a =
-      let same = numbers-agree v s (accepted-vocabulary v (format.count v) taken) (formed v s form) in
+      let same = numbers-agree v s (accepted-vocabulary v (format.count v) taken) (keeps-form v s form) in
       a ∙ rw (taken, form, same)

@@ -14,7 +14,7 @@ use Rattle.records.specs.Outcome.{Outcome, Check, accepted, refused, pass, _the
 use Rattle.records.specs.Format.{recordAt, count}
 use Rattle.records.specs.Kinds.{isTerm}
 use Rattle.records.proofs.Theorems.Accepted.{All}
-use Rattle.types.specs.Compare.{termCheck}
+use Rattle.types.specs.Comparison.{termCheck}
 use Rattle.scripts.specs.Steps.{Step}
 use Rattle.scripts.specs.Format.{entryAt, entries, queryOf, firstStep, lineOf}
 use Rattle.scripts.specs.Form.{lengthFits, lengthCheck, headerFits, headerCheck, queryCheck, kindFits, unusedFits}

@@ -18,7 +18,7 @@ use Rattle.records.specs.declared.answers.Checked.{Checked}
 use Rattle.records.specs.declared.answers.Checked.the-variants.{Refused}
 use Rattle.records.proofs.Laws.Passed.{clash}
 use Rattle.columns.specs.Columns.{Query, queryColumns, columnsAt}
-use Rattle.columns.specs.Code.Packed.{packedAt, listed}
+use Rattle.columns.specs.Code.Packed.{packedAt, untilZero}
 use Rattle.scripts.specs.Format.{entryAt, queryIn, firstStep, chainFrom, chain}
 use Rattle.scripts.specs.Run.{stepped, chainCheck}
 use Rattle.scripts.specs.Code.Numbered.{startNumbers}
@@ -27,7 +27,7 @@ use Rattle.scripts.specs.Code.Ready.{IsStep}
 use Rattle.scripts.specs.declared.entry.Entry.{Entry}
 use Rattle.scripts.proofs.Refinement.Lines.{step-start}
 use Rattle.scripts.proofs.Refinement.Stepping.{step-starting, step-other}
-use Rattle.scripts.proofs.Theorems.Form.{Formed}
+use Rattle.scripts.proofs.Theorems.Form.{KeepsForm}
 use Rattle.scripts.proofs.Invariants.Walk.{standing, reached, chain-at, chain-end}
 
 -- a row whose check refused
@@ -36,11 +36,11 @@ row-refused k true a b n p e r = let no : refused n p ≡ pass = sym (ap checked
 row-refused k false a b n p e r = refl
 
 -- a list that is not empty has a first number
-some-listed : (a b c x : ℕ) → listed a b c ≡ x ∷ [] → 0 < a
+some-listed : (a b c x : ℕ) → untilZero a b c ≡ x ∷ [] → 0 < a
 some-listed zero b c x e = let n : _≡_ {A = ℕ} 0 1 = ap length e in absurd (clash n)
 some-listed (suc a) b c x e = omega arith
 
-pub start-some : (q : Query) (n a b c : ℕ) → n ≤ 1 → listed a b c ≡ packedAt 0 0 0 (getD (queryColumns q) n []) → 0 < a
+pub start-some : (q : Query) (n a b c : ℕ) → n ≤ 1 → untilZero a b c ≡ packedAt 0 0 0 (getD (queryColumns q) n []) → 0 < a
 start-some q zero a b c h e = some-listed a b c _ e
 start-some q (suc zero) a b c h e = some-listed a b c _ e
 start-some q (suc (suc n)) a b c h e = absurd (omega arith)
@@ -50,7 +50,7 @@ pub start-column : (v s : List ℕ) (h : Entry) → h ≡ entryAt s 0 → (n : �
 unfolding columnsAt
 start-column v s h q n c e = e ∙ ap (λ (x : Entry). packedAt 0 0 0 (getD (queryColumns (queryIn x)) n [])) q
 
-module _ (v s : List ℕ) (f : Formed v s) where
+module _ (v s : List ℕ) (f : KeepsForm v s) where
   pub start-listed : (i : ℕ) (e : Entry) → e ≡ entryAt s i → IsStep s i → e .w0 ≡ 3 → e .w1 ≤ 1
   start-listed i e q t h = leb-true (e .w1) 1 (step-start v s i e h ∙ (rw q (f .steps i (t .positive) (t .within))))
 

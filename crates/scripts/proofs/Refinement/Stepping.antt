@@ -1,7 +1,7 @@
 -- One step of the run over numbers, from what the code's tests tell.
 --   not-passed                                        a refusal is no pass
---   open-told, open-positive                          whether a frame is open
---   goal-told, reduce-told, reduce-never              the goal; row 22
+--   open-frames, open-positive                          whether a frame is open
+--   goal-frames, reduce-frames, reduce-never              the goal; row 22
 --   room-left                                         row 23
 --   step-starting, step-extending, step-reducing      the step of a record that was read, by its kind
 --   step-neither, step-other                          one that is no extension or reduction; a step that is no start
@@ -21,7 +21,7 @@ use Rattle.records.specs.Answers.{checked}
 use Rattle.records.specs.declared.answers.Checked.{Checked}
 use Rattle.records.specs.declared.answers.Checked.the-variants.{Refused}
 use Rattle.records.proofs.Laws.Passed.{clash, both-right}
-use Rattle.columns.specs.Code.Packed.{listed}
+use Rattle.columns.specs.Code.Packed.{untilZero}
 use Rattle.scripts.specs.Steps.{Extension, start, extension, reduction}
 use Rattle.scripts.specs.Format.{entryAt, extensionOf, kindOf, isStep, stepOf, recordStep}
 use Rattle.scripts.specs.Calculus.{frameLimit}
@@ -44,9 +44,9 @@ open-positive zero e = absurd (clash (cc))
 open-positive (suc n) e = omega arith
 
 module _ (table closed : List ℕ) (n : ℕ) where
-  pub open-told : not (eqb n 0) ≡ not (isNil (framesFrom table closed n))
+  pub open-frames : not (eqb n 0) ≡ not (isNil (framesFrom table closed n))
   unfolding framesFrom
-  open-told = at n
+  open-frames = at n
     where
       at : (n : ℕ) → not (eqb n 0) ≡ not (isNil (framesFrom table closed n))
       at zero = refl
@@ -56,24 +56,24 @@ module _ (table closed : List ℕ) (n : ℕ) where
   abbrev goal-of : ℕ → ℕ
   goal-of f = getD (drop (getD closed f 0) (opened table f)) 0 noNumber
 
-  pub goal-told : (v s : List ℕ) (last x : ℕ) → 0 < n → last ≡ n - 1 → x ≡ goal-of last
+  pub goal-frames : (v s : List ℕ) (last x : ℕ) → 0 < n → last ≡ n - 1 → x ≡ goal-of last
       → x ≡ goal (numbered v s) (framesFrom table closed n)
-  goal-told v s last x h l e =
+  goal-frames v s last x h l e =
       let z : n - suc last ≡ 0 = omega arith in
       let frame : getD (framesFrom table closed n) 0 [] ≡ drop (getD closed last 0) (opened table last)
       = subst (λ (j : ℕ). getD (framesFrom table closed n) j [] ≡ drop (getD closed last 0) (opened table last)) z
       (frame-at table closed n last (omega arith)) in
       e ∙ rw frame
 
-  pub reduce-told : (f x g : ℕ) (r : Bool) → suc f < n → x ≡ goal-of f → r ≡ opposed x g
+  pub reduce-frames : (f x g : ℕ) (r : Bool) → suc f < n → x ≡ goal-of f → r ≡ opposed x g
       → r ≡ reducesTo (framesFrom table closed n) f g
-  reduce-told f x g r l e h =
+  reduce-frames f x g r l e h =
       h ∙ rw (e, frames-length table closed n, lt-ltb (suc f) n l, frame-at table closed n f (omega arith))
 
   pub reduce-never : (f g : ℕ) → n ≤ suc f → false ≡ reducesTo (framesFrom table closed n) f g
   reduce-never f g l = rw (frames-length table closed n, le-ltb (suc f) n l)
 
-pub room-left : (a b c n : ℕ) → (isNil (listed a b c) || ltb n frameLimit) ≡ true → 0 < a → n < frameLimit
+pub room-left : (a b c n : ℕ) → (isNil (untilZero a b c) || ltb n frameLimit) ≡ true → 0 < a → n < frameLimit
 room-left zero b c n e h = absurd (omega arith)
 room-left (suc a) zero c n e h = ltb-true n frameLimit e
 room-left (suc a) (suc b) zero n e h = ltb-true n frameLimit e

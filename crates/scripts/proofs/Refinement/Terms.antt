@@ -7,7 +7,7 @@
 --   term-eq, header-line, header-term        a record's term from those of earlier records; the header counts as the constant
 --   term-kind, line-first, line-applied      the kinds of term records, and what these say
 --   term-positive, function-positive         the header is no term record, and no function
---   first-told, applied-told, term-record    a term record is the constant's, or of kind 2
+--   first-record, applied-record, term-record    a term record is the constant's, or of kind 2
 --   term-first, term-applied                 their terms
 --   apply-valid, apply-small, apply-term     the code of a function at a term record
 --   code-valid, code-small, code-term        the code of a term record
@@ -39,7 +39,7 @@ use Rattle.records.specs.Finite.{allZero}
 use Rattle.scripts.specs.Form.{unusedFits, earlierTerm, isFunction, repeats, repeated, isNamed, functionFits, termFits}
 use Rattle.scripts.specs.Code.Codes.{functionLimit, codeOf, codeAt, codeTerm}
 use Rattle.scripts.proofs.Refinement.Lines.{kind-past}
-use Rattle.scripts.proofs.Theorems.Form.{Formed}
+use Rattle.scripts.proofs.Theorems.Form.{KeepsForm}
 
 pub record TermRecord (s : List ℕ) (n : ℕ) : Type 0 where
   pub within : n < entries s
@@ -128,7 +128,7 @@ module _ (s : List ℕ) (n : ℕ) where
         eqb-true (r .w2) 0 (both-left (eqb (r .w2) 0) after rest),
       )
 
-module _ (v s : List ℕ) (good : Accepted v) (f : Formed v s) where
+module _ (v s : List ℕ) (good : Accepted v) (f : KeepsForm v s) where
   header-line : lineAt s 0 ≡ blank
   header-line = ap (λ (k : Kind). k .says (entryAt s 0)) (kind-past (entryAt s 0 .w0) (omega (arith, f .header)))
 
@@ -180,8 +180,8 @@ module _ (v s : List ℕ) (good : Accepted v) (f : Formed v s) where
       absurd (clash (cc))
   function-positive (suc k) e = omega arith
 
-  first-told : (n : ℕ) → TermRecord s n → entryAt s n .w0 ≡ 1 → First s n
-  first-told n t e =
+  first-record : (n : ℕ) → TermRecord s n → entryAt s n .w0 ≡ 1 → First s n
+  first-record n t e =
       let p = term-positive n t in
       let fit = subst (λ (l : Line). termFits v s n l ≡ true) (line-first s n e) (f .terms n p (t .within)) in
       let zeros = unused-first s n e (f .unused n p (t .within)) in
@@ -192,8 +192,8 @@ module _ (v s : List ℕ) (good : Accepted v) (f : Formed v s) where
         inner = zeros .1;
       }
 
-  applied-told : (n : ℕ) → TermRecord s n → entryAt s n .w0 ≡ 2 → Applied v s n
-  applied-told n t e =
+  applied-record : (n : ℕ) → TermRecord s n → entryAt s n .w0 ≡ 2 → Applied v s n
+  applied-record n t e =
       let w1 = entryAt s n .w1 in
       let w2 = entryAt s n .w2 in
       let line = line-applied s n e in
@@ -221,8 +221,8 @@ module _ (v s : List ℕ) (good : Accepted v) (f : Formed v s) where
   term-record n t = at (term-kind (entryAt s n .w0) (t .term))
     where
       at : (entryAt s n .w0 ≡ 1) ⊎ (entryAt s n .w0 ≡ 2) → First s n ⊎ Applied v s n
-      at (inl e) = inl (first-told n t e)
-      at (inr e) = inr (applied-told n t e)
+      at (inl e) = inl (first-record n t e)
+      at (inr e) = inr (applied-record n t e)
 
   pub term-first : (n : ℕ) → First s n → termAt s n ≡ constant
   term-first n t = term-eq n ∙ ap (λ (l : Line). termOf l (termAt s)) (line-first s n (t .kind))

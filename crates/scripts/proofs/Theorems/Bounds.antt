@@ -3,7 +3,7 @@
 --   after-count                          what comes after the vocabulary check
 --   row-near, nearby                     rows 13 to 25 at a near place; a check all of whose refusals are near
 --   form-near                            the form's refusal is near
---   chain-within                         the numbers of a formed script's chain are small
+--   chain-within                         the numbers of a keeps-form script's chain are small
 --   script-small                         the number of steps or the place is at most mostPlace, the refusal's number not 0
 --   header-byte, query-below             the query's numbers have 16 bits
 -- Assumes nothing.
@@ -25,7 +25,7 @@ use Rattle.records.proofs.Laws.Passed.{both-left, both-right}
 use Rattle.scripts.specs.Format.{entrySize, entryLimit, partAt, entryAt, entries, queryOf, firstStep, chain}
 use Rattle.scripts.specs.Form.{formCheck}
 use Rattle.scripts.specs.Run.{chainCheck, writtenOut, stepAt, scriptCheck}
-use Rattle.scripts.proofs.Theorems.Form.{OnChain, length-sized, formed, chain-ahead}
+use Rattle.scripts.proofs.Theorems.Form.{OnChain, length-sized, keeps-form, chain-ahead}
 use Rattle.scripts.proofs.Refinement.Refusals.{Refusals, isRow, form-refusals, chain-refusals}
 use Rattle.scripts.proofs.Invariants.Walk.{chain-few}
 
@@ -54,7 +54,7 @@ form-near m v s h a b =
     (form-refusals (Near m) (λ i. i ≤ m) (row-near m) v s (omega arith, omega arith, a) (omega arith, omega arith, b)
     (omega arith) (λ e i l. omega (arith, length-sized s e .most)))
 
--- numbers of the chain of a formed script
+-- numbers of the chain of a keeps-form script
 chain-within : (m : ℕ) (s : List ℕ) (is : List ℕ) → entries s ≤ m → All (OnChain s) is → All (λ i. i ≤ m) is
 chain-within m s [] h a = tt
 chain-within m s (i ∷ is) h a = (omega (arith, a .0 .within), chain-within m s is h (a .1))
@@ -66,7 +66,7 @@ script-small v s =
     let paper = writtenOut v (queryOf s) in
     after-count m recordLimit (vocabularyCheck v) _ (omega arith) (vocabulary-small v)
     (then-small m (formCheck v s) _ (form-near m v s (omega arith) (omega arith) (omega arith))
-    (λ e. let f = formed v s e in
+    (λ e. let f = keeps-form v s e in
     let few : entries s ≤ m = omega (arith, f .sized .most) in
     then-small m (chainCheck paper (stepAt s) (chain s)) _
     (nearby m (chainCheck paper (stepAt s) (chain s))

@@ -2,7 +2,7 @@
 -- Assumes nothing.
 use mathlib.Core.List.{[]}
 use lib.ListN.{length}
-use Rattle.types.specs.Compare.{verdict}
+use Rattle.types.specs.Comparison.{verdict}
 use Rattle.types.proofs.Theorems.Verdicts.{answers-always}
 use Rattle.scripts.specs.Demands.{Demand1, Demand2, Demand3}
 use Rattle.scripts.proofs.Theorems.Rowed.{vocabulary-rows, record-rows, comparison-rows, script-rows}

@@ -11,8 +11,8 @@ use lib.ListN.{length}
 use Rattle.records.specs.Outcome.{accepted}
 use Rattle.records.proofs.Laws.Passed.{clash}
 use Rattle.types.specs.Meaning.{Interpretation, Element, belongs, Model, AlwaysWithin}
-use Rattle.types.specs.Compare.{Verdict, equal, different, comparison}
-use Rattle.types.specs.Form.{written, readBack}
+use Rattle.types.specs.Comparison.{Verdict, equal, different, comparison}
+use Rattle.types.specs.Bitmap.{written, readBack}
 use Rattle.types.proofs.Theorems.Comparison.{equal-exactly, different-shown}
 use Rattle.scripts.specs.Format.{queryOf}
 use Rattle.scripts.specs.Demands.{Unproved, Shown, Right}

@@ -1,10 +1,10 @@
 -- What a passed form tells: rows 13, 14, 10 and 15 to 19.
 --   Sized, TermNumber, IsStepAt              the length's bounds; a number of a term of the vocabulary; a step record
---   Formed                                   what is told of a script
+--   KeepsForm                                   what is told of a script
 --   length-sized, header-kind, term-number   rows 13, 14 and 10
 --   Rows, rows-passed, entry-rows            rows 15 to 18 at a record
 --   link-onward, next-onward                 row 19: a link, and a step's next, lead onward
---   formed                                   a script whose form passes is Formed
+--   keeps-form                                   a script whose form passes is KeepsForm
 --   step-listed, line-step, step-fits        row 18: a step uses what is listed; at a record; at a record of the chain
 --   OnChain, chain-ahead                     the chain has steps alone
 --   steps-listed, chain-listed               each of these uses what is listed
@@ -25,7 +25,7 @@ use Rattle.records.proofs.Laws.Passed.{both-left, both-right, require-passed, t
 use Rattle.records.proofs.Theorems.Following.{Ahead, Onward, follow-target}
 use Rattle.records.proofs.Theorems.Accepted.{All}
 use Rattle.records.proofs.Theorems.Chains.{all-occurring}
-use Rattle.types.specs.Compare.{termCheck}
+use Rattle.types.specs.Comparison.{termCheck}
 use Rattle.records.proofs.Laws.Tests.{implies-rest}
 use Rattle.columns.specs.Columns.{columnAt, takesY}
 use Rattle.scripts.specs.Steps.{Step, start, extension, reduction, stepBy}
@@ -52,7 +52,7 @@ TermNumber v x = (x < count v) × (isTerm (recordAt v x .kind) ≡ true)
 abbrev pub IsStepAt : List ℕ → ℕ → Type 0
 IsStepAt s x = isStep (entryAt s x .w0) ≡ true
 
-pub record Formed (v s : List ℕ) : Type 0 where
+pub record KeepsForm (v s : List ℕ) : Type 0 where
   pub sized : Sized s
   pub present : 1 < entries s
   pub header : entryAt s 0 .w0 ≡ 32
@@ -145,9 +145,9 @@ next-onward s i e h =
     link-onward s i (nextStep s i)
     (implies-rest (isStep (entryAt s i .w0)) (linkFits s i (nextStep s i)) (require-passed (nextFits s i) 19 i e) h)
 
-pub formed : (v s : List ℕ) → formCheck v s ≡ pass → Formed v s
+pub keeps-form : (v s : List ℕ) → formCheck v s ≡ pass → KeepsForm v s
 unfolding formCheck
-formed v s e =
+keeps-form v s e =
     let query = queryCheck v (queryOf s) in
     let entered = inTurn (entryCheck v s) 1 (entries s - 1) in
     let linked = inTurn (linkCheck s) 1 (entries s - 1) in
@@ -193,7 +193,7 @@ module _ (v s : List ℕ) where
   line-step i (applied f t) e = refl
   line-step i (step t) e = e
 
-  module _ (f : Formed v s) where
+  module _ (f : KeepsForm v s) where
     pub chain-ahead : All (OnChain s) (chain s)
     chain-ahead =
         all-occurring (OnChain s) (chain s)

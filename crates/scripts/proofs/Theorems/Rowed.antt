@@ -21,7 +21,7 @@ use Rattle.records.proofs.Laws.Passed.{clash, both-left, both-right}
 use Rattle.records.proofs.Laws.Ranges.{between}
 use Rattle.records.proofs.Theorems.Accepted.{All}
 use Rattle.records.specs.Atoms.{atoms}
-use Rattle.types.specs.Compare.{verdict, atomLimit, formBytes, termCheck, atomsCheck, lentCheck, queryCheck, comparison}
+use Rattle.types.specs.Comparison.{verdict, atomLimit, bitmapBytes, termCheck, atomsCheck, lentCheck, queryCheck, comparison}
 use Rattle.scripts.specs.Format.{queryOf, chain}
 use Rattle.scripts.specs.Form.{formCheck}
 use Rattle.scripts.specs.Run.{chainCheck, writtenOut, stepAt, scriptCheck}
@@ -107,7 +107,7 @@ comparison-rows v a b lent =
     (then-rows comparisonRows (termCheck v b) _ (term-rows comparisonRows refl v b)
     (then-rows comparisonRows (atomsCheck v) (lentCheck lent)
     (require-rows comparisonRows (leb (atoms v) atomLimit) 11 (atoms v) refl)
-    (require-rows comparisonRows (leb formBytes lent) 12 0 refl)))) tt)
+    (require-rows comparisonRows (leb bitmapBytes lent) 12 0 refl)))) tt)
 
 -- rows 13 to 25 are the script check's own
 script-row : (n : ℕ) → isRow n ≡ true → occurs n scriptRows ≡ true

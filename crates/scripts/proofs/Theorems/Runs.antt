@@ -1,6 +1,6 @@
 -- A derivation runs: its steps pass, one after the other, and close its column.
 --   height-room     a derivation that keeps the limit has room for its column
---   runs            the steps of a derivation, then others, run as the others do once the derivation's column is closed
+--   runs            the steps of a derivation, then remainder, run as the remainder do once the derivation's column is closed
 --   start-begins    start, and a derivation of its column, is a chain that passes
 --   derives-chain   a chain whose steps are a derivation passes the check
 -- Assumes nothing.
@@ -19,9 +19,9 @@ use Rattle.scripts.specs.Steps.{start}
 use Rattle.scripts.specs.Calculus.{onPath, Derivation, ended, reduced, extended, steps, height, frameLimit, startColumn}
 use Rattle.scripts.specs.Calculus.{Derives}
 use Rattle.scripts.specs.Run.{close, extendBy, chainCheck, writtenOut, stepAt}
-use Rattle.scripts.proofs.Theorems.Tests.{passes-true, plays, begins, chain-begins}
-use Rattle.scripts.proofs.Theorems.Steps.{Literals, OpenFrames, Steps, goals, room, close-goal, reduction-plays}
-use Rattle.scripts.proofs.Theorems.Steps.{extension-plays, start-open}
+use Rattle.scripts.proofs.Theorems.Tests.{passes-true, succeeds, chainSucceeds, chain-succeeds}
+use Rattle.scripts.proofs.Theorems.Steps.{Literals, OpenFrames, Steps, goals, room, close-goal, reduction-succeeds}
+use Rattle.scripts.proofs.Theorems.Steps.{extension-succeeds, start-open}
 
 module _ (v : List ℕ) (q : Query) where
   height-room : {c path : Literals} (n : ℕ) (d : Derivation v q c path) → height d ≤ frameLimit - n → room c n ≡ true
@@ -32,28 +32,28 @@ module _ (v : List ℕ) (q : Query) where
 
   runs : {c path : Literals} (d : Derivation v q c path) (frames : OpenFrames) (rest : Steps) → path ≡ goals frames
       → height d ≤ frameLimit - length frames
-      → plays (writtenOut v q) (steps d ++ rest) (extendBy c frames) ≡ plays (writtenOut v q) rest (extendBy [] frames)
+      → succeeds (writtenOut v q) (steps d ++ rest) (extendBy c frames) ≡ succeeds (writtenOut v q) rest (extendBy [] frames)
   unfolding steps height extendBy
   runs ended frames rest e h = refl
   runs (reduced {l} {c} {path} f p k d) frames rest e h =
-      reduction-plays v q l c frames f (steps d ++ rest)
+      reduction-succeeds v q l c frames f (steps d ++ rest)
       (subst (λ (x : Literals). f < length x) e p)
       (subst (λ (x : Literals). onPath x f ≡ complement l) e k)
       ∙ runs d frames rest e (omega arith)
   runs (extended {l} {c} {path} x p k above d) frames rest e h =
       let space = height-room (suc (length frames)) above (omega arith) in
       rw append-assoc
-      (extension-plays v q l c frames x (steps above ++ (steps d ++ rest)) k space
+      (extension-succeeds v q l c frames x (steps above ++ (steps d ++ rest)) k space
       ∙ runs above ((l ∷ c) ∷ frames) (steps d ++ rest) (ap (λ (y : Literals). l ∷ y) e) (omega arith)
-      ∙ ap (plays (writtenOut v q) (steps d ++ rest)) (close-goal l c frames)
+      ∙ ap (succeeds (writtenOut v q) (steps d ++ rest)) (close-goal l c frames)
       ∙ runs d frames rest e (omega arith))
 
   start-begins : (n : ℕ) (d : Derivation v q (startColumn v q n) []) → n ≤ 1 → height d ≤ frameLimit
-      → begins (writtenOut v q) (start n ∷ steps d) ≡ true
-  unfolding plays extendBy close
+      → chainSucceeds (writtenOut v q) (start n ∷ steps d) ≡ true
+  unfolding succeeds extendBy close
   start-begins n d h k =
-      ap (plays (writtenOut v q) (steps d)) (start-open v q n h)
-      ∙ ap (λ (list : Steps). plays (writtenOut v q) list (extendBy (startColumn v q n) [])) (sym (append-nil (steps d)))
+      ap (succeeds (writtenOut v q) (steps d)) (start-open v q n h)
+      ∙ ap (λ (list : Steps). succeeds (writtenOut v q) list (extendBy (startColumn v q n) [])) (sym (append-nil (steps d)))
       ∙ runs d [] [] refl k
 
 pub derives-chain : (v s : List ℕ) (is : List ℕ) → Derives v (queryOf s) (map (stepAt s) is)
@@ -61,6 +61,6 @@ pub derives-chain : (v s : List ℕ) (is : List ℕ) → Derives v (queryOf s) (
 derives-chain v s is d =
     let paper = writtenOut v (queryOf s) in
     passes-true (chainCheck paper (stepAt s) is)
-    (chain-begins paper (stepAt s) is
-    ∙ ap (begins paper) (d .same)
+    (chain-succeeds paper (stepAt s) is
+    ∙ ap (chainSucceeds paper) (d .same)
     ∙ start-begins v (queryOf s) (d .column) (d .derivation) (d .listed) (d .frames))

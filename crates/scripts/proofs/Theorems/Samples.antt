@@ -13,9 +13,9 @@ use Rattle.records.specs.Check.{recordCheck, linkCheck, recordsCheck, vocabular
 use Rattle.records.specs.Chain.{follow}
 use Rattle.records.specs.Atoms.{rank}
 use Rattle.types.specs.Types.{truth, allowed, served}
-use Rattle.types.specs.Survivors.{fits, stage, rounds, survivors}
-use Rattle.types.specs.Compare.{Verdict, equal, different, verdict, comparison}
-use Rattle.types.specs.Form.{form}
+use Rattle.types.specs.Survivors.{satisfies, stage, rounds, survivors}
+use Rattle.types.specs.Comparison.{Verdict, equal, different, verdict, comparison}
+use Rattle.types.specs.Bitmap.{bitmap}
 use Rattle.columns.specs.Literals.{sameTerm, complementary}
 use Rattle.columns.specs.Columns.{columnsAt, takesY}
 use Rattle.scripts.specs.Format as script
@@ -55,7 +55,7 @@ pub data Answer : Type 0 where
   judgments : Outcome ℕ → Answer
 
 abbrev answer : Question → Answer
-answer (compares v a b) = verdicts (comparison v a b 512) (take 2 (form v))
+answer (compares v a b) = verdicts (comparison v a b 512) (take 2 (bitmap v))
 answer (checks v s) = judgments (scriptCheck v s)
 
 abbrev says : Verdict → ℕ → ℕ → Answer
@@ -101,5 +101,5 @@ answered =
     ∷ []
 
 pub samples : map answer asked ≡ answered
-unfolding recordAt kindOf inTurn anyBelow recordCheck linkCheck recordsCheck vocabularyCheck follow occurs allBelow least table members bit number unrolled rank truth allowed served fits stage rounds survivors verdict comparison form sameTerm complementary columnsAt takesY script.entryAt script.kindOf script.termAt allZero form'.entryCheck form'.linkCheck form'.formCheck without close extendBy stepCheck stepped run chainCheck scriptCheck
+unfolding recordAt kindOf inTurn anyBelow recordCheck linkCheck recordsCheck vocabularyCheck follow occurs allBelow least table members bit number unrolled rank truth allowed served satisfies stage rounds survivors verdict comparison bitmap sameTerm complementary columnsAt takesY script.entryAt script.kindOf script.termAt allZero form'.entryCheck form'.linkCheck form'.formCheck without close extendBy stepCheck stepped run chainCheck scriptCheck
 samples = refl

@@ -20,7 +20,7 @@ use Rattle.scripts.specs.Run.{chainCheck, writtenOut, stepAt, scriptChec
 use Rattle.scripts.proofs.Theorems.Runs.{derives-chain}
 use Rattle.scripts.proofs.Theorems.Derivations.{chain-derives}
 use Rattle.scripts.proofs.Theorems.Soundness.{derives-sound}
-use Rattle.scripts.proofs.Theorems.Form.{formed, chain-listed}
+use Rattle.scripts.proofs.Theorems.Form.{keeps-form, chain-listed}
 
 -- The parts of an acceptance.
 pub record Parts (v s : List ℕ) (n : ℕ) : Type 0 where
@@ -52,7 +52,7 @@ module _ (v s : List ℕ) where
   pub accepted-derives : (n : ℕ) → scriptCheck v s ≡ accepted n → Derives v (queryOf s) (map (stepAt s) (chain s))
   accepted-derives n e =
       let p = checked-parts v s n e in
-      chain-derives v s (chain s) (chain-listed v s (formed v s (p .form))) (p .run)
+      chain-derives v s (chain s) (chain-listed v s (keeps-form v s (p .form))) (p .run)
 
   pub derives-accepted : (m : ℕ) → vocabularyCheck v ≡ accepted m → formCheck v s ≡ pass
       → Derives v (queryOf s) (map (stepAt s) (chain s)) → scriptCheck v s ≡ accepted (length (chain s))

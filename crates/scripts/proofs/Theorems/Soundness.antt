@@ -2,10 +2,10 @@
 -- one, that would deny the query; with the functions and a that it has, no column would hold, but the start column would.
 --   listed-column                a column that has positions is one of its owner's
 --   truthOf, allTrue, AllFalse   what literals say of the elements that their terms stand for
---   others-true                  a list is true if the literal at a position is, and the others
+--   remainder-true                  a list is true if the literal at a position is, and the remainder
 --   reduced-true                 a goal whose complement is on a path of false literals is true
---   extended-true                so is one whose complement is in a column with its others true, as no column holds
---   derivation-sound             where no column holds, the open literals of a derivation with a path of false literals are true
+--   extended-true                so is one whose complement is in a column with its remainder true, as no column literalsHold
+--   derivation-sound             where no column literalsHold, the open literals of a derivation with a path of false literals are true
 --   derives-sound                "A within B" is so in every finite interpretation satisfying the statements, if it is derived
 -- Assumes nothing.
 use Prim.Native.Nat.{ℕ, zero, suc, _-_, _<_}
@@ -22,13 +22,13 @@ use Rattle.types.specs.Meaning.{Interpretation, belongs, AlwaysWithin}
 use Rattle.records.proofs.Laws.Tests.{both-true, unless-false}
 use Rattle.columns.specs.Literals.{SkolemTerm, constant, Literal, concept, role, complement, substitute, noLiteral}
 use Rattle.columns.specs.Columns.{Column, Query, columnsAt}
-use Rattle.columns.specs.Holding.{literalHolds, holds, Choice, NoneHolds, value}
+use Rattle.columns.specs.Holding.{literalHolds, literalsHold, Choice, NoneHolds, value}
 use Rattle.columns.proofs.Theorems.Holding.{complement-holds}
 use Rattle.columns.proofs.Theorems.Instances.{instance-false}
 use Rattle.columns.proofs.Theorems.Skolem.{none-holds}
 use Rattle.scripts.specs.Steps.{Extension, Step}
 use Rattle.records.specs.Finite.{without}
-use Rattle.scripts.specs.Calculus.{used, connected, others, Listed, onPath, Derivation, ended, reduced, extended, Derives}
+use Rattle.scripts.specs.Calculus.{usedColumn, connectedLiteral, remainder, PositionExists, onPath, Derivation, ended, reduced, extended, Derives}
 use Rattle.scripts.proofs.Theorems.Steps.{Literals}
 
 listed-column : (l : List Column) (n p : ℕ) → p < length (getD l n []) → n < length l
@@ -46,7 +46,7 @@ module _ (I : Interpretation) (v : List ℕ) (k : Choice I) where
   truthOf l = literalHolds I v (substitute (value k) l)
 
   abbrev pub allTrue : Literals → Bool
-  allTrue c = holds I v (map (substitute (value k)) c)
+  allTrue c = literalsHold I v (map (substitute (value k)) c)
 
   abbrev pub AllFalse : Literals → Type 0
   AllFalse path = All (λ l. truthOf l ≡ false) path
@@ -56,17 +56,17 @@ module _ (I : Interpretation) (v : List ℕ) (k : Choice I) where
   complement-truth (role s r t u) = complement-holds I v (role s r (value k t) (value k u))
 
   true-cons : (l : Literal SkolemTerm) (c : Literals) → truthOf l ≡ true → allTrue c ≡ true → allTrue (l ∷ c) ≡ true
-  unfolding holds
+  unfolding literalsHold
   true-cons l c p h = both-true (truthOf l) (allTrue c) p h
 
-  others-true : (p : ℕ) (c : Literals) → p < length c → truthOf (getD c p noLiteral) ≡ true
+  remainder-true : (p : ℕ) (c : Literals) → p < length c → truthOf (getD c p noLiteral) ≡ true
       → allTrue (without p c) ≡ true → allTrue c ≡ true
-  unfolding holds without
-  others-true p [] l h o = absurd (omega arith)
-  others-true zero (m ∷ c) l h o = both-true (truthOf m) (allTrue c) h o
-  others-true (suc p) (m ∷ c) l h o =
+  unfolding literalsHold without
+  remainder-true p [] l h o = absurd (omega arith)
+  remainder-true zero (m ∷ c) l h o = both-true (truthOf m) (allTrue c) h o
+  remainder-true (suc p) (m ∷ c) l h o =
       both-true (truthOf m) (allTrue c) (both-left (truthOf m) (allTrue (without p c)) o)
-      (others-true p c (omega arith) h (both-right (truthOf m) (allTrue (without p c)) o))
+      (remainder-true p c (omega arith) h (both-right (truthOf m) (allTrue (without p c)) o))
 
   reduced-true : (l : Literal SkolemTerm) (path : Literals) (f : ℕ) → f < length path
       → onPath path f ≡ complement l → AllFalse path → truthOf l ≡ true
@@ -75,18 +75,18 @@ module _ (I : Interpretation) (v : List ℕ) (k : Choice I) where
       not-false (truthOf l) (sym (complement-truth l) ∙ sym (ap truthOf p) ∙ met)
 
   module _ (q : Query) (none : NoneHolds I k v q) where
-    extended-true : (l : Literal SkolemTerm) (e : Extension SkolemTerm) → Listed v q e → connected v q e ≡ complement l
-        → (truthOf l ≡ false → allTrue (others v q e) ≡ true) → truthOf l ≡ true
+    extended-true : (l : Literal SkolemTerm) (e : Extension SkolemTerm) → PositionExists v q e → connectedLiteral v q e ≡ complement l
+        → (truthOf l ≡ false → allTrue (remainder v q e) ≡ true) → truthOf l ≡ true
     extended-true l e h p above = unless-false (truthOf l) (λ f.
-        let met : truthOf (connected v q e) ≡ true = ap truthOf p ∙ complement-truth l ∙ ap not f in
-        let long : e .position < length (used v q e) = rw length-map h in
-        let holding = others-true (e .position) (used v q e) long met (above f) in
+        let met : truthOf (connectedLiteral v q e) ≡ true = ap truthOf p ∙ complement-truth l ∙ ap not f in
+        let long : e .position < length (usedColumn v q e) = rw length-map h in
+        let holding = remainder-true (e .position) (usedColumn v q e) long met (above f) in
         let listed = listed-column (columnsAt v q (e .owner)) (e .column) (e .position) h in
         let fails = instance-false I k (e .owner) (e .first) (e .second) v q none (e .column) listed in
         clash (cc))
 
     pub derivation-sound : {c path : Literals} → Derivation v q c path → AllFalse path → allTrue c ≡ true
-    unfolding holds
+    unfolding literalsHold
     derivation-sound ended f = refl
     derivation-sound (reduced {l} {c} {path} n h p d) f =
         true-cons l c (reduced-true l path n h p f) (derivation-sound d f)

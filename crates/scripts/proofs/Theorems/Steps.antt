@@ -4,10 +4,10 @@
 --   room, room-under                     a column may open above n frames: an empty one always, any other under the limit
 --   close-goal, goal-below               the goal closed, c is open; a frame's goal, counted as the path counts
 --   complement-true                      a literal that is the complement passes the test
---   reduction-fits                       a reduction of the calculus passes
---   reduction-plays, extension-plays     a step of the calculus passes, and the steps after it run from what it leaves
---   fits-reduction, fits-extension       a step that passes is one of the calculus
---   reduction-played, extension-played   and the steps after it pass from what it leaves
+--   reduction-passes                       a reduction of the calculus passes
+--   reduction-succeeds, extension-succeeds     a step of the calculus passes, and the steps after it run from what it leaves
+--   passes-reduction, passes-extension       a step that passes is one of the calculus
+--   succeeds-reduction, succeeds-extension   and the steps after it pass from what it leaves
 --   start-open                           start opens a query column above no frame
 -- Assumes nothing.
 use Prim.Native.Nat.{ℕ, zero, suc, _-_, _<_, _≤_}
@@ -23,10 +23,10 @@ use Rattle.columns.specs.Literals.{SkolemTerm, Literal, complement, complementa
 use Rattle.columns.specs.Columns.{Query, columnsAt}
 use Rattle.columns.proofs.Theorems.Literals.{complementary-true, complementary-complement}
 use Rattle.scripts.specs.Steps.{Extension, Step, start, extension, reduction}
-use Rattle.scripts.specs.Calculus.{connected, others, onPath, frameLimit, startColumn}
+use Rattle.scripts.specs.Calculus.{connectedLiteral, remainder, onPath, frameLimit, startColumn}
 use Rattle.scripts.specs.Run.{Frames, close, extendBy, stepped, writtenOut}
 use Rattle.records.specs.Finite.{isNil}
-use Rattle.scripts.proofs.Theorems.Tests.{fits, plays}
+use Rattle.scripts.proofs.Theorems.Tests.{stepPasses, succeeds}
 
 abbrev pub Literals : Type 0
 Literals = List (Literal SkolemTerm)
@@ -77,60 +77,60 @@ module _ (v : List ℕ) (q : Query) (l : Literal SkolemTerm) (c : Literals) (fra
   abbrev reduces-goal : ℕ → Bool
   reduces-goal f = complementary (goal-at ((l ∷ c) ∷ frames) f) l
 
-  reduction-fits : (f : ℕ) → f < length (goals frames) → onPath (goals frames) f ≡ complement l
-      → fits (writtenOut v q) ((l ∷ c) ∷ frames) (reduction f) ≡ true
-  reduction-fits f h e =
+  reduction-passes : (f : ℕ) → f < length (goals frames) → onPath (goals frames) f ≡ complement l
+      → stepPasses (writtenOut v q) ((l ∷ c) ∷ frames) (reduction f) ≡ true
+  reduction-passes f h e =
       let m : below f ≡ true = lt-ltb (suc f) (suc (length frames)) (omega (arith, length-map frames first-open)) in
       rw (m, complement-true (goal-at ((l ∷ c) ∷ frames) f) l (goal-below (l ∷ c) frames f h ∙ e))
 
-  pub reduction-plays : (f : ℕ) (rest : Steps) → f < length (goals frames) → onPath (goals frames) f ≡ complement l
-      → plays (writtenOut v q) (reduction f ∷ rest) ((l ∷ c) ∷ frames) ≡ plays (writtenOut v q) rest (extendBy c frames)
-  unfolding plays stepped
-  reduction-plays f rest h e = rw (reduction-fits f h e, close-goal l c frames)
+  pub reduction-succeeds : (f : ℕ) (rest : Steps) → f < length (goals frames) → onPath (goals frames) f ≡ complement l
+      → succeeds (writtenOut v q) (reduction f ∷ rest) ((l ∷ c) ∷ frames) ≡ succeeds (writtenOut v q) rest (extendBy c frames)
+  unfolding succeeds stepped
+  reduction-succeeds f rest h e = rw (reduction-passes f h e, close-goal l c frames)
 
-  pub extension-plays : (e : Extension SkolemTerm) (rest : Steps) → connected v q e ≡ complement l
-      → room (others v q e) (suc (length frames)) ≡ true
-      → plays (writtenOut v q) (extension e ∷ rest) ((l ∷ c) ∷ frames)
-      ≡ plays (writtenOut v q) rest (extendBy (others v q e) ((l ∷ c) ∷ frames))
-  unfolding plays stepped
-  extension-plays e rest p r = rw (complement-true (connected v q e) l p, r)
+  pub extension-succeeds : (e : Extension SkolemTerm) (rest : Steps) → connectedLiteral v q e ≡ complement l
+      → room (remainder v q e) (suc (length frames)) ≡ true
+      → succeeds (writtenOut v q) (extension e ∷ rest) ((l ∷ c) ∷ frames)
+      ≡ succeeds (writtenOut v q) rest (extendBy (remainder v q e) ((l ∷ c) ∷ frames))
+  unfolding succeeds stepped
+  extension-succeeds e rest p r = rw (complement-true (connectedLiteral v q e) l p, r)
 
-  fits-reduction : (f : ℕ) → fits (writtenOut v q) ((l ∷ c) ∷ frames) (reduction f) ≡ true
+  passes-reduction : (f : ℕ) → stepPasses (writtenOut v q) ((l ∷ c) ∷ frames) (reduction f) ≡ true
       → (f < length (goals frames)) × (onPath (goals frames) f ≡ complement l)
-  fits-reduction f p =
+  passes-reduction f p =
       let e = both-left (below f && reduces-goal f) true p in
       let m = ltb-true (suc f) (suc (length frames)) (both-left (below f) (reduces-goal f) e) in
       let h : f < length (goals frames) = omega (arith, m, length-map frames first-open) in
       let k = complementary-true (goal-at ((l ∷ c) ∷ frames) f) l (both-right (below f) (reduces-goal f) e) in
       (h, sym (goal-below (l ∷ c) frames f h) ∙ k)
 
-  pub reduction-played : (f : ℕ) (rest : Steps) → plays (writtenOut v q) (reduction f ∷ rest) ((l ∷ c) ∷ frames) ≡ true
+  pub succeeds-reduction : (f : ℕ) (rest : Steps) → succeeds (writtenOut v q) (reduction f ∷ rest) ((l ∷ c) ∷ frames) ≡ true
       → ((f < length (goals frames)) × (onPath (goals frames) f ≡ complement l))
-      × (plays (writtenOut v q) rest (extendBy c frames) ≡ true)
-  unfolding plays stepped
-  reduction-played f rest p =
-      let fit = fits (writtenOut v q) ((l ∷ c) ∷ frames) (reduction f) in
-      let next = plays (writtenOut v q) rest (close ((l ∷ c) ∷ frames)) in (
-        fits-reduction f (both-left fit next p),
-        ap (plays (writtenOut v q) rest) (sym (close-goal l c frames)) ∙ both-right fit next p,
+      × (succeeds (writtenOut v q) rest (extendBy c frames) ≡ true)
+  unfolding succeeds stepped
+  succeeds-reduction f rest p =
+      let fit = stepPasses (writtenOut v q) ((l ∷ c) ∷ frames) (reduction f) in
+      let next = succeeds (writtenOut v q) rest (close ((l ∷ c) ∷ frames)) in (
+        passes-reduction f (both-left fit next p),
+        ap (succeeds (writtenOut v q) rest) (sym (close-goal l c frames)) ∙ both-right fit next p,
       )
 
-  fits-extension : (e : Extension SkolemTerm) → fits (writtenOut v q) ((l ∷ c) ∷ frames) (extension e) ≡ true
-      → (connected v q e ≡ complement l) × (room (others v q e) (suc (length frames)) ≡ true)
-  fits-extension e p =
-      let connects = complementary (connected v q e) l in
-      let free = room (others v q e) (suc (length frames)) in
-      (complementary-true (connected v q e) l (both-left connects free p), both-right connects free p)
+  passes-extension : (e : Extension SkolemTerm) → stepPasses (writtenOut v q) ((l ∷ c) ∷ frames) (extension e) ≡ true
+      → (connectedLiteral v q e ≡ complement l) × (room (remainder v q e) (suc (length frames)) ≡ true)
+  passes-extension e p =
+      let connects = complementary (connectedLiteral v q e) l in
+      let free = room (remainder v q e) (suc (length frames)) in
+      (complementary-true (connectedLiteral v q e) l (both-left connects free p), both-right connects free p)
 
-  pub extension-played : (e : Extension SkolemTerm) (rest : Steps)
-      → plays (writtenOut v q) (extension e ∷ rest) ((l ∷ c) ∷ frames) ≡ true
-      → ((connected v q e ≡ complement l) × (room (others v q e) (suc (length frames)) ≡ true))
-      × (plays (writtenOut v q) rest (extendBy (others v q e) ((l ∷ c) ∷ frames)) ≡ true)
-  unfolding plays stepped
-  extension-played e rest p =
-      let fit = fits (writtenOut v q) ((l ∷ c) ∷ frames) (extension e) in
-      let next = plays (writtenOut v q) rest (extendBy (others v q e) ((l ∷ c) ∷ frames)) in
-      (fits-extension e (both-left fit next p), both-right fit next p)
+  pub succeeds-extension : (e : Extension SkolemTerm) (rest : Steps)
+      → succeeds (writtenOut v q) (extension e ∷ rest) ((l ∷ c) ∷ frames) ≡ true
+      → ((connectedLiteral v q e ≡ complement l) × (room (remainder v q e) (suc (length frames)) ≡ true))
+      × (succeeds (writtenOut v q) rest (extendBy (remainder v q e) ((l ∷ c) ∷ frames)) ≡ true)
+  unfolding succeeds stepped
+  succeeds-extension e rest p =
+      let fit = stepPasses (writtenOut v q) ((l ∷ c) ∷ frames) (extension e) in
+      let next = succeeds (writtenOut v q) rest (extendBy (remainder v q e) ((l ∷ c) ∷ frames)) in
+      (passes-extension e (both-left fit next p), both-right fit next p)
 
 pub start-open : (v : List ℕ) (q : Query) (n : ℕ) → n ≤ 1
     → stepped (writtenOut v q) [] (start n) ≡ extendBy (startColumn v q n) []

@@ -1,8 +1,8 @@
 -- The run of a chain as a test of its steps, with no numbers and places: what it takes to pass.
 --   passes, passes-true                  whether a check passes; a check that does is `pass`
 --   passes-then, passes-require          a check and the next; a row
---   fits, plays, begins                  a step passes at some frames; steps do in turn, and leave no frame; those of a chain do
---   step-fits, run-plays, chain-begins   rows 20 to 23 and 25 at a step; the run; the check of a chain
+--   stepPasses, succeeds, chainSucceeds                  a step passes at some frames; steps do in turn, and leave no frame; those of a chain do
+--   step-fits, run-succeeds, chain-succeeds   rows 20 to 23 and 25 at a step; the run; the check of a chain
 -- Assumes nothing.
 use Prim.Native.Nat.{ℕ}
 use mathlib.Core.Path.{_≡_, refl, _∙_}
@@ -31,34 +31,34 @@ passes-require true n p = refl
 passes-require false n p = refl
 
 module _ {A L : Type 0} (g : Setting A L) where
-  abbrev pub fits : Frames L → Step A → Bool
-  fits frames step =
+  abbrev pub stepPasses : Frames L → Step A → Bool
+  stepPasses frames step =
       not (isNil frames)
       && (not (isStart step) && (connects g frames step && (reduces g frames step && hasRoom g frames step)))
 
-  unfoldable pub plays : List (Step A) → Frames L → Bool
-  plays [] frames = isNil frames
-  plays (step ∷ rest) frames = fits frames step && plays rest (stepped g frames step)
+  unfoldable pub succeeds : List (Step A) → Frames L → Bool
+  succeeds [] frames = isNil frames
+  succeeds (step ∷ rest) frames = stepPasses frames step && succeeds rest (stepped g frames step)
 
-  abbrev pub begins : List (Step A) → Bool
-  begins [] = false
-  begins (step ∷ rest) = isStart step && plays rest (stepped g [] step)
+  abbrev pub chainSucceeds : List (Step A) → Bool
+  chainSucceeds [] = false
+  chainSucceeds (step ∷ rest) = isStart step && succeeds rest (stepped g [] step)
 
-  step-fits : (i : ℕ) (frames : Frames L) (step : Step A) → passes (stepCheck g i frames step) ≡ fits frames step
+  step-fits : (i : ℕ) (frames : Frames L) (step : Step A) → passes (stepCheck g i frames step) ≡ stepPasses frames step
   unfolding stepCheck
   step-fits i frames step = simp (passes-then, passes-require)
 
   module _ (steps : ℕ → Step A) where
-    run-plays : (is : List ℕ) (frames : Frames L) (last : ℕ) → passes (run g steps frames last is) ≡ plays (map steps is) frames
-    unfolding run plays
-    run-plays [] frames last = passes-require (isNil frames) 24 last
-    run-plays (i ∷ is) frames last =
+    run-succeeds : (is : List ℕ) (frames : Frames L) (last : ℕ) → passes (run g steps frames last is) ≡ succeeds (map steps is) frames
+    unfolding run succeeds
+    run-succeeds [] frames last = passes-require (isNil frames) 24 last
+    run-succeeds (i ∷ is) frames last =
         passes-then (stepCheck g i frames (steps i)) _
-        ∙ rw (step-fits i frames (steps i), run-plays is (stepped g frames (steps i)) i)
+        ∙ rw (step-fits i frames (steps i), run-succeeds is (stepped g frames (steps i)) i)
 
-    pub chain-begins : (is : List ℕ) → passes (chainCheck g steps is) ≡ begins (map steps is)
+    pub chain-succeeds : (is : List ℕ) → passes (chainCheck g steps is) ≡ chainSucceeds (map steps is)
     unfolding chainCheck
-    chain-begins [] = refl
-    chain-begins (i ∷ is) =
+    chain-succeeds [] = refl
+    chain-succeeds (i ∷ is) =
         passes-then (require (isStart (steps i)) 20 i) _
-        ∙ rw (passes-require (isStart (steps i)) 20 i, run-plays is (stepped g [] (steps i)) i)
+        ∙ rw (passes-require (isStart (steps i)) 20 i, run-succeeds is (stepped g [] (steps i)) i)

@@ -3,7 +3,7 @@ use Prim.Native.Nat.{ℕ, zero, suc, _+_, _*_, _≤_, _<_}
 use mathlib.Core.Path.{_≡_}
 use mathlib.Core.List.{List, [], _∷_}
 use lib.ListN.{length, getD, drop}
-use Rattle.columns.specs.Code.Packed.{listed}
+use Rattle.columns.specs.Code.Packed.{untilZero}
 use Rattle.scripts.specs.Calculus.{frameLimit}
 use Rattle.scripts.specs.Run.{Frames}
 use Rattle.scripts.specs.declared.machine.Machine.{Machine}
@@ -18,7 +18,7 @@ places = frameWidth * frameLimit
 -- The literals that frame f was opened with; 0 ends them.
 abbrev pub opened : List ℕ → ℕ → List ℕ
 opened table f =
-    listed (getD table (frameWidth * f) 0) (getD table (frameWidth * f + 1) 0) (getD table (frameWidth * f + 2) 0)
+    untilZero (getD table (frameWidth * f) 0) (getD table (frameWidth * f + 1) 0) (getD table (frameWidth * f + 2) 0)
 
 -- The first n frames, the last of them first; of each as many literals are closed, from its first on, as `closed` says.
 unfoldable pub framesFrom : List ℕ → List ℕ → ℕ → Frames ℕ

@@ -32,16 +32,16 @@ reducesTo frames f goal =
 -- An extension was tested: its answer; where it passed, the column's other literals, for which there is room.
 pub record ExtensionTested (v s : List ℕ) (i goal depth : ℕ) (e : Extension ℕ) (t : Tested) : Type 0 where
   pub rows : checked (t .answer) ≡ extensionCheck v s i goal depth e
-  pub others : checked (t .answer) ≡ pass → literals (t .others) ≡ leaves (numbered v s) e
-  pub room : checked (t .answer) ≡ pass → 0 < t .others .first → depth < frameLimit
+  pub remainder : checked (t .answer) ≡ pass → literals (t .remainder) ≡ leaves (numbered v s) e
+  pub room : checked (t .answer) ≡ pass → 0 < t .remainder .first → depth < frameLimit
 
 -- The step of record i was tested: its answer; where it passed, the literals that extend the frames, none for a reduction.
 pub record StepTested (v s : List ℕ) (i : ℕ) (frames : Frames ℕ) (t : Tested) : Type 0 where
   pub rows : checked (t .answer) ≡ stepCheck (numbered v s) i frames (recordStep s i)
   pub after : checked (t .answer) ≡ pass
-      → extendBy (literals (t .others)) frames ≡ stepped (numbered v s) frames (recordStep s i)
-  pub room : checked (t .answer) ≡ pass → 0 < t .others .first → length frames < frameLimit
-  pub reduced : entryAt s i .w0 ≡ 5 → t .others .first ≡ 0
+      → extendBy (literals (t .remainder)) frames ≡ stepped (numbered v s) frames (recordStep s i)
+  pub room : checked (t .answer) ≡ pass → 0 < t .remainder .first → length frames < frameLimit
+  pub reduced : entryAt s i .w0 ≡ 5 → t .remainder .first ≡ 0
 
 -- The same where the frames are a machine's.
 abbrev pub TestedAt : List ℕ → List ℕ → ℕ → List ℕ → List ℕ → ℕ → Tested → Type 0

@@ -1,9 +1,9 @@
--- What a set of types shows: how many there are, the first at which the terms differ, and the form.
+-- What a set of types shows: how many there are, the first at which the terms differ, and the bitmap.
 --   count-start, count-hit, count-miss          numbers counted, one number further
 --   count-bound, count-cong, members-counted    how many there can be; tests that agree; the members of a set
 --   inBoth, first-..                            the first number in both of two sets, looked for in order
 --   tableOver, over-start, over-turn, over-length   a table written over the front of a list
---   alive-counted, alive-first, alive-form      what a table that holds the survivors shows of them
+--   alive-counted, alive-first, alive-bitmap      what a table that holds the survivors shows of them
 --   size-word, verdict-same, byte-none   the number of types, the verdict and an empty byte as the code makes them
 --   cleared-start, cleared-length, cleared-turn, cleared-over   zeros written over the front of a list
 -- Assumes nothing.
@@ -22,8 +22,8 @@ use Rattle.records.specs.Finite.{digit, least, table, has, members, countBelow,
 use Rattle.records.proofs.Laws.Bits.{digit-small, number-cong}
 use Rattle.types.specs.Types.{types}
 use Rattle.types.specs.Survivors.{survivors, rounds}
-use Rattle.types.specs.Compare.{Verdict, parted, firstParted, verdictWith, verdict, atomLimit, formBytes}
-use Rattle.types.specs.Form.{byteOf, form}
+use Rattle.types.specs.Comparison.{Verdict, distinguishes, firstDistinguishing, verdictWith, verdict, atomLimit, bitmapBytes}
+use Rattle.types.specs.Bitmap.{byteOf, bitmap}
 use Rattle.types.specs.Code.Words.{SameSet}
 use Rattle.types.specs.Code.Settling.{Differs, cleared}
 use Rattle.records.proofs.Laws.Tests.{both-true}
@@ -113,15 +113,15 @@ module _ (v : List ℕ) (alive : List Bool) (same : SameSet alive (survivors v))
       ∙ sym (members-counted (survivors v) ∙ ap (countBelow (has (survivors v))) (stage-length v (rounds v)))
 
   pub alive-first : (a b : ℕ) (differs : List Bool) → Differs v a b differs
-      → least (λ t. has alive t && getD differs t false) (types v) ≡ firstParted v a b
+      → least (λ t. has alive t && getD differs t false) (types v) ≡ firstDistinguishing v a b
   alive-first a b differs d =
-      least-cong (types v) (λ t. has alive t && getD differs t false) (parted v a b)
+      least-cong (types v) (λ t. has alive t && getD differs t false) (distinguishes v a b)
       (λ t l. ap₂ (λ (x y : Bool). x && y) (same t) (d t l))
 
-  pub alive-form : table formBytes (byteOf alive) ≡ form v
-  unfolding form
-  alive-form =
-      table-cong formBytes (byteOf alive) (byteOf (survivors v))
+  pub alive-bitmap : table bitmapBytes (byteOf alive) ≡ bitmap v
+  unfolding bitmap
+  alive-bitmap =
+      table-cong bitmapBytes (byteOf alive) (byteOf (survivors v))
       (λ n l. number-cong 8 (λ j. has alive (8 * n + j)) (λ j. has (survivors v) (8 * n + j)) (λ j k. same (8 * n + j)))
 
 -- The number of types as the code makes it.
@@ -131,7 +131,7 @@ size-word v k few e =
 
 -- The verdict from its parts.
 pub verdict-same : (v : List ℕ) (a b element size found done : ℕ)
-    → element ≡ firstParted v a b → size ≡ types v → found ≡ members (survivors v) → done ≡ rounds v
+    → element ≡ firstDistinguishing v a b → size ≡ types v → found ≡ members (survivors v) → done ≡ rounds v
     → _≡_ {A = Outcome Verdict} (accepted (verdictWith (ltb element size) element found done)) (accepted (verdict v a b))
 unfolding verdict
 verdict-same v a b element size found done e s f d = rw (e, s, f, d)

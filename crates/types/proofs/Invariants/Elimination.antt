@@ -1,9 +1,9 @@
 -- One turn of the loops of type elimination, over plain values.
---   list-covering, covering-less                              the members of a set, listed, cover it and each smaller set
---   Entered, enter-start, enter-more, enter-same              the words that members offer, each at its own place
+--   list-enumerates, enumerates-less                              a list of the members of a set enumerates it and each smaller set
+--   Entered, enter-start, enter-more, enter-same              the words of the fillers at members, each at its own place
 --   keeps-all, keeps-both                                     what tests keep of a set: one that all pass, two in a row
 --   keeps-within, keeps-cong                                  it is within the set; a test that says the same
---   Swept, sweep-start, sweep-out, sweep-kept, sweep-end      the members that fail a test, removed
+--   RemovedBelow, remove-start, remove-out, remove-kept, remove-end      the members that fail a test, removed
 -- Assumes nothing.
 use Prim.Native.Nat.{ℕ, _+_, _≤_, _<_}
 use native.Mathlib.Omega.{arith}
@@ -19,16 +19,16 @@ use Rattle.records.specs.Finite.{anyBelow, has}
 use Rattle.records.proofs.Laws.Order.{any-hit, any-miss}
 use Rattle.records.proofs.Laws.Passed.{clash, both-left}
 use Rattle.records.proofs.Laws.Search.{any-intro}
-use Rattle.types.specs.Compare.{typeLimit}
-use Rattle.types.specs.Code.Elimination.{Covering, Enters, Keeps}
+use Rattle.types.specs.Comparison.{typeLimit}
+use Rattle.types.specs.Code.Elimination.{Enumerates, Enters, Keeps}
 use Rattle.types.proofs.Invariants.Lists.{ListedBelow}
 use Rattle.records.proofs.Laws.Sets.{Within}
 use Rattle.records.proofs.Laws.Tests.{both-true, same-truth}
 
--- The members of a set, listed, cover it.
-pub list-covering : (S : List Bool) (types : List ℕ) (left t : ℕ) → ListedBelow typeLimit S types left t → t ≤ typeLimit
-    → ((u : ℕ) → t ≤ u → has S u ≡ false) → Covering types left S
-list-covering S types left t l h ends =
+-- The members of a set, listed, enumerate it.
+pub list-enumerates : (S : List Bool) (types : List ℕ) (left t : ℕ) → ListedBelow typeLimit S types left t → t ≤ typeLimit
+    → ((u : ℕ) → t ≤ u → has S u ≡ false) → Enumerates types left S
+list-enumerates S types left t l h ends =
     record {
       few = omega (arith, l .few);
       inside = λ j k. omega (arith, l .inside j k);
@@ -39,48 +39,48 @@ list-covering S types left t l h ends =
     at u m (yes k) = l .finds u k m
     at u m (no k) = let none = ends u (omega arith) in absurd (clash (cc))
 
-pub covering-less : (live : List ℕ) (left : ℕ) (S R : List Bool) → Within R S → Covering live left S → Covering live left R
-covering-less live left S R less c =
+pub enumerates-less : (live : List ℕ) (left : ℕ) (S R : List Bool) → Within R S → Enumerates live left S → Enumerates live left R
+enumerates-less live left S R less c =
     record { few = c .few; inside = c .inside; finds = λ t h. c .finds t (less t h) }
 
-module _ (offers live : List ℕ) (S : List Bool) (room words : ℕ) where
-  -- A table of the words that the first j listed types offer.
-  pub record Entered (cover : List ℕ) (j : ℕ) : Type 0 where
-    pub size : length cover ≡ room
-    pub entered : Enters offers live S j words cover
+module _ (filling live : List ℕ) (S : List Bool) (room words : ℕ) where
+  -- A table of the words of the fillers at the first j listed types.
+  pub record Entered (joins : List ℕ) (j : ℕ) : Type 0 where
+    pub size : length joins ≡ room
+    pub entered : Enters filling live S j words joins
 
-  module _ (cover : List ℕ) where
-    pub enter-start : length cover ≡ room → ((x : ℕ) → x < words → getD cover x 0 ≡ 0) → Entered cover 0
+  module _ (joins : List ℕ) where
+    pub enter-start : length joins ≡ room → ((x : ℕ) → x < words → getD joins x 0 ≡ 0) → Entered joins 0
     unfolding anyBelow
     enter-start e zeros = record { size = e; entered = zeros }
 
-    module _ (j : ℕ) (l : Entered cover j) where
-      -- Whether the listed type is a member that offers x.
-      abbrev offersIt : ℕ → ℕ → Bool
-      offersIt x i = has S (getD live i 0) && eqb (getD offers (getD live i 0) 0) x
+    module _ (j : ℕ) (l : Entered joins j) where
+      -- Whether the listed type is a member whose word is x.
+      abbrev hasWord : ℕ → ℕ → Bool
+      hasWord x i = has S (getD live i 0) && eqb (getD filling (getD live i 0) 0) x
 
-      pub enter-more : has S (getD live j 0) ≡ true → getD offers (getD live j 0) 0 < room
-          → Entered (set cover (getD offers (getD live j 0) 0) (getD offers (getD live j 0) 0)) (j + 1)
+      pub enter-more : has S (getD live j 0) ≡ true → getD filling (getD live j 0) 0 < room
+          → Entered (set joins (getD filling (getD live j 0) 0) (getD filling (getD live j 0) 0)) (j + 1)
       enter-more m h =
-          record { size = length-set cover o o ∙ l .size; entered = λ x k. at x k (ℕ-discrete x o) }
+          record { size = length-set joins o o ∙ l .size; entered = λ x k. at x k (ℕ-discrete x o) }
         where
           o : ℕ
-          o = getD offers (getD live j 0) 0
+          o = getD filling (getD live j 0) 0
 
-          at : (x : ℕ) → x < words → Dec (x ≡ o) → getD (set cover o o) x 0 ≡ cond (anyBelow (offersIt x) (j + 1)) x 0
+          at : (x : ℕ) → x < words → Dec (x ≡ o) → getD (set joins o o) x 0 ≡ cond (anyBelow (hasWord x) (j + 1)) x 0
           at x k (yes q) =
-              rw q (getD-set-same cover o o 0 (omega (arith, l .size))
-              ∙ ap (λ (b : Bool). cond b o 0) (any-hit (offersIt o) j (both-true _ _ m (eq-eqb o o refl))))
+              rw q (getD-set-same joins o o 0 (omega (arith, l .size))
+              ∙ ap (λ (b : Bool). cond b o 0) (any-hit (hasWord o) j (both-true _ _ m (eq-eqb o o refl))))
           at x k (no q) =
-              let missed : offersIt x j ≡ false = rw (ne-eqb o x (λ e. q (sym e))) (and-false (has S (getD live j 0))) in
-              getD-set-other cover o x o 0 q ∙ l .entered x k
-              ∙ ap (λ (b : Bool). cond b x 0) (any-miss (offersIt x) j _ refl missed)
+              let missed : hasWord x j ≡ false = rw (ne-eqb o x (λ e. q (sym e))) (and-false (has S (getD live j 0))) in
+              getD-set-other joins o x o 0 q ∙ l .entered x k
+              ∙ ap (λ (b : Bool). cond b x 0) (any-miss (hasWord x) j _ refl missed)
 
-      pub enter-same : has S (getD live j 0) ≡ false → Entered cover (j + 1)
+      pub enter-same : has S (getD live j 0) ≡ false → Entered joins (j + 1)
       enter-same m =
           record {
             size = l .size;
-            entered = λ x k. l .entered x k ∙ ap (λ (b : Bool). cond b x 0) (any-miss (offersIt x) j _ refl (rw m));
+            entered = λ x k. l .entered x k ∙ ap (λ (b : Bool). cond b x 0) (any-miss (hasWord x) j _ refl (rw m));
           }
 
 pub keeps-all : (f : ℕ → Bool) (S : List Bool) → ((t : ℕ) → f t ≡ true) → Keeps f S S false
@@ -143,18 +143,18 @@ module _ (met : ℕ → Bool) (live : List ℕ) (S : List Bool) where
   passes j t = not (anyBelow (listed t) j) || met t
 
   -- What is left of a set after the first j listed types were tested.
-  pub record Swept (R : List Bool) (removed : Bool) (j : ℕ) : Type 0 where
+  pub record RemovedBelow (R : List Bool) (removed : Bool) (j : ℕ) : Type 0 where
     pub keeps : Keeps (passes j) S R removed
 
-  pub sweep-start : Swept S false 0
+  pub remove-start : RemovedBelow S false 0
   unfolding anyBelow
-  sweep-start = record { keeps = keeps-all (passes 0) S (λ t. refl) }
+  remove-start = record { keeps = keeps-all (passes 0) S (λ t. refl) }
 
-  module _ (R : List Bool) (removed : Bool) (j : ℕ) (s : Swept R removed j) where
+  module _ (R : List Bool) (removed : Bool) (j : ℕ) (s : RemovedBelow R removed j) where
     w : Keeps (passes j) S R removed
     w = s .keeps
 
-    -- the type listed next; it counts from now on, and others as before
+    -- the type listed next; it counts from now on, and the others as before
     abbrev u : ℕ
     u = getD live j 0
 
@@ -164,8 +164,8 @@ module _ (met : ℕ → Bool) (live : List ℕ) (S : List Bool) where
     other : (t : ℕ) → (u ≡ t → ⊥) → passes j t ≡ passes (j + 1) t
     other t d = ap (λ (b : Bool). not b || met t) (any-miss (listed t) j _ refl (ne-eqb u t d))
 
-    pub sweep-out : u < length S → has R u ≡ true → met u ≡ false → Swept (set R u false) true (j + 1)
-    sweep-out h m n =
+    pub remove-out : u < length S → has R u ≡ true → met u ≡ false → RemovedBelow (set R u false) true (j + 1)
+    remove-out h m n =
         record {
           keeps = record {
             size = length-set R u false ∙ w .size;
@@ -182,8 +182,8 @@ module _ (met : ℕ → Bool) (live : List ℕ) (S : List Bool) where
         at t (no d) =
             getD-set-other R u t false false (λ q. d (sym q)) ∙ w .kept t ∙ ap (λ (b : Bool). has S t && b) (other t d)
 
-    pub sweep-kept : (has R u ≡ true → met u ≡ true) → Swept R removed (j + 1)
-    sweep-kept h =
+    pub remove-kept : (has R u ≡ true → met u ≡ true) → RemovedBelow R removed (j + 1)
+    remove-kept h =
         record { keeps = keeps-cong (passes j) (passes (j + 1)) S R removed w (λ t m. at t m (ℕ-discrete u t)) }
       where
         at : (t : ℕ) → has S t ≡ true → Dec (u ≡ t) → passes j t ≡ passes (j + 1) t
@@ -193,8 +193,8 @@ module _ (met : ℕ → Bool) (live : List ℕ) (S : List Bool) where
             (λ q. rw q (or-true (not (anyBelow (listed t) j)))) ∙ sym (counts t e)
         at t m (no d) = other t d
 
-    pub sweep-end : (left : ℕ) → Covering live left S → left ≤ j → Keeps met S R removed
-    sweep-end left c e =
+    pub remove-end : (left : ℕ) → Enumerates live left S → left ≤ j → Keeps met S R removed
+    remove-end left c e =
         keeps-cong (passes j) met S R removed w
         (λ t m. let f = c .finds t m in ap (λ (b : Bool). not b || met t)
         (any-intro (listed t) j (f .0) (omega (arith, f .1)) (eq-eqb (getD live (f .0) 0) t (f .2))))

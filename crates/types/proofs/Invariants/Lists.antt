@@ -4,7 +4,7 @@
 --   entries-none, entries-length, entry-kept, entry-last   numbers that pass, one further
 --   entry-sound, entry-found           the entries are those that pass
 --   entry-number, entry-at             an entry's number is how many there are before it
---   total-turn, asked-kept, asked-more   a table of what is asked of each entry
+--   total-turn, fill-entry-kept, fill-entry-more   a table of what each entry is to hold
 -- Assumes nothing.
 use Prim.Native.Nat.{ℕ, zero, suc, _+_, _≤_, _<_}
 use native.Mathlib.Omega.{arith}
@@ -184,19 +184,19 @@ module _ (test : ℕ → Bool) where
       let f = entry-found n i h e in
       ap (entry test n) (ap (entries test) (sym (f .2)) ∙ entry-number n (f .0) (f .1)) ∙ f .2
 
-  -- One number further: of the entries below i there are n, and a table has what is asked of each.
+  -- One number further: of the entries below i there are n, and a table has what each is to hold.
   module _ (n i : ℕ) (total : n ≡ entries test i) where
     pub total-turn : (b : Bool) → test i ≡ b → n + digit b ≡ entries test (i + 1)
     total-turn b e = rw (add-one i) (omega (arith, entries-length i, ap digit e))
 
     module _ {A : Type 0} (d : A) (room : ℕ) (ask : ℕ → A) (l : List A) (f : Filled d room l (λ m. ask (entry test i m)) n) where
-      pub asked-kept : Filled d room l (λ m. ask (entry test (i + 1) m)) n
-      asked-kept =
+      pub fill-entry-kept : Filled d room l (λ m. ask (entry test (i + 1) m)) n
+      fill-entry-kept =
           rw (add-one i) (fill-same d room l (λ m. ask (entry test i m)) n f (λ m. ask (entry test (suc i) m))
           (λ m k. ap ask (sym (entry-kept i m (omega arith)))))
 
-      pub asked-more : (x : A) → n < room → test i ≡ true → x ≡ ask i
+      pub fill-entry-more : (x : A) → n < room → test i ≡ true → x ≡ ask i
           → Filled d room (set l n x) (λ m. ask (entry test (i + 1) m)) (n + 1)
-      asked-more x free e q =
-          fill-turn d room l (λ m. ask (entry test (i + 1) m)) n x free asked-kept
+      fill-entry-more x free e q =
+          fill-turn d room l (λ m. ask (entry test (i + 1) m)) n x free fill-entry-kept
           (q ∙ ap ask (sym (rw (add-one i) (newest i n (sym total) e))))

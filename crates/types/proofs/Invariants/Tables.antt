@@ -21,7 +21,7 @@ use Rattle.records.specs.Atoms.{atoms}
 use Rattle.records.specs.Finite.{digit, allBelow, number}
 use Rattle.types.specs.Types.{types}
 use Rattle.records.proofs.Laws.Bits.{number-step, number-small, number-cong}
-use Rattle.types.specs.Compare.{atomLimit, typeLimit}
+use Rattle.types.specs.Comparison.{atomLimit, typeLimit}
 
 -- The entries below i are right.
 abbrev pub Right : {A : Type 0} → A → List A → (ℕ → A) → ℕ → Type 0

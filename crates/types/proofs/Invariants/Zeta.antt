@@ -1,14 +1,14 @@
--- One turn of the loops that spread a table of words, over plain values.
+-- One turn of the loops of the zeta transform of a table of words, over plain values.
 --   joined-none, joined-set, joined-twice      entries joined: none; one more; a block more
 --   Joining, join-start, join-turn, join-end   a block, entry by entry
 --   shifted, power                             a power of two, as the code has it
 --   words-room                                 the words of so few bits lie in the table
---   spreads-end                                one bit, once a loop over its words is past them
+--   zeta-step-end                                one bit, once a loop over its words is past them
 --   Paired, pair-start, pair-turn              one bit, block by block
 --   pair-room, pair-less                       the next block lies in the table, and less is left after it
 --   Stepped, step-start, step-turn             one bit, word by word
 --   step-back, step-less                       the word without the bit lies in the table, and less is left
---   spread-start, spread-turn, spread-end      all bits
+--   zeta-start, zeta-turn, zeta-end      all bits
 -- Assumes nothing.
 use Prim.Native.Nat.{ℕ, suc, _+_, _-_, _*_, _/_, _%_, _^_, _≤_, _<_}
 use native.Mathlib.Omega.{arith}
@@ -26,8 +26,8 @@ use lib.Pow.{pow-pos, pow-add, pow-mono, shl-exact, high}
 use lib.Seq.{getD-set-same, getD-set-other}
 use borrow.Author.Tests.{lt-ltb, le-ltb, le-leb, lt-leb}
 use Rattle.records.specs.Finite.{bit}
-use Rattle.types.specs.Code.Words.{spread}
-use Rattle.types.specs.Code.Elimination.{between, joinedIf, Joined, Spreads, SpreadTo}
+use Rattle.types.specs.Code.Words.{zeta}
+use Rattle.types.specs.Code.Elimination.{between, joinedIf, Joined, ZetaStep, ZetaTo}
 
 -- y lies between a and e; before a; at e or past it
 inside : (a e y : ℕ) → a ≤ y → y < e → between a e y ≡ true
@@ -136,9 +136,9 @@ words-room bits most few h = omega (arith, power bits (omega arith), pow-mono {i
 abbrev wordsBefore : ℕ → ℕ → ℕ → Bool
 wordsBefore x n y = ltb y x && bit y n
 
-pub spreads-end : (old l : List ℕ) (n words x : ℕ) → Joined (wordsBefore x n) (2 ^ n) old l → words ≤ x
-    → Spreads n words old l
-spreads-end old l n words x s h =
+pub zeta-step-end : (old l : List ℕ) (n words x : ℕ) → Joined (wordsBefore x n) (2 ^ n) old l → words ≤ x
+    → ZetaStep n words old l
+zeta-step-end old l n words x s h =
     record { size = s .size; right = λ y k. s .right y ∙ rw (lt-ltb y x (omega arith)) }
 
 -- A table whose entries below `at` are joined where they have bit n; `at` ends a block of two halves.
@@ -329,14 +329,14 @@ module _ (old : List ℕ) (n : ℕ) (h : n < 64) where
     step-turn k = rw (power n h) (stepped k (bitOr (x + 1) (2 ^ n)) (next-word n x (s .word)))
 
 module _ (old : List ℕ) (bits : ℕ) where
-  pub spread-start : SpreadTo 0 (2 ^ bits) old old
-  unfolding spread
-  spread-start = record { size = refl; right = λ x h. refl }
+  pub zeta-start : ZetaTo 0 (2 ^ bits) old old
+  unfolding zeta
+  zeta-start = record { size = refl; right = λ x h. refl }
 
-  module _ (l : List ℕ) (n : ℕ) (s : SpreadTo n (2 ^ bits) old l) where
-    pub spread-turn : (m : List ℕ) → bits < 64 → Spreads n (shifted bits) l m → SpreadTo (n + 1) (2 ^ bits) old m
-    unfolding spread
-    spread-turn m few j =
+  module _ (l : List ℕ) (n : ℕ) (s : ZetaTo n (2 ^ bits) old l) where
+    pub zeta-turn : (m : List ℕ) → bits < 64 → ZetaStep n (shifted bits) l m → ZetaTo (n + 1) (2 ^ bits) old m
+    unfolding zeta
+    zeta-turn m few j =
         record {
           size = j .size ∙ s .size;
           right = λ x k.
@@ -344,7 +344,7 @@ module _ (old : List ℕ) (bits : ℕ) where
               ∙ rw (add-one n, s .right x k, s .right (x - 2 ^ n) (omega arith));
         }
 
-    pub spread-end : n ≤ bits → bits ≤ n → SpreadTo bits (2 ^ bits) old l
-    spread-end h k =
+    pub zeta-end : n ≤ bits → bits ≤ n → ZetaTo bits (2 ^ bits) old l
+    zeta-end h k =
         let all : n ≡ bits = omega arith in
-        subst (λ (i : ℕ). SpreadTo i (2 ^ bits) old l) all s
+        subst (λ (i : ℕ). ZetaTo i (2 ^ bits) old l) all s

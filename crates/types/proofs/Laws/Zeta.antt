@@ -1,9 +1,9 @@
--- Tables spread upwards over the bits below n.
+-- The zeta transform: sums over the subsets of a word, here bitwise or, over the bits below n.
 --   Inside, Under               a word within another; one that differs from it below n only
---   spread-kept, spread-joined  one bit further
---   spread-intro, spread-elim   the bits of an entry: those of the entries under it
---   spread-small                entries stay below a power of two
---   spread-cong                 an entry comes from the entries up to it
+--   zeta-kept, zeta-joined  one bit further
+--   zeta-intro, zeta-elim   the bits of an entry: those of the entries under it
+--   zeta-small                entries stay below a power of two
+--   zeta-cong                 an entry comes from the entries up to it
 -- Assumes nothing.
 use Prim.Native.Nat.{ℕ, zero, suc, _-_, _^_, _≤_, _<_}
 use native.Mathlib.Omega.{arith}
@@ -15,7 +15,7 @@ use lib.Bits.{bitOr, or-lt}
 use borrow.Author.Tests.{eq-eqb, ne-eqb}
 use Rattle.records.proofs.Laws.Passed.{clash, both-left}
 use Rattle.records.specs.Finite.{bit}
-use Rattle.types.specs.Code.Words.{spread}
+use Rattle.types.specs.Code.Words.{zeta}
 use Rattle.records.proofs.Laws.Bits.{bit-or, Cleared, cleared}
 use Rattle.records.proofs.Laws.Width.{bits-everywhere}
 
@@ -75,63 +75,63 @@ abbrev pub Source : (ℕ → ℕ) → ℕ → ℕ → ℕ → Type 0
 Source f n x j = (y : ℕ) × Under n y x × (bit (f y) j ≡ true)
 
 module _ (f : ℕ → ℕ) where
-  pub spread-kept : (n x : ℕ) → bit x n ≡ false → spread f (suc n) x ≡ spread f n x
-  unfolding spread
-  spread-kept n x e = rw e
+  pub zeta-kept : (n x : ℕ) → bit x n ≡ false → zeta f (suc n) x ≡ zeta f n x
+  unfolding zeta
+  zeta-kept n x e = rw e
 
-  pub spread-joined : (n x : ℕ) → bit x n ≡ true → spread f (suc n) x ≡ bitOr (spread f n x) (spread f n (x - 2 ^ n))
-  unfolding spread
-  spread-joined n x e = rw e
+  pub zeta-joined : (n x : ℕ) → bit x n ≡ true → zeta f (suc n) x ≡ bitOr (zeta f n x) (zeta f n (x - 2 ^ n))
+  unfolding zeta
+  zeta-joined n x e = rw e
 
-  bit-kept : (n x j : ℕ) → bit x n ≡ false → bit (spread f (suc n) x) j ≡ bit (spread f n x) j
-  bit-kept n x j e = ap (λ (y : ℕ). bit y j) (spread-kept n x e)
+  bit-kept : (n x j : ℕ) → bit x n ≡ false → bit (zeta f (suc n) x) j ≡ bit (zeta f n x) j
+  bit-kept n x j e = ap (λ (y : ℕ). bit y j) (zeta-kept n x e)
 
   bit-joined : (n x j : ℕ) → bit x n ≡ true
-      → bit (spread f (suc n) x) j ≡ (bit (spread f n x) j || bit (spread f n (x - 2 ^ n)) j)
-  bit-joined n x j e = ap (λ (y : ℕ). bit y j) (spread-joined n x e) ∙ bit-or (spread f n x) (spread f n (x - 2 ^ n)) j
+      → bit (zeta f (suc n) x) j ≡ (bit (zeta f n x) j || bit (zeta f n (x - 2 ^ n)) j)
+  bit-joined n x j e = ap (λ (y : ℕ). bit y j) (zeta-joined n x e) ∙ bit-or (zeta f n x) (zeta f n (x - 2 ^ n)) j
 
-  pub spread-intro : (n x y j : ℕ) → Under n y x → bit (f y) j ≡ true → bit (spread f n x) j ≡ true
-  unfolding spread
-  spread-intro zero x y j u e = ap (λ (z : ℕ). bit (f z) j) (sym (under-none y x u)) ∙ e
-  spread-intro (suc n) x y j u e =
-      at (bit x n) (bit y n) refl refl (λ w. spread-intro n x y j w e) (λ w. spread-intro n (x - 2 ^ n) y j w e)
+  pub zeta-intro : (n x y j : ℕ) → Under n y x → bit (f y) j ≡ true → bit (zeta f n x) j ≡ true
+  unfolding zeta
+  zeta-intro zero x y j u e = ap (λ (z : ℕ). bit (f z) j) (sym (under-none y x u)) ∙ e
+  zeta-intro (suc n) x y j u e =
+      at (bit x n) (bit y n) refl refl (λ w. zeta-intro n x y j w e) (λ w. zeta-intro n (x - 2 ^ n) y j w e)
     where
-      at : (a b : Bool) → bit x n ≡ a → bit y n ≡ b → (Under n y x → bit (spread f n x) j ≡ true)
-          → (Under n y (x - 2 ^ n) → bit (spread f n (x - 2 ^ n)) j ≡ true) → bit (spread f (suc n) x) j ≡ true
+      at : (a b : Bool) → bit x n ≡ a → bit y n ≡ b → (Under n y x → bit (zeta f n x) j ≡ true)
+          → (Under n y (x - 2 ^ n) → bit (zeta f n (x - 2 ^ n)) j ≡ true) → bit (zeta f (suc n) x) j ≡ true
       at false false p q r s = bit-kept n x j p ∙ r (under-narrow n y x u (q ∙ sym p))
       at false true p q r s = let bad = u .inside n q in absurd (clash (cc))
       at true true p q r s = bit-joined n x j p ∙ rw (r (under-narrow n y x u (q ∙ sym p)))
       at true false p q r s =
-          bit-joined n x j p ∙ rw (s (under-cleared n x (cleared n x p) y u q)) (or-true (bit (spread f n x) j))
+          bit-joined n x j p ∙ rw (s (under-cleared n x (cleared n x p) y u q)) (or-true (bit (zeta f n x) j))
 
-  pub spread-elim : (n x j : ℕ) → bit (spread f n x) j ≡ true → Source f n x j
-  unfolding spread
-  spread-elim zero x j e = (x, under-self 0 x, e)
-  spread-elim (suc n) x j e = at (bit x n) refl (spread-elim n x j) (spread-elim n (x - 2 ^ n) j)
+  pub zeta-elim : (n x j : ℕ) → bit (zeta f n x) j ≡ true → Source f n x j
+  unfolding zeta
+  zeta-elim zero x j e = (x, under-self 0 x, e)
+  zeta-elim (suc n) x j e = at (bit x n) refl (zeta-elim n x j) (zeta-elim n (x - 2 ^ n) j)
     where
-      joined : bit x n ≡ true → (b : Bool) → bit (spread f n x) j ≡ b → (b || bit (spread f n (x - 2 ^ n)) j) ≡ true
-          → (bit (spread f n x) j ≡ true → Source f n x j)
-          → (bit (spread f n (x - 2 ^ n)) j ≡ true → Source f n (x - 2 ^ n) j) → Source f (suc n) x j
+      joined : bit x n ≡ true → (b : Bool) → bit (zeta f n x) j ≡ b → (b || bit (zeta f n (x - 2 ^ n)) j) ≡ true
+          → (bit (zeta f n x) j ≡ true → Source f n x j)
+          → (bit (zeta f n (x - 2 ^ n)) j ≡ true → Source f n (x - 2 ^ n) j) → Source f (suc n) x j
       joined p true q h r s = let o = r q in (o .0, under-wider n (o .0) x (o .1), o .2)
       joined p false q h r s = let o = s h in (o .0, under-set n x (cleared n x p) (o .0) (o .1), o .2)
 
-      at : (a : Bool) → bit x n ≡ a → (bit (spread f n x) j ≡ true → Source f n x j)
-          → (bit (spread f n (x - 2 ^ n)) j ≡ true → Source f n (x - 2 ^ n) j) → Source f (suc n) x j
+      at : (a : Bool) → bit x n ≡ a → (bit (zeta f n x) j ≡ true → Source f n x j)
+          → (bit (zeta f n (x - 2 ^ n)) j ≡ true → Source f n (x - 2 ^ n) j) → Source f (suc n) x j
       at false p r s = let o = r (sym (bit-kept n x j p) ∙ e) in (o .0, under-wider n (o .0) x (o .1), o .2)
-      at true p r s = joined p (bit (spread f n x) j) refl (sym (bit-joined n x j p) ∙ e) r s
+      at true p r s = joined p (bit (zeta f n x) j) refl (sym (bit-joined n x j p) ∙ e) r s
 
-  pub spread-small : (n k x : ℕ) → ((y : ℕ) → y ≤ x → f y < 2 ^ k) → spread f n x < 2 ^ k
-  unfolding spread
-  spread-small zero k x h = h x (omega arith)
-  spread-small (suc n) k x h = at (bit x n) (spread-small n k x h) (spread-small n k (x - 2 ^ n) (λ y l. h y (omega arith)))
+  pub zeta-small : (n k x : ℕ) → ((y : ℕ) → y ≤ x → f y < 2 ^ k) → zeta f n x < 2 ^ k
+  unfolding zeta
+  zeta-small zero k x h = h x (omega arith)
+  zeta-small (suc n) k x h = at (bit x n) (zeta-small n k x h) (zeta-small n k (x - 2 ^ n) (λ y l. h y (omega arith)))
     where
-      at : (a : Bool) → spread f n x < 2 ^ k → spread f n (x - 2 ^ n) < 2 ^ k
-          → cond a (bitOr (spread f n x) (spread f n (x - 2 ^ n))) (spread f n x) < 2 ^ k
-      at true p q = or-lt k (spread f n x) (spread f n (x - 2 ^ n)) p q
+      at : (a : Bool) → zeta f n x < 2 ^ k → zeta f n (x - 2 ^ n) < 2 ^ k
+          → cond a (bitOr (zeta f n x) (zeta f n (x - 2 ^ n))) (zeta f n x) < 2 ^ k
+      at true p q = or-lt k (zeta f n x) (zeta f n (x - 2 ^ n)) p q
       at false p q = p
 
-pub spread-cong : (f g : ℕ → ℕ) (n x : ℕ) → ((y : ℕ) → y ≤ x → f y ≡ g y) → spread f n x ≡ spread g n x
-unfolding spread
-spread-cong f g zero x h = h x (omega arith)
-spread-cong f g (suc n) x h =
-    rw (spread-cong f g n x h, spread-cong f g n (x - 2 ^ n) (λ y l. h y (omega arith)))
+pub zeta-cong : (f g : ℕ → ℕ) (n x : ℕ) → ((y : ℕ) → y ≤ x → f y ≡ g y) → zeta f n x ≡ zeta g n x
+unfolding zeta
+zeta-cong f g zero x h = h x (omega arith)
+zeta-cong f g (suc n) x h =
+    rw (zeta-cong f g n x h, zeta-cong f g n (x - 2 ^ n) (λ y l. h y (omega arith)))

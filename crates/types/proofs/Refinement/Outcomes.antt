@@ -15,8 +15,8 @@ use Rattle.records.specs.declared.answers.Checked.{Checked}
 use Rattle.records.specs.declared.answers.Checked.the-variants as check
 use Rattle.records.specs.declared.answers.Counted.{Counted}
 use Rattle.records.specs.declared.answers.Counted.the-variants as count
-use Rattle.types.specs.Compare.{Verdict, verdict, queryCheck, comparison, formBytes}
-use Rattle.types.specs.Form.{form, written}
+use Rattle.types.specs.Comparison.{Verdict, verdict, queryCheck, comparison, bitmapBytes}
+use Rattle.types.specs.Bitmap.{bitmap, written}
 use Rattle.types.specs.declared.answers.Compared.{Compared}
 use Rattle.types.specs.Answers.{compared}
 use Rattle.types.proofs.Theorems.Verdicts.{Answered, answered}
@@ -72,5 +72,5 @@ module _ (v : List ℕ) (a b : ℕ) (lent : List ℕ) where
           }
 
       pub decided-call : (answer : Compared) (after : List ℕ) → compared answer ≡ accepted (verdict v a b)
-          → after ≡ form v ++ drop formBytes lent → Called answer after
+          → after ≡ bitmap v ++ drop bitmapBytes lent → Called answer after
       decided-call answer after h w = (h ∙ sym answers, w ∙ rw answers)

@@ -1,10 +1,10 @@
--- A round by sweeps over the roles, and the rounds one after the other.
---   others-done, full-word                            the words of the other roles, and of all bits, as the code makes them
+-- A round by removals, role after role, and the rounds one after the other.
+--   otherRoleWord-done, full-word                            the words of the other roles, and of all bits, as the code makes them
 --   AfterRoles, roles-start, roles-skip, roles-turn   what is left after the roles below r
 --   round-same, removes-same                          a round goes by the set, not by its table
 --   stage-ends, survivors-end, round-rests            a set that has nothing past the types; a round that removes nothing
---   bits-few, reached-in, met-role, role-skipped      in an elimination: the words lie in the table of covers; one role's test
---   offer-in, covers-done                             the table of covers
+--   bits-few, reached-in, met-role, role-skipped      in an elimination: the words lie in the table of joins; one role's test
+--   fillerWord-in, joins-done                             the table of joins
 --   round-done, eliminating-on                        after all roles it is the round; the state after it
 --   AtStage, rests-survivors, stage-on, rounds-left   rounds one after the other
 -- Assumes nothing.
@@ -26,25 +26,25 @@ use Rattle.records.proofs.Laws.Passed.{clash, both-left, both-right, any-at}
 use Rattle.records.proofs.Laws.Search.{any-intro, any-elim, any-cong}
 use Rattle.records.proofs.Theorems.Accepted.{Accepted, accepted-vocabulary}
 use Rattle.types.specs.Types.{types, served}
-use Rattle.types.specs.Survivors.{fits, round, removes, stage, rounds, survivors}
-use Rattle.types.specs.Compare.{atomLimit, typeLimit}
-use Rattle.types.specs.Code.Words.{width, others, offer, reached, offered, spread, roleServed, Roles, Offers, SameSet}
-use Rattle.types.specs.Code.Elimination.{otherRole, Enters, SpreadTo, Covers, metAt, Keeps, Eliminating, AfterRound}
+use Rattle.types.specs.Survivors.{satisfies, round, removes, stage, rounds, survivors}
+use Rattle.types.specs.Comparison.{atomLimit, typeLimit}
+use Rattle.types.specs.Code.Words.{width, otherRoleWord, fillerWord, reached, presentWord, zeta, roleServed, Roles, FillerWords, SameSet}
+use Rattle.types.specs.Code.Elimination.{otherRole, Enters, ZetaTo, Joins, metAt, Keeps, Eliminating, AfterRound}
 use Rattle.records.proofs.Laws.Tests.{same-truth, both-true, unless-false}
 use Rattle.records.proofs.Laws.Sets.{Within, table-at, table-past, table-cong}
 use Rattle.records.proofs.Laws.Bits.{number-cong}
 use Rattle.types.proofs.Theorems.Survivors.{has-table, Removing, stage-falls, rounds-is}
-use Rattle.types.proofs.Laws.Zeta.{spread-cong}
+use Rattle.types.proofs.Laws.Zeta.{zeta-cong}
 use Rattle.types.proofs.Invariants.Tables.{Ends}
 use Rattle.types.proofs.Refinement.Restrictions.{width-bound}
-use Rattle.types.proofs.Refinement.Words.{reached-small, offer-small}
+use Rattle.types.proofs.Refinement.Words.{reached-small, fillerWord-small}
 use Rattle.types.proofs.Refinement.Served.{served-by-words, served-cong, role-unused}
-use Rattle.types.proofs.Invariants.Elimination.{keeps-all, keeps-both, keeps-cong, covering-less}
+use Rattle.types.proofs.Invariants.Elimination.{keeps-all, keeps-both, keeps-cong, enumerates-less}
 
-pub others-done : (v roles : List ℕ) (bits role : ℕ) → bits ≡ width v → Roles v roles
-    → number bits (otherRole roles role) ≡ others v role
-unfolding others
-others-done v roles bits role e r = rw e (number-cong (width v) _ _ (λ m h. ap (λ (x : ℕ). not (eqb x role)) (r m h)))
+pub otherRoleWord-done : (v roles : List ℕ) (bits role : ℕ) → bits ≡ width v → Roles v roles
+    → number bits (otherRole roles role) ≡ otherRoleWord v role
+unfolding otherRoleWord
+otherRoleWord-done v roles bits role e r = rw e (number-cong (width v) _ _ (λ m h. ap (λ (x : ℕ). not (eqb x role)) (r m h)))
 
 pub full-word : (bits : ℕ) → bits < 16 → (1 * 2 ^ bits) % 2 ^ 16 ≡ 2 ^ bits
 full-word bits h = shl-exact {a = 1} 1 bits 16 (omega arith) (omega arith) ∙ omega arith
@@ -100,7 +100,7 @@ module _ (v : List ℕ) where
   -- no stage has a number past the types
   pub stage-ends : (n : ℕ) → Ends (stage v n) (types v)
   unfolding stage
-  stage-ends zero t h = table-past (types v) (fits v) false t h
+  stage-ends zero t h = table-past (types v) (satisfies v) false t h
   stage-ends (suc n) t h = round-ends (stage v n) t h
 
   pub survivors-end : Ends (survivors v) (types v)
@@ -120,8 +120,8 @@ module _ (v : List ℕ) where
           round-at S t h ∙ stays (has S t) (served v S t) (any-at (λ t. has S t && not (served v S t)) (types v) e t h)
       at (no h) = round-ends S t (omega arith) ∙ sym (ends t (omega arith))
 
-module _ {v : List ℕ} {bits : ℕ} {masks demands live : List ℕ} {left : ℕ} {alive : List Bool}
-    (s : Eliminating v bits masks demands live left alive) where
+module _ {v : List ℕ} {bits : ℕ} {masks held live : List ℕ} {left : ℕ} {alive : List Bool}
+    (s : Eliminating v bits masks held live left alive) where
   pub good : Accepted v
   good = accepted-vocabulary v (count v) (s .accepts)
 
@@ -135,18 +135,18 @@ module _ {v : List ℕ} {bits : ℕ} {masks demands live : List ℕ} {left : ℕ
       at (yes h) = h
       at (no h) = let none = s .ends t (omega arith) in absurd (clash (cc))
 
-  -- a word of so many bits is in the table of covers
+  -- a word of so many bits is in the table of joins
   word-in : (x : ℕ) → x < 2 ^ width v → x < typeLimit
   word-in x h = omega (arith, pow-mono {i = width v} {j = atomLimit} (omega (arith, s .few, width-bound v)))
 
-  pub reached-in : (r t : ℕ) → r < roleCount v → has alive t ≡ true → bitOr (getD demands t 0) (getD masks r 0) < typeLimit
+  pub reached-in : (r t : ℕ) → r < roleCount v → has alive t ≡ true → bitOr (getD held t 0) (getD masks r 0) < typeLimit
   reached-in r t h m =
-      rw (s .masked r h, s .demanded t (member-below t m)) (word-in (reached v t r) (reached-small v t r))
+      rw (s .masked r h, s .held-words t (member-below t m)) (word-in (reached v t r) (reached-small v t r))
 
-  pub met-role : (table : List ℕ) → Covers v alive table → (r t : ℕ) → r < roleCount v → has alive t ≡ true
-      → metAt table (getD masks r 0) demands t ≡ roleServed v alive t r
+  pub met-role : (table : List ℕ) → Joins v alive table → (r t : ℕ) → r < roleCount v → has alive t ≡ true
+      → metAt table (getD masks r 0) held t ≡ roleServed v alive t r
   met-role table c r t h m =
-      rw (s .masked r h, s .demanded t (member-below t m), c (reached v t r) (reached-small v t r))
+      rw (s .masked r h, s .held-words t (member-below t m), c (reached v t r) (reached-small v t r))
 
   pub role-skipped : (r t : ℕ) → r < roleCount v → getD masks r 0 ≡ 2 ^ bits - 1 → roleServed v alive t r ≡ true
   role-skipped r t h e = role-unused v alive t r (sym (s .masked r h) ∙ e ∙ ap (λ (n : ℕ). 2 ^ n - 1) (s .wide))
@@ -154,7 +154,7 @@ module _ {v : List ℕ} {bits : ℕ} {masks demands live : List ℕ} {left : ℕ
   pub round-done : (r : ℕ) (R : List Bool) (removed : Bool) → r ≡ roleCount v → AfterRoles v alive r R removed
       → AfterRound v alive R removed
   round-done r R removed e roles =
-      record { size = w .size; leaves = λ t. at t (decLt t (types v)); told = same-truth _ _ onward back }
+      record { size = w .size; leaves = λ t. at t (decLt t (types v)); reports = same-truth _ _ onward back }
     where
       w : Keeps (served v alive) alive R removed
       w =
@@ -182,15 +182,15 @@ module _ {v : List ℕ} {bits : ℕ} {masks demands live : List ℕ} {left : ℕ
           unless-false removed (λ r. let k = w .same r (f .0) m in clash (cc))
 
   pub eliminating-on : (R : List Bool) (removed : Bool) → AfterRound v alive R removed
-      → Eliminating v bits masks demands live left R
+      → Eliminating v bits masks held live left R
   eliminating-on R removed a =
       record {
         accepts = s .accepts;
         few = s .few;
         wide = s .wide;
         masked = s .masked;
-        demanded = s .demanded;
-        listed = covering-less live left alive R within (s .listed);
+        held-words = s .held-words;
+        listed = enumerates-less live left alive R within (s .listed);
         ends = λ t h. a .leaves t ∙ round-ends v alive t h;
         size = a .size ∙ s .size;
       }
@@ -200,46 +200,46 @@ module _ {v : List ℕ} {bits : ℕ} {masks demands live : List ℕ} {left : ℕ
           both-left (has alive t) (served v alive t)
           (has-table (types v) (λ t. has alive t && served v alive t) t (sym (a .leaves t) ∙ h) .1)
 
-  module _ (offers : List ℕ) (o : Offers v offers) where
-    pub offer-in : (t : ℕ) → has alive t ≡ true → getD offers t 0 < typeLimit
-    offer-in t m = rw (o t (member-below t m)) (word-in (offer v t) (offer-small v t))
+  module _ (filling : List ℕ) (o : FillerWords v filling) where
+    pub fillerWord-in : (t : ℕ) → has alive t ≡ true → getD filling t 0 < typeLimit
+    fillerWord-in t m = rw (o t (member-below t m)) (word-in (fillerWord v t) (fillerWord-small v t))
 
-    -- the offers entered are those of the set
-    offered-listed : (first : List ℕ) (words : ℕ) → Enters offers live alive left words first → (x : ℕ) → x < words
-        → getD first x 0 ≡ offered v alive x
-    offered-listed first words enters x h = enters x h ∙ ap (λ (b : Bool). cond b x 0) (same-truth _ _ onward back)
+    -- the words entered are those of the set
+    present-listed : (first : List ℕ) (words : ℕ) → Enters filling live alive left words first → (x : ℕ) → x < words
+        → getD first x 0 ≡ presentWord v alive x
+    present-listed first words enters x h = enters x h ∙ ap (λ (b : Bool). cond b x 0) (same-truth _ _ onward back)
       where
         listed : ℕ → Bool
-        listed i = has alive (getD live i 0) && eqb (getD offers (getD live i 0) 0) x
+        listed i = has alive (getD live i 0) && eqb (getD filling (getD live i 0) 0) x
 
         all : ℕ → Bool
-        all t = has alive t && eqb (offer v t) x
+        all t = has alive t && eqb (fillerWord v t) x
 
-        offers-it : (t : ℕ) → t < types v → (has alive t && eqb (getD offers t 0) x) ≡ all t
-        offers-it t k = ap (λ (y : ℕ). has alive t && eqb y x) (o t k)
+        has-word : (t : ℕ) → t < types v → (has alive t && eqb (getD filling t 0) x) ≡ all t
+        has-word t k = ap (λ (y : ℕ). has alive t && eqb y x) (o t k)
 
         onward : anyBelow listed left ≡ true → anyBelow all (types v) ≡ true
         onward e =
             let f = any-elim listed left e in
             let t = getD live (f .0) 0 in
-            let k = member-below t (both-left (has alive t) (eqb (getD offers t 0) x) (f .2)) in
-            any-intro all (types v) t k (sym (offers-it t k) ∙ f .2)
+            let k = member-below t (both-left (has alive t) (eqb (getD filling t 0) x) (f .2)) in
+            any-intro all (types v) t k (sym (has-word t k) ∙ f .2)
 
         back : anyBelow all (types v) ≡ true → anyBelow listed left ≡ true
         back e =
             let f = any-elim all (types v) e in
-            let g = s .listed .finds (f .0) (both-left (has alive (f .0)) (eqb (offer v (f .0)) x) (f .2)) in
+            let g = s .listed .finds (f .0) (both-left (has alive (f .0)) (eqb (fillerWord v (f .0)) x) (f .2)) in
             any-intro listed left (g .0) (g .1)
-            (subst (λ (t : ℕ). (has alive t && eqb (getD offers t 0) x) ≡ true) (sym (g .2)) (offers-it (f .0) (f .1) ∙ f .2))
+            (subst (λ (t : ℕ). (has alive t && eqb (getD filling t 0) x) ≡ true) (sym (g .2)) (has-word (f .0) (f .1) ∙ f .2))
 
-    pub covers-done : (words : ℕ) (first last : List ℕ) → words ≡ 2 ^ bits → Enters offers live alive left words first
-        → SpreadTo bits (2 ^ bits) first last → Covers v alive last
-    covers-done words first last e enters spreads x h =
+    pub joins-done : (words : ℕ) (first last : List ℕ) → words ≡ 2 ^ bits → Enters filling live alive left words first
+        → ZetaTo bits (2 ^ bits) first last → Joins v alive last
+    joins-done words first last e enters zeta-step x h =
         let k : x < 2 ^ bits = omega (arith, ap (λ (n : ℕ). 2 ^ n) (s .wide)) in
-        spreads .right x k
-        ∙ spread-cong (λ y. getD first y 0) (offered v alive) bits x
-        (λ y l. offered-listed first words enters y (omega arith))
-        ∙ ap (λ (n : ℕ). spread (offered v alive) n x) (s .wide)
+        zeta-step .right x k
+        ∙ zeta-cong (λ y. getD first y 0) (presentWord v alive) bits x
+        (λ y l. present-listed first words enters y (omega arith))
+        ∙ ap (λ (n : ℕ). zeta (presentWord v alive) n x) (s .wide)
 
 -- What stands after some rounds that each removed something.
 pub record AtStage (v : List ℕ) (alive : List Bool) (done : ℕ) : Type 0 where
@@ -250,14 +250,14 @@ module _ {v : List ℕ} {alive : List Bool} {done : ℕ} (w : AtStage v alive do
     (a : AfterRound v alive R removed) where
   -- the round by the code is the round of the paper
   stage-removes : removed ≡ removes v (stage v done)
-  stage-removes = a .told ∙ removes-same v alive (stage v done) (w .same)
+  stage-removes = a .reports ∙ removes-same v alive (stage v done) (w .same)
 
   pub rests-survivors : removed ≡ false → SameSet R (survivors v) × (done ≡ rounds v)
   unfolding survivors
   rests-survivors e =
       let end = rounds-is v done (sym stage-removes ∙ e) (w .before) in
       let ends : Ends alive (types v) = λ t h. w .same t ∙ stage-ends v done t h in (
-        λ t. a .leaves t ∙ round-rests v alive ends (sym (a .told) ∙ e) t ∙ w .same t ∙ ap (λ (n : ℕ). has (stage v n) t) end,
+        λ t. a .leaves t ∙ round-rests v alive ends (sym (a .reports) ∙ e) t ∙ w .same t ∙ ap (λ (n : ℕ). has (stage v n) t) end,
         end,
       )
 

@@ -1,7 +1,7 @@
 -- The truth rules of the code are the paper's.
 --   rule-restriction, rule-low, rule-high, first-.., second-..   the tables of shapes by the ranges of a `match`
 --   agree                          rules that agree at all four places
---   rule-connects                  what a record says, by its rule
+--   rule-evaluates                  what a record says, by its rule
 --   operands-earlier               its operands come no later than the record
 -- Assumes nothing.
 use Prim.Native.Nat.{ℕ, zero, suc, _+_, _≤_, _<_}
@@ -15,7 +15,7 @@ use Rattle.records.specs.declared.fields.Record.{Record}
 use Rattle.records.proofs.Laws.Ranges.{between}
 use Rattle.records.proofs.Theorems.Constructs.{Earlier, says-past}
 use Rattle.records.specs.Finite.{bit}
-use Rattle.types.specs.Meaning.{connect}
+use Rattle.types.specs.Meaning.{evaluate}
 use Rattle.types.specs.Code.Rules.{Shape, shape, shapes, shapeOf, ruleOf, firstOf, secondOf, select}
 
 shape-past : (k : ℕ) → 10 ≤ k → shapeOf k ≡ shape 0 false false
@@ -85,13 +85,13 @@ agree f g h true false = h .2
 agree f g h true true = h .3
 
 -- where an atom's own place has its truth already
-pub rule-connects : (r : Record) (n : ℕ) (f : ℕ → Bool)
-    → select (ruleOf (r .kind)) (f (firstOf (r .kind) (r .a) n)) (f (secondOf (r .kind) (r .b))) ≡ connect (constructOf r) (f n) f
+pub rule-evaluates : (r : Record) (n : ℕ) (f : ℕ → Bool)
+    → select (ruleOf (r .kind)) (f (firstOf (r .kind) (r .a) n)) (f (secondOf (r .kind) (r .b))) ≡ evaluate (constructOf r) (f n) f
 unfolding kindOf shapeOf select bit
-rule-connects r n f = at (decLt (r .kind) 10)
+rule-evaluates r n f = at (decLt (r .kind) 10)
   where
     Connects : ℕ → Type 0
-    Connects k = select (ruleOf k) (f (firstOf k (r .a) n)) (f (secondOf k (r .b))) ≡ connect (kindOf k .says r) (f n) f
+    Connects k = select (ruleOf k) (f (firstOf k (r .a) n)) (f (secondOf k (r .b))) ≡ evaluate (kindOf k .says r) (f n) f
 
     never : (x y : Bool) → select 0 x y ≡ false
     never = agree (select 0) (λ x y. false) (refl, refl, refl, refl)

@@ -17,8 +17,8 @@ use Rattle.records.proofs.Theorems.Accepted.{accepted-vocabulary}
 use Rattle.records.specs.Finite.{members}
 use Rattle.types.specs.Types.{types}
 use Rattle.types.specs.Survivors.{survivors, rounds}
-use Rattle.types.specs.Compare.{Verdict, equal, different, verdict, atomLimit, formBytes, termCheck, atomsCheck}
-use Rattle.types.specs.Compare.{queryCheck, comparison, typeLimit}
+use Rattle.types.specs.Comparison.{Verdict, equal, different, verdict, atomLimit, bitmapBytes, termCheck, atomsCheck}
+use Rattle.types.specs.Comparison.{queryCheck, comparison, typeLimit}
 use Rattle.records.proofs.Laws.Sets.{members-bound}
 use Rattle.types.proofs.Invariants.Tables.{types-bound}
 use Rattle.types.proofs.Theorems.Survivors.{stage-length, survivors-serving}
@@ -60,7 +60,7 @@ module _ (v : List ℕ) (a b lent : ℕ) where
       then-near most (termCheck v a) _ (require-near most (ltb a (count v) && isTerm (recordAt v a .kind)) 10 a (omega arith))
       (then-near most (termCheck v b) _ (require-near most (ltb b (count v) && isTerm (recordAt v b .kind)) 10 b (omega arith))
       (then-near most (atomsCheck v) _ (require-near most (leb (atoms v) atomLimit) 11 (atoms v) (omega arith))
-      (require-near most (leb formBytes lent) 12 0 (omega arith))))
+      (require-near most (leb bitmapBytes lent) 12 0 (omega arith))))
 
   -- a refusal of the vocabulary, or of the query
   refused-near : (o : Outcome ℕ) (q : Check) (x : Verdict) (n p : ℕ) → Small recordLimit o

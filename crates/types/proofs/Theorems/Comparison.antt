@@ -17,15 +17,15 @@ use Rattle.records.specs.Finite.{has, members}
 use Rattle.types.specs.Meaning.{Element, belongs, Model, AlwaysEqual}
 use Rattle.types.specs.Types.{types, truth}
 use Rattle.types.specs.Survivors.{rounds, survivors}
-use Rattle.types.specs.Compare.{Verdict, equal, different, parted, firstParted, formBytes, comparison}
-use Rattle.types.specs.Form.{written, readBack}
+use Rattle.types.specs.Comparison.{Verdict, equal, different, distinguishes, firstDistinguishing, bitmapBytes, comparison}
+use Rattle.types.specs.Bitmap.{written, readBack}
 use Rattle.records.proofs.Laws.Below.{least-holds}
 use Rattle.records.proofs.Laws.Sets.{members-zero}
 use Rattle.types.proofs.Theorems.Survivors.{rounds-bound}
-use Rattle.types.proofs.Theorems.ReadBack.{read-filed, read-model}
+use Rattle.types.proofs.Theorems.ReadBack.{readBack-canonical, read-model}
 use Rattle.types.proofs.Theorems.Verdicts.{Answered, answered, Decided, same, apart, decided, named-first}
-use Rattle.types.proofs.Theorems.Verdicts.{parted-survivor, parted-apart, unparted-same, unparted-equal, parted-shown}
-use Rattle.types.proofs.Theorems.Verdicts.{parted-unequal}
+use Rattle.types.proofs.Theorems.Verdicts.{distinguishes-survivor, distinguishes-differ, indistinct-same, indistinct-equal, distinguishes-shown}
+use Rattle.types.proofs.Theorems.Verdicts.{distinguishes-unequal}
 
 -- The counts that go with either answer.
 abbrev pub Counts : List ℕ → Verdict → Type 0
@@ -41,8 +41,8 @@ module _ (v : List ℕ) (a b lent : ℕ) where
     where
       at : Answered v a b lent x → Decided v a b x
           → ((s n : ℕ) → x ≡ equal s n → AlwaysEqual v a b) × (AlwaysEqual v a b → x ≡ equal (members (survivors v)) (rounds v))
-      at c (same none q) = (λ s n h. unparted-equal v (c .good) a b none, λ always. q)
-      at c (apart l q) = (λ s n h. absurd (clash (cc)), λ always. absurd (parted-unequal v (c .good) a b (c .few) l always))
+      at c (same none q) = (λ s n h. indistinct-equal v (c .good) a b none, λ always. q)
+      at c (apart l q) = (λ s n h. absurd (clash (cc)), λ always. absurd (distinguishes-unequal v (c .good) a b (c .few) l always))
 
   -- "They .. are the interpretation written, with either answer": its elements are the survivors, and if there is one, it
   -- satisfies the statements.
@@ -51,9 +51,9 @@ module _ (v : List ℕ) (a b lent : ℕ) where
       (Element I t → has (survivors v) t ≡ true) × (has (survivors v) t ≡ true → Element I t × Model I v)
   written-survivors x e out t =
       let c = answered v a b lent x e in
-      let rest = drop formBytes out in
-      let filed = read-filed v rest (c .few) in
-      rw e (filed .only t, λ h. (filed .inside t h, read-model v (c .good) (c .few) rest t h))
+      let rest = drop bitmapBytes out in
+      let canonical = readBack-canonical v rest (c .few) in
+      rw e (canonical .only t, λ h. (canonical .inside t h, read-model v (c .good) (c .few) rest t h))
 
   -- "It is read back from these bytes and the vocabulary alone", "The element that Different names is the t it carries.": with
   -- Different, it satisfies the statements, and the element named belongs to one of the two terms alone.
@@ -63,7 +63,7 @@ module _ (v : List ℕ) (a b lent : ℕ) where
   different-shown t s n e out =
       let c = answered v a b lent (different t s n) e in
       let first = named-first v a b t s n (decided v a b lent (different t s n) e) in
-      rw e (parted-shown v (c .good) a b (c .few) t (first .parts) (drop formBytes out))
+      rw e (distinguishes-shown v (c .good) a b (c .few) t (first .parts) (drop bitmapBytes out))
 
   -- "with the smallest survivor at which the two terms differ"
   pub different-first : (t s n : ℕ) → comparison v a b lent ≡ accepted (different t s n)
@@ -71,9 +71,9 @@ module _ (v : List ℕ) (a b lent : ℕ) where
       × ((u : ℕ) → u < t → has (survivors v) u ≡ true → truth v u a ≡ truth v u b)
   different-first t s n e =
       let first = named-first v a b t s n (decided v a b lent (different t s n) e) in (
-        parted-survivor v a b t (first .parts),
-        parted-apart v a b t (first .parts),
-        λ u l. unparted-same v a b u (first .before u l),
+        distinguishes-survivor v a b t (first .parts),
+        distinguishes-differ v a b t (first .parts),
+        λ u l. indistinct-same v a b u (first .before u l),
       )
 
   -- "with either go the number of survivors and of rounds that removed something (never over 2^k)"
@@ -91,7 +91,7 @@ module _ (v : List ℕ) (a b lent : ℕ) where
       at : Decided v a b x → x ≡ equal 0 (rounds v)
       at (same h q) = q ∙ ap (λ (s : ℕ). equal s (rounds v)) none
       at (apart l q) =
-          let t = firstParted v a b in
-          let inside = parted-survivor v a b t (least-holds (types v) (parted v a b) l) in
+          let t = firstDistinguishing v a b in
+          let inside = distinguishes-survivor v a b t (least-holds (types v) (distinguishes v a b) l) in
           let empty = members-zero (survivors v) none t in
           absurd (clash (cc))

@@ -3,7 +3,7 @@
 --   typeOf, type-small           an element's type
 --   type-agrees                  the terms true at it are those the element belongs to
 --   type-allowed                 a role's pairs are allowed pairs of types
---   type-fits, type-served       the statements hold at it, and a set with the types of all elements serves it
+--   type-satisfies, type-served       the statements hold at it, and a set with the types of all elements serves it
 --   type-survives                it is a survivor
 -- Assumes nothing.
 use Prim.Native.Nat.{ℕ, zero, suc, _<_}
@@ -24,11 +24,11 @@ use Rattle.records.proofs.Theorems.Ranks.{rank-below, rank-same}
 use Rattle.records.specs.Finite.{least, has, bit, number}
 use Rattle.types.specs.Meaning.{Interpretation, Element, Restriction, some, all, plain, restrictionAt, belongs, Model}
 use Rattle.types.specs.Types.{types, truth, allows, allowed, witnessed, met, served}
-use Rattle.types.specs.Survivors.{fits, stage, rounds, survivors}
+use Rattle.types.specs.Survivors.{satisfies, stage, rounds, survivors}
 use Rattle.records.proofs.Laws.Tests.{both-true, either-true, implies-true, unless-true}
 use Rattle.records.proofs.Laws.Below.{all-intro, least-is}
 use Rattle.records.proofs.Laws.Bits.{bit-number, number-small}
-use Rattle.types.proofs.Theorems.Truth.{connect-cong, truth-eq, belongs-eq, belongs-atom, belongs-statement, atom-within}
+use Rattle.types.proofs.Theorems.Truth.{evaluate-cong, truth-eq, belongs-eq, belongs-atom, belongs-statement, atom-within}
 use Rattle.types.proofs.Theorems.Witnesses.{Pair, some-holds, some-gives, all-gives, all-misses, witness-holds}
 use Rattle.types.proofs.Theorems.Survivors.{table-has, stage-keeps}
 
@@ -72,7 +72,7 @@ module _ (v : List ℕ) (good : Accepted v) where
   agrees-below I d zero i l = absurd (omega arith)
   agrees-below I d (suc n) i l =
       truth-eq v good (typeOf I v d) i
-      ∙ connect-cong i (constructOf (recordAt v i)) _ _ (truth v (typeOf I v d)) (λ j. belongs I v j d)
+      ∙ evaluate-cong i (constructOf (recordAt v i)) _ _ (truth v (typeOf I v d)) (λ j. belongs I v j d)
       (λ a. let atom = construct-atom (recordAt v i) ∙ a in type-atom I d i atom ∙ belongs-atom v good I i d atom)
       (construct-earlier v good i) (λ j h. agrees-below I d n j (omega arith))
       ∙ sym (belongs-eq v good I i d)
@@ -112,9 +112,9 @@ module _ (v : List ℕ) (good : Accepted v) where
         all-intro (λ i. allows v r (typeOf I v d) (typeOf I v e) i (restrictionAt v i)) (count v)
         (λ i l. type-allows r d e i p (restrictionAt v i) refl)
 
-    pub type-fits : Model I v → (d : ℕ) → Element I d → fits v (typeOf I v d) ≡ true
-    unfolding fits
-    type-fits model d at =
+    pub type-satisfies : Model I v → (d : ℕ) → Element I d → satisfies v (typeOf I v d) ≡ true
+    unfolding satisfies
+    type-satisfies model d at =
         all-intro (λ i. not (chained v i) || truth v (typeOf I v d) i) (count v)
         (λ i l. implies-true (chained v i) (truth v (typeOf I v d) i) (λ c. type-agrees I d i ∙ belongs-statement v good I i d c
         ∙ implies-true (belongs I v (recordAt v i .a) d) (belongs I v (recordAt v i .b) d) (model .satisfied i c d at)))
@@ -149,4 +149,4 @@ module _ (v : List ℕ) (good : Accepted v) where
         stage-keeps v (Holds I v)
         (λ S h d at. table-has (types v) (λ t. has S t && served v S t) (typeOf I v d) (type-small I v d)
         (both-true (has S (typeOf I v d)) (served v S (typeOf I v d)) (h d at) (type-served S h d)))
-        (λ d at. table-has (types v) (fits v) (typeOf I v d) (type-small I v d) (type-fits model d at)) (rounds v)
+        (λ d at. table-has (types v) (satisfies v) (typeOf I v d) (type-small I v d) (type-satisfies model d at)) (rounds v)

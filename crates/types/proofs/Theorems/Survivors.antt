@@ -22,7 +22,7 @@ use Rattle.records.proofs.Laws.Search.{any-elim, any-none}
 use Rattle.records.specs.Finite.{table, has, members, least}
 use Rattle.types.specs.Meaning.{Restriction, some, all, plain, restrictionAt}
 use Rattle.types.specs.Types.{types, truth, witnessed, met, served}
-use Rattle.types.specs.Survivors.{fits, round, removes, stage, rounds, survivors}
+use Rattle.types.specs.Survivors.{satisfies, round, removes, stage, rounds, survivors}
 use Rattle.types.proofs.Theorems.Witnesses.{witness-holds, witness-gives}
 use Rattle.records.proofs.Laws.Tests.{both-true, both-rest, either-true, either-rest, implies-true, implies-rest}
 use Rattle.records.proofs.Laws.Below.{all-intro, all-at, least-bound, least-holds, least-before, least-is, least-end}
@@ -86,7 +86,7 @@ module _ (v : List ℕ) where
 
   pub stage-length : (n : ℕ) → length (stage v n) ≡ types v
   unfolding stage
-  stage-length zero = length-table (types v) (fits v)
+  stage-length zero = length-table (types v) (satisfies v)
   stage-length (suc n) = length-table (types v) (stays v (stage v n))
 
   round-within : (S : List Bool) → Within (round v S) S
@@ -105,7 +105,7 @@ module _ (v : List ℕ) where
   -- each round that removes something is paid for by a type
   pub stage-falls : (n : ℕ) → Removing v n → members (stage v n) + n ≤ types v
   unfolding stage
-  stage-falls zero h = omega (arith, members-bound (table (types v) (fits v)), length-table (types v) (fits v))
+  stage-falls zero h = omega (arith, members-bound (table (types v) (satisfies v)), length-table (types v) (satisfies v))
   stage-falls (suc n) h =
       omega (arith, stage-falls n (λ m l. h m (omega arith)), round-less (stage v n) (stage-length n) (h n (omega arith)))
 
@@ -142,15 +142,15 @@ module _ (v : List ℕ) where
 -- "a set of types at which all statements hold and which serves each of its members"
 pub record Serving (v : List ℕ) (S : List Bool) : Type 0 where
   pub small : (t : ℕ) → has S t ≡ true → t < types v
-  pub fit : (t : ℕ) → has S t ≡ true → fits v t ≡ true
+  pub fit : (t : ℕ) → has S t ≡ true → satisfies v t ≡ true
   pub serves : (t : ℕ) → has S t ≡ true → served v S t ≡ true
 
 module _ (v : List ℕ) where
-  stage-fit : (n t : ℕ) → has (stage v n) t ≡ true → (t < types v) × (fits v t ≡ true)
+  stage-fit : (n t : ℕ) → has (stage v n) t ≡ true → (t < types v) × (satisfies v t ≡ true)
   unfolding stage
   stage-fit =
-      stage-keeps v (λ S. (t : ℕ) → has S t ≡ true → (t < types v) × (fits v t ≡ true))
-      (λ S h t e. h t (round-within v S t e)) (has-table (types v) (fits v))
+      stage-keeps v (λ S. (t : ℕ) → has S t ≡ true → (t < types v) × (satisfies v t ≡ true))
+      (λ S h t e. h t (round-within v S t e)) (has-table (types v) (satisfies v))
 
   -- what a round would not remove is served
   rest-serves : (S : List Bool) → removes v S ≡ false → (t : ℕ) → t < types v → has S t ≡ true → served v S t ≡ true
@@ -172,4 +172,4 @@ module _ (v : List ℕ) where
       stage-keeps v (Within S)
       (λ R more t h. table-has (types v) (stays v R) t (set .small t h)
       (both-true (has R t) (served v R t) (more t h) (served-more v S R more t (set .serves t h))))
-      (λ t h. table-has (types v) (fits v) t (set .small t h) (set .fit t h)) (rounds v)
+      (λ t h. table-has (types v) (satisfies v) t (set .small t h) (set .fit t h)) (rounds v)

@@ -1,5 +1,5 @@
 -- What a record says by what its operands say: truth at a type, and membership in an interpretation.
---   connect-cong, connect-atom                    what a record says, from its atom and its operands
+--   evaluate-cong, evaluate-atom                    what a record says, from its atom and its operands
 --   restricted-atom, some-earlier, all-earlier    restrictions are atoms, and their fillers come earlier
 --   truth-eq, belongs-eq                          the equations of truth and of membership
 --   truth-atom, belongs-atom                      at an atom
@@ -24,36 +24,36 @@ use Rattle.records.proofs.Theorems.Constructs.{record-past, Earlier, construct-
 use Rattle.records.proofs.Theorems.Constructs.{construct-inclusion}
 use Rattle.records.proofs.Theorems.Chains.{chain-statement}
 use Rattle.records.specs.Atoms.{rank}
-use Rattle.types.specs.Meaning.{Interpretation, Restriction, some, all, plain, restrictionOf, restrictionAt, connect}
+use Rattle.types.specs.Meaning.{Interpretation, Restriction, some, all, plain, restrictionOf, restrictionAt, evaluate}
 use Rattle.types.specs.Meaning.{atomAt, extensionRule, belongs}
 use Rattle.types.specs.Types.{truthRule, truth}
 use Rattle.records.proofs.Laws.InOrder.{Local, in-order}
 
 -- The atom's own truth matters to atoms only, and of the operands what they say.
-pub connect-cong : (i : ℕ) (c : Construct) (x y : Bool) (f g : ℕ → Bool) → (atomic c ≡ true → x ≡ y) → Earlier i c
-    → ((j : ℕ) → j < i → f j ≡ g j) → connect c x f ≡ connect c y g
-connect-cong i none x y f g a e h = refl
-connect-cong i top x y f g a e h = refl
-connect-cong i bottom x y f g a e h = refl
-connect-cong i name x y f g a e h = a refl
-connect-cong i (negation p) x y f g a e h = ap not (h p (e .0))
-connect-cong i (conjunction p q) x y f g a e h = ap₂ _&&_ (h p (e .0)) (h q (e .1 .0))
-connect-cong i (disjunction p q) x y f g a e h = ap₂ _||_ (h p (e .0)) (h q (e .1 .0))
-connect-cong i (existential r b) x y f g a e h = a refl
-connect-cong i (universal r b) x y f g a e h = a refl
-connect-cong i (inclusion p q) x y f g a e h = ap₂ (λ (p q : Bool). not p || q) (h p (e .0)) (h q (e .1 .0))
+pub evaluate-cong : (i : ℕ) (c : Construct) (x y : Bool) (f g : ℕ → Bool) → (atomic c ≡ true → x ≡ y) → Earlier i c
+    → ((j : ℕ) → j < i → f j ≡ g j) → evaluate c x f ≡ evaluate c y g
+evaluate-cong i none x y f g a e h = refl
+evaluate-cong i top x y f g a e h = refl
+evaluate-cong i bottom x y f g a e h = refl
+evaluate-cong i name x y f g a e h = a refl
+evaluate-cong i (negation p) x y f g a e h = ap not (h p (e .0))
+evaluate-cong i (conjunction p q) x y f g a e h = ap₂ _&&_ (h p (e .0)) (h q (e .1 .0))
+evaluate-cong i (disjunction p q) x y f g a e h = ap₂ _||_ (h p (e .0)) (h q (e .1 .0))
+evaluate-cong i (existential r b) x y f g a e h = a refl
+evaluate-cong i (universal r b) x y f g a e h = a refl
+evaluate-cong i (inclusion p q) x y f g a e h = ap₂ (λ (p q : Bool). not p || q) (h p (e .0)) (h q (e .1 .0))
 
-pub connect-atom : (c : Construct) (x : Bool) (f : ℕ → Bool) → atomic c ≡ true → connect c x f ≡ x
-connect-atom none x f a = absurd (clash (cc))
-connect-atom top x f a = absurd (clash (cc))
-connect-atom bottom x f a = absurd (clash (cc))
-connect-atom name x f a = refl
-connect-atom (negation p) x f a = absurd (clash (cc))
-connect-atom (conjunction p q) x f a = absurd (clash (cc))
-connect-atom (disjunction p q) x f a = absurd (clash (cc))
-connect-atom (existential r b) x f a = refl
-connect-atom (universal r b) x f a = refl
-connect-atom (inclusion p q) x f a = absurd (clash (cc))
+pub evaluate-atom : (c : Construct) (x : Bool) (f : ℕ → Bool) → atomic c ≡ true → evaluate c x f ≡ x
+evaluate-atom none x f a = absurd (clash (cc))
+evaluate-atom top x f a = absurd (clash (cc))
+evaluate-atom bottom x f a = absurd (clash (cc))
+evaluate-atom name x f a = refl
+evaluate-atom (negation p) x f a = absurd (clash (cc))
+evaluate-atom (conjunction p q) x f a = absurd (clash (cc))
+evaluate-atom (disjunction p q) x f a = absurd (clash (cc))
+evaluate-atom (existential r b) x f a = refl
+evaluate-atom (universal r b) x f a = refl
+evaluate-atom (inclusion p q) x f a = absurd (clash (cc))
 
 -- Not plain.
 abbrev pub restricted : Restriction → Bool
@@ -120,32 +120,32 @@ module _ (v : List ℕ) (good : Accepted v) where
   all-earlier i r b m = filler-earlier i (all r b) m
 
   truth-local : (t : ℕ) → Local false (truthRule v t)
-  truth-local t i f g h = connect-cong i (constructOf (recordAt v i)) _ _ f g (λ a. refl) (construct-earlier v good i) h
+  truth-local t i f g h = evaluate-cong i (constructOf (recordAt v i)) _ _ f g (λ a. refl) (construct-earlier v good i) h
 
-  pub truth-eq : (t i : ℕ) → truth v t i ≡ connect (constructOf (recordAt v i)) (bit t (rank v i)) (truth v t)
+  pub truth-eq : (t i : ℕ) → truth v t i ≡ evaluate (constructOf (recordAt v i)) (bit t (rank v i)) (truth v t)
   unfolding truth
   truth-eq t i = in-order false (truthRule v t) (truth-local t) i
 
   belongs-local : (I : Interpretation) → Local (λ d. false) (extensionRule I v)
   belongs-local I i f g h =
-      fun-ext (λ d. connect-cong i (constructOf (recordAt v i)) _ _ (λ j. f j d) (λ j. g j d)
+      fun-ext (λ d. evaluate-cong i (constructOf (recordAt v i)) _ _ (λ j. f j d) (λ j. g j d)
       (λ a. atom-cong I i d (restrictionAt v i) f g (filler-earlier i (restrictionAt v i) refl) h)
       (construct-earlier v good i) (λ j l. ap (λ (p : ℕ → Bool). p d) (h j l)))
 
   pub belongs-eq : (I : Interpretation) (i d : ℕ)
       → belongs I v i d
-      ≡ connect (constructOf (recordAt v i)) (atomAt I i (restrictionAt v i) (belongs I v) d) (λ j. belongs I v j d)
+      ≡ evaluate (constructOf (recordAt v i)) (atomAt I i (restrictionAt v i) (belongs I v) d) (λ j. belongs I v j d)
   unfolding belongs
   belongs-eq I i d = ap (λ (p : ℕ → Bool). p d) (in-order (λ d. false) (extensionRule I v) (belongs-local I) i)
 
   pub truth-atom : (t i : ℕ) → isAtom (recordAt v i .kind) ≡ true → truth v t i ≡ bit t (rank v i)
   truth-atom t i a =
-      truth-eq t i ∙ connect-atom (constructOf (recordAt v i)) (bit t (rank v i)) (truth v t) (is-atomic v i a)
+      truth-eq t i ∙ evaluate-atom (constructOf (recordAt v i)) (bit t (rank v i)) (truth v t) (is-atomic v i a)
 
   pub belongs-atom : (I : Interpretation) (i d : ℕ) → isAtom (recordAt v i .kind) ≡ true
       → belongs I v i d ≡ atomAt I i (restrictionAt v i) (belongs I v) d
   belongs-atom I i d a =
-      belongs-eq I i d ∙ connect-atom (constructOf (recordAt v i)) _ (λ j. belongs I v j d) (is-atomic v i a)
+      belongs-eq I i d ∙ evaluate-atom (constructOf (recordAt v i)) _ (λ j. belongs I v j d) (is-atomic v i a)
 
   -- A chained statement says that its A lies within its B.
   chained-inclusion : (i : ℕ) → chained v i ≡ true → constructOf (recordAt v i) ≡ inclusion (recordAt v i .a) (recordAt v i .b)
@@ -153,13 +153,13 @@ module _ (v : List ℕ) (good : Accepted v) where
 
   pub truth-statement : (t i : ℕ) → chained v i ≡ true
       → truth v t i ≡ (not (truth v t (recordAt v i .a)) || truth v t (recordAt v i .b))
-  truth-statement t i e = truth-eq t i ∙ ap (λ (c : Construct). connect c (bit t (rank v i)) (truth v t)) (chained-inclusion i e)
+  truth-statement t i e = truth-eq t i ∙ ap (λ (c : Construct). evaluate c (bit t (rank v i)) (truth v t)) (chained-inclusion i e)
 
   pub belongs-statement : (I : Interpretation) (i d : ℕ) → chained v i ≡ true
       → belongs I v i d ≡ (not (belongs I v (recordAt v i .a) d) || belongs I v (recordAt v i .b) d)
   belongs-statement I i d e =
       let atom = atomAt I i (restrictionAt v i) (belongs I v) d in
-      belongs-eq I i d ∙ ap (λ (c : Construct). connect c atom (λ j. belongs I v j d)) (chained-inclusion i e)
+      belongs-eq I i d ∙ ap (λ (c : Construct). evaluate c atom (λ j. belongs I v j d)) (chained-inclusion i e)
 
   belongs-restricted : (I : Interpretation) (i d : ℕ) (k : Restriction) → restrictionAt v i ≡ k → restricted k ≡ true
       → belongs I v i d ≡ atomAt I i k (belongs I v) d

@@ -1,11 +1,11 @@
 -- What a verdict rests on.
 --   Term, Answered, answered                        where the comparison answers, no row refused
 --   answers-always                                  where no row refuses, it answers
---   Decided, decided                                Equal if no survivor parts the terms, else Different with the first
+--   Decided, decided                                Equal if no survivor distinguishes the terms, else Different with the first
 --   First, named-first                              the element that Different names
---   parted-survivor, parted-apart, unparted-same    what a type that parts the terms is
---   unparted-equal                                  terms that no survivor parts are equal in every model
---   Apart, parted-shown, parted-unequal             terms that a survivor parts are apart in the interpretation read back
+--   distinguishes-survivor, distinguishes-differ, indistinct-same    what a type that distinguishes the terms is
+--   indistinct-equal                                  terms that no survivor distinguishes are equal in every model
+--   Apart, distinguishes-shown, distinguishes-unequal             terms that a survivor distinguishes are apart in the interpretation read back
 -- Assumes nothing.
 use Prim.Native.Nat.{ℕ, _≤_, _<_}
 use native.Mathlib.Omega.{arith}
@@ -25,13 +25,13 @@ use Rattle.records.specs.Finite.{has, members}
 use Rattle.types.specs.Meaning.{Interpretation, Element, belongs, Model, AlwaysEqual}
 use Rattle.types.specs.Types.{types, truth}
 use Rattle.types.specs.Survivors.{rounds, survivors}
-use Rattle.types.specs.Compare.{Verdict, equal, different, parted, firstParted, verdictWith, verdict, atomLimit}
-use Rattle.types.specs.Compare.{formBytes, termCheck, atomsCheck, lentCheck, queryCheck, comparison}
-use Rattle.types.specs.Form.{form, readBack}
+use Rattle.types.specs.Comparison.{Verdict, equal, different, distinguishes, firstDistinguishing, verdictWith, verdict, atomLimit}
+use Rattle.types.specs.Comparison.{bitmapBytes, termCheck, atomsCheck, lentCheck, queryCheck, comparison}
+use Rattle.types.specs.Bitmap.{bitmap, readBack}
 use Rattle.records.proofs.Laws.Tests.{both-rest}
 use Rattle.records.proofs.Laws.Below.{least-holds, least-before}
 use Rattle.types.proofs.Theorems.ElementTypes.{typeOf, type-small, type-agrees, type-survives}
-use Rattle.types.proofs.Theorems.ReadBack.{read-filed, read-agrees, read-model}
+use Rattle.types.proofs.Theorems.ReadBack.{readBack-canonical, read-agrees, read-model}
 
 -- x is the number of a term.
 pub record Term (v : List ℕ) (x : ℕ) : Type 0 where
@@ -44,7 +44,7 @@ pub record Answered (v : List ℕ) (a b lent : ℕ) (x : Verdict) : Type 0 where
   pub first : Term v a
   pub second : Term v b
   pub few : atoms v ≤ atomLimit
-  pub room : formBytes ≤ lent
+  pub room : bitmapBytes ≤ lent
   pub answer : verdict v a b ≡ x
 
 term-passed : (v : List ℕ) (x : ℕ) → termCheck v x ≡ pass → Term v x
@@ -75,15 +75,15 @@ answered v a b lent x e =
       first = term-passed v a (row10 .0);
       second = term-passed v b (again .0);
       few = leb-true (atoms v) atomLimit (require-passed (leb (atoms v) atomLimit) 11 (atoms v) (row11 .0));
-      room = leb-true formBytes lent (require-passed (leb formBytes lent) 12 0 (row11 .1));
+      room = leb-true bitmapBytes lent (require-passed (leb bitmapBytes lent) 12 0 (row11 .1));
       answer = cc;
     }
 
 -- Where no row refuses, the comparison answers.
 pub answers-always : (v : List ℕ) (a b lent m : ℕ) → vocabularyCheck v ≡ accepted m → termCheck v a ≡ pass → termCheck v b ≡ pass
-    → atoms v ≤ atomLimit → formBytes ≤ lent → comparison v a b lent ≡ accepted (verdict v a b)
+    → atoms v ≤ atomLimit → bitmapBytes ≤ lent → comparison v a b lent ≡ accepted (verdict v a b)
 unfolding comparison
-answers-always v a b lent m e s t few room = rw (e, s, t, le-leb (atoms v) atomLimit few, le-leb formBytes lent room)
+answers-always v a b lent m e s t few room = rw (e, s, t, le-leb (atoms v) atomLimit few, le-leb bitmapBytes lent room)
 
 beq-same : (a b : Bool) → not (Bool·beq a b) ≡ false → a ≡ b
 beq-same true true e = refl
@@ -103,45 +103,45 @@ never-not false e = clash (cc)
 
 -- No survivor parts the terms and the answer is Equal, or there is a smallest one and it is named.
 pub data Decided (v : List ℕ) (a b : ℕ) (x : Verdict) : Type 0 where
-  same : ((t : ℕ) → t < types v → parted v a b t ≡ false) → x ≡ equal (members (survivors v)) (rounds v) → Decided v a b x
-  apart : firstParted v a b < types v → x ≡ different (firstParted v a b) (members (survivors v)) (rounds v) → Decided v a b x
+  same : ((t : ℕ) → t < types v → distinguishes v a b t ≡ false) → x ≡ equal (members (survivors v)) (rounds v) → Decided v a b x
+  apart : firstDistinguishing v a b < types v → x ≡ different (firstDistinguishing v a b) (members (survivors v)) (rounds v) → Decided v a b x
 
 verdict-decided : (v : List ℕ) (a b : ℕ) (x : Verdict) → verdict v a b ≡ x → Decided v a b x
 unfolding verdict
-verdict-decided v a b x e = at (ltb (firstParted v a b) (types v)) refl e
+verdict-decided v a b x e = at (ltb (firstDistinguishing v a b) (types v)) refl e
   where
-    at : (z : Bool) → ltb (firstParted v a b) (types v) ≡ z
-        → verdictWith z (firstParted v a b) (members (survivors v)) (rounds v) ≡ x → Decided v a b x
-    at true q h = apart (ltb-true (firstParted v a b) (types v) q) (sym h)
+    at : (z : Bool) → ltb (firstDistinguishing v a b) (types v) ≡ z
+        → verdictWith z (firstDistinguishing v a b) (members (survivors v)) (rounds v) ≡ x → Decided v a b x
+    at true q h = apart (ltb-true (firstDistinguishing v a b) (types v) q) (sym h)
     at false q h =
-        same (λ t l. least-before (types v) (parted v a b) t (omega (arith, ltb-false (firstParted v a b) (types v) q))) (sym h)
+        same (λ t l. least-before (types v) (distinguishes v a b) t (omega (arith, ltb-false (firstDistinguishing v a b) (types v) q))) (sym h)
 
 pub decided : (v : List ℕ) (a b lent : ℕ) (x : Verdict) → comparison v a b lent ≡ accepted x → Decided v a b x
 decided v a b lent x e = verdict-decided v a b x (answered v a b lent x e .answer)
 
 -- t is the smallest survivor that parts the terms.
 pub record First (v : List ℕ) (a b t : ℕ) : Type 0 where
-  pub parts : parted v a b t ≡ true
-  pub before : (u : ℕ) → u < t → parted v a b u ≡ false
+  pub parts : distinguishes v a b t ≡ true
+  pub before : (u : ℕ) → u < t → distinguishes v a b u ≡ false
 
 pub named-first : (v : List ℕ) (a b t s n : ℕ) → Decided v a b (different t s n) → First v a b t
 named-first v a b t s n (same none q) = absurd (clash (cc))
 named-first v a b t s n (apart l q) =
-    let first : t ≡ firstParted v a b = cc in
+    let first : t ≡ firstDistinguishing v a b = cc in
     subst (First v a b) (sym first)
-    record { parts = least-holds (types v) (parted v a b) l; before = least-before (types v) (parted v a b) }
+    record { parts = least-holds (types v) (distinguishes v a b) l; before = least-before (types v) (distinguishes v a b) }
 
 module _ (v : List ℕ) (a b : ℕ) where
   -- what a survivor that parts the terms is
-  pub parted-survivor : (t : ℕ) → parted v a b t ≡ true → has (survivors v) t ≡ true
-  parted-survivor t h = both-left (has (survivors v) t) (not (Bool·beq (truth v t a) (truth v t b))) h
+  pub distinguishes-survivor : (t : ℕ) → distinguishes v a b t ≡ true → has (survivors v) t ≡ true
+  distinguishes-survivor t h = both-left (has (survivors v) t) (not (Bool·beq (truth v t a) (truth v t b))) h
 
-  pub parted-apart : (t : ℕ) → parted v a b t ≡ true → truth v t a ≡ not (truth v t b)
-  parted-apart t h =
+  pub distinguishes-differ : (t : ℕ) → distinguishes v a b t ≡ true → truth v t a ≡ not (truth v t b)
+  distinguishes-differ t h =
       beq-apart (truth v t a) (truth v t b) (both-right (has (survivors v) t) (not (Bool·beq (truth v t a) (truth v t b))) h)
 
-  pub unparted-same : (t : ℕ) → parted v a b t ≡ false → has (survivors v) t ≡ true → truth v t a ≡ truth v t b
-  unparted-same t h s =
+  pub indistinct-same : (t : ℕ) → distinguishes v a b t ≡ false → has (survivors v) t ≡ true → truth v t a ≡ truth v t b
+  indistinct-same t h s =
       beq-same (truth v t a) (truth v t b) (both-rest (has (survivors v) t) (not (Bool·beq (truth v t a) (truth v t b))) h s)
 
 -- An interpretation in which element t belongs to one of the two terms alone, and which satisfies the statements.
@@ -149,29 +149,29 @@ abbrev pub Apart : Interpretation → List ℕ → ℕ → ℕ → ℕ → Type 
 Apart I v a b t = Model I v × Element I t × (belongs I v a t ≡ not (belongs I v b t))
 
 module _ (v : List ℕ) (good : Accepted v) (a b : ℕ) where
-  -- terms that no survivor parts are equal in every model
-  pub unparted-equal : ((t : ℕ) → t < types v → parted v a b t ≡ false) → AlwaysEqual v a b
-  unparted-equal none I model d at =
+  -- terms that no survivor distinguishes are equal in every model
+  pub indistinct-equal : ((t : ℕ) → t < types v → distinguishes v a b t ≡ false) → AlwaysEqual v a b
+  indistinct-equal none I model d at =
       let t = typeOf I v d in
       sym (type-agrees v good I d a)
-      ∙ unparted-same v a b t (none t (type-small I v d)) (type-survives v good I model d at)
+      ∙ indistinct-same v a b t (none t (type-small I v d)) (type-survives v good I model d at)
       ∙ type-agrees v good I d b
 
   -- terms that a survivor parts are apart in the interpretation written
-  pub parted-shown : atoms v ≤ atomLimit → (t : ℕ) → parted v a b t ≡ true → (rest : List ℕ)
-      → Apart (readBack v (form v ++ rest)) v a b t
-  parted-shown few t h rest =
-      let s = parted-survivor v a b t h in
+  pub distinguishes-shown : atoms v ≤ atomLimit → (t : ℕ) → distinguishes v a b t ≡ true → (rest : List ℕ)
+      → Apart (readBack v (bitmap v ++ rest)) v a b t
+  distinguishes-shown few t h rest =
+      let s = distinguishes-survivor v a b t h in
       let agrees = read-agrees v good few rest in (
         read-model v good few rest t s,
-        read-filed v rest few .inside t s,
-        agrees a t s ∙ parted-apart v a b t h ∙ sym (ap not (agrees b t s)),
+        readBack-canonical v rest few .inside t s,
+        agrees a t s ∙ distinguishes-differ v a b t h ∙ sym (ap not (agrees b t s)),
       )
 
   -- and so they are not equal in every model
-  pub parted-unequal : atoms v ≤ atomLimit → firstParted v a b < types v → AlwaysEqual v a b → ⊥
-  parted-unequal few l always =
-      let t = firstParted v a b in
-      let I = readBack v (form v ++ []) in
-      let shown : Apart I v a b t = parted-shown few t (least-holds (types v) (parted v a b) l) [] in
+  pub distinguishes-unequal : atoms v ≤ atomLimit → firstDistinguishing v a b < types v → AlwaysEqual v a b → ⊥
+  distinguishes-unequal few l always =
+      let t = firstDistinguishing v a b in
+      let I = readBack v (bitmap v ++ []) in
+      let shown : Apart I v a b t = distinguishes-shown few t (least-holds (types v) (distinguishes v a b) l) [] in
       never-not (belongs I v b t) (sym (always I (shown .0) t (shown .1)) ∙ shown .2)

@@ -135,7 +135,7 @@ module _ (v : List ℕ) (good : Accepted v) where
       let same = implies-rest (eqb r r) (not (truth v t i) || truth v s b) says (eq-eqb r r refl) in
       implies-rest (truth v t i) (truth v s b) same w
 
-  -- what record i demands of a set that serves t
+  -- what record i needs of a set that serves t
   met-at : (S : List Bool) (t i : ℕ) (k : Restriction) → restrictionAt v i ≡ k → restricted k ≡ true → served v S t ≡ true
       → met v S t i k ≡ true
   unfolding served

@@ -1,4 +1,4 @@
--- Type elimination as the code does it: the tables that a round works on, and what a sweep and a round leave. proofs/Rounds
+-- Type elimination as the code does it: the tables that a round works on, and what a removal and a round leave. Refinement.Rounds
 -- shows that the rounds are the paper's.
 use Prim.Native.Nat.{ℕ, _-_, _^_, _≤_, _<_}
 use mathlib.Core.Path.{_≡_}
@@ -13,40 +13,40 @@ use Rattle.records.specs.Check.{IsAccepted}
 use Rattle.records.specs.Atoms.{atoms}
 use Rattle.types.specs.Types.{types}
 use Rattle.types.specs.Survivors.{round, removes}
-use Rattle.types.specs.Compare.{atomLimit, typeLimit}
-use Rattle.types.specs.Code.Words.{width, others, spread, cover, Demands, SameSet}
+use Rattle.types.specs.Comparison.{atomLimit, typeLimit}
+use Rattle.types.specs.Code.Words.{width, otherRoleWord, zeta, joins, RestrictionWords, SameSet}
 
 -- Whether restriction m is of another role than r; a table of the words of that, one for each role.
 abbrev pub otherRole : List ℕ → ℕ → ℕ → Bool
 otherRole roles r m = not (eqb (getD roles m 0) r)
 
 abbrev pub Masks : List ℕ → List ℕ → Type 0
-Masks v masks = (r : ℕ) → r < roleCount v → getD masks r 0 ≡ others v r
+Masks v masks = (r : ℕ) → r < roleCount v → getD masks r 0 ≡ otherRoleWord v r
 
 -- A list of types that has every member of a set.
-pub record Covering (live : List ℕ) (left : ℕ) (S : List Bool) : Type 0 where
+pub record Enumerates (live : List ℕ) (left : ℕ) (S : List Bool) : Type 0 where
   pub few : left ≤ typeLimit
   pub inside : (j : ℕ) → j < left → getD live j 0 < typeLimit
   pub finds : (t : ℕ) → has S t ≡ true → (j : ℕ) × (j < left) × (getD live j 0 ≡ t)
 
 -- The state of an elimination: an accepted vocabulary of few enough atoms, the tables of its roles and types, and the set of
 -- types that are left, with a list that has them all.
-pub record Eliminating (v : List ℕ) (bits : ℕ) (masks demands live : List ℕ) (left : ℕ) (alive : List Bool) : Type 0 where
+pub record Eliminating (v : List ℕ) (bits : ℕ) (masks held live : List ℕ) (left : ℕ) (alive : List Bool) : Type 0 where
   pub accepts : IsAccepted v
   pub few : atoms v ≤ atomLimit
   pub wide : bits ≡ width v
   pub masked : Masks v masks
-  pub demanded : Demands v demands
-  pub listed : Covering live left alive
+  pub held-words : RestrictionWords v held
+  pub listed : Enumerates live left alive
   pub ends : (t : ℕ) → types v ≤ t → has alive t ≡ false
   pub size : length alive ≡ typeLimit
 
--- x itself where one of the first n types listed is in the set and offers it, else 0; a table of that below a bound.
-abbrev pub offeredBy : List ℕ → List ℕ → List Bool → ℕ → ℕ → ℕ
-offeredBy offers live S n x = cond (anyBelow (λ i. has S (getD live i 0) && eqb (getD offers (getD live i 0) 0) x) n) x 0
+-- x itself where one of the first n types listed is in the set and has it as its word of fillers, else 0; a table of that below a bound.
+abbrev pub presentAmong : List ℕ → List ℕ → List Bool → ℕ → ℕ → ℕ
+presentAmong filling live S n x = cond (anyBelow (λ i. has S (getD live i 0) && eqb (getD filling (getD live i 0) 0) x) n) x 0
 
 abbrev pub Enters : List ℕ → List ℕ → List Bool → ℕ → ℕ → List ℕ → Type 0
-Enters offers live S n words table = (x : ℕ) → x < words → getD table x 0 ≡ offeredBy offers live S n x
+Enters filling live S n words table = (x : ℕ) → x < words → getD table x 0 ≡ presentAmong filling live S n x
 
 -- Whether y lies from a on, before e.
 abbrev pub between : ℕ → ℕ → ℕ → Bool
@@ -61,25 +61,25 @@ pub record Joined (test : ℕ → Bool) (half : ℕ) (old new : List ℕ) : Type
   pub right : (y : ℕ) → getD new y 0 ≡ joinedIf (test y) old half y
 
 -- One bit's pass: below a bound, each word with bit n is joined with the word without it.
-pub record Spreads (n words : ℕ) (old new : List ℕ) : Type 0 where
+pub record ZetaStep (n words : ℕ) (old new : List ℕ) : Type 0 where
   pub size : length new ≡ length old
   pub right : (x : ℕ) → x < words → getD new x 0 ≡ joinedIf (bit x n) old (2 ^ n) x
 
 -- The passes over the bits below n.
-pub record SpreadTo (n words : ℕ) (old new : List ℕ) : Type 0 where
+pub record ZetaTo (n words : ℕ) (old new : List ℕ) : Type 0 where
   pub size : length new ≡ length old
-  pub right : (x : ℕ) → x < words → getD new x 0 ≡ spread (λ y. getD old y 0) n x
+  pub right : (x : ℕ) → x < words → getD new x 0 ≡ zeta (λ y. getD old y 0) n x
 
--- A table of the covers of all words.
-abbrev pub Covers : List ℕ → List Bool → List ℕ → Type 0
-Covers v S table = (x : ℕ) → x < 2 ^ width v → getD table x 0 ≡ cover v S x
+-- A table of the joins of all words.
+abbrev pub Joins : List ℕ → List Bool → List ℕ → Type 0
+Joins v S table = (x : ℕ) → x < 2 ^ width v → getD table x 0 ≡ joins v S x
 
--- What a demand word asks of one role is met by a table of covers; what type t asks, by a table of demands.
+-- What a word of restrictions needs for one role is met by a table of joins; what type t needs, by a table of such words.
 abbrev pub metBy : List ℕ → ℕ → ℕ → Bool
-metBy cover mask demand = eqb (bitOr (getD cover (bitOr demand mask) 0) mask) (bitOr demand mask)
+metBy joins mask word = eqb (bitOr (getD joins (bitOr word mask) 0) mask) (bitOr word mask)
 
 abbrev pub metAt : List ℕ → ℕ → List ℕ → ℕ → Bool
-metAt cover mask demands t = metBy cover mask (getD demands t 0)
+metAt joins mask held t = metBy joins mask (getD held t 0)
 
 -- What a test keeps of a set, and whether that is less.
 pub record Keeps (test : ℕ → Bool) (S R : List Bool) (removed : Bool) : Type 0 where
@@ -92,4 +92,4 @@ pub record Keeps (test : ℕ → Bool) (S R : List Bool) (removed : Bool) : Type
 pub record AfterRound (v : List ℕ) (S R : List Bool) (removed : Bool) : Type 0 where
   pub size : length R ≡ length S
   pub leaves : SameSet R (round v S)
-  pub told : removed ≡ removes v S
+  pub reports : removed ≡ removes v S

@@ -1,4 +1,4 @@
--- What the comparison settles before its answer, as the code keeps it: lists, the profile of each type, and the tables that
+-- What the comparison settles before its answer, as the code keeps it: lists, the data of each type, and the tables that
 -- are lent from call to call. No promise to a caller speaks of them.
 use Prim.Native.Nat.{ℕ, zero, suc, _+_, _≤_, _<_}
 use mathlib.Core.Path.{_≡_}
@@ -9,18 +9,18 @@ use Rattle.records.specs.Format.{recordAt, count, recordLimit}
 use Rattle.records.specs.Check.{IsAccepted}
 use Rattle.records.specs.Chain.{chained}
 use Rattle.records.specs.Atoms.{atoms}
-use Rattle.types.specs.declared.profile.Profile.{Profile}
-use Rattle.types.specs.declared.profile.Plan.{Plan}
+use Rattle.types.specs.declared.type_data.TypeData.{TypeData}
+use Rattle.types.specs.declared.type_data.Plan.{Plan}
 use Rattle.types.specs.declared.restrict.Restrictions.{Restrictions}
 use Rattle.records.specs.Finite.{has, number}
 use Rattle.types.specs.Types.{types, truth}
-use Rattle.types.specs.Survivors.{fits, stage, rounds, survivors}
-use Rattle.types.specs.Compare.{atomLimit, typeLimit}
+use Rattle.types.specs.Survivors.{satisfies, stage, rounds, survivors}
+use Rattle.types.specs.Comparison.{atomLimit, typeLimit}
 use Rattle.types.specs.Code.Rules.{Decoded, AtomsListed}
-use Rattle.types.specs.Code.Words.{width, restriction, signed, negated, demand, offer, Roles, Demands, Offers, SameSet}
+use Rattle.types.specs.Code.Words.{width, restriction, signed, negated, restrictionWord, fillerWord, Roles, RestrictionWords, FillerWords, SameSet}
 
 -- The restrictions, and of each its filler, its role and whether it is negated.
-pub record Listed (v : List ℕ) (r : Restrictions) : Type 0 where
+pub record RestrictionsListed (v : List ℕ) (r : Restrictions) : Type 0 where
   pub all : r .count ≡ width v
   pub place-at : (m : ℕ) → m < width v → getD (r .places) m 0 ≡ restriction v m
   pub filler-at : (m : ℕ) → m < width v → getD (r .fillers) m 0 ≡ recordAt v (restriction v m) .b
@@ -48,20 +48,20 @@ pub record Comparable (v : List ℕ) (a b k : ℕ) : Type 0 where
   pub first : a < count v
   pub second : b < count v
 
--- What the profile of a type is taken from: that, decoded, and its atoms, statements and restrictions listed.
+-- What the data of a type is taken from: that, decoded, and its atoms, statements and restrictions listed.
 pub record Prepared (v : List ℕ) (plan : Plan) (code statements : List ℕ) : Type 0 where
   pub query : Comparable v (plan .a) (plan .b) (plan .k)
   pub decoded : Decoded v code
   pub placed : AtomsListed v (plan .places)
   pub stated : Stating v statements (plan .found)
-  pub listed : Listed v (plan .restrictions)
+  pub listed : RestrictionsListed v (plan .restrictions)
 
 -- Whether the terms a and b differ at t.
 abbrev pub differ : List ℕ → ℕ → ℕ → ℕ → Bool
 differ v a b t = not (Bool·beq (truth v t a) (truth v t b))
 
-abbrev pub profileAt : List ℕ → ℕ → ℕ → ℕ → Profile
-profileAt v a b t = record { fits = fits v t; differs = differ v a b t; demand = demand v t; offer = offer v t }
+abbrev pub typeDataAt : List ℕ → ℕ → ℕ → ℕ → TypeData
+typeDataAt v a b t = record { satisfies = satisfies v t; differs = differ v a b t; held = restrictionWord v t; filling = fillerWord v t }
 
 abbrev pub Differs : List ℕ → ℕ → ℕ → List Bool → Type 0
 Differs v a b differs = (t : ℕ) → t < types v → getD differs t false ≡ differ v a b t
@@ -70,22 +70,22 @@ Differs v a b differs = (t : ℕ) → t < types v → getD differs t false ≡ d
 abbrev pub wordAt : List Bool → List ℕ → List Bool → ℕ → ℕ
 wordAt done places signs bits = number bits (λ m. signed (getD signs m false) (getD done (getD places m 0) false))
 
--- Tables as they are lent: for the survivors, of which there are none yet; for the profiles of all types.
+-- Tables as they are lent: for the survivors, of which there are none yet; for the data of all types.
 pub record Vacant (alive differs : List Bool) : Type 0 where
   pub none : (t : ℕ) → has alive t ≡ false
   pub alive-size : length alive ≡ typeLimit
   pub differs-size : length differs ≡ typeLimit
 
-pub record Blank (done alive differs : List Bool) (demands offers : List ℕ) : Type 0 where
+pub record Blank (done alive differs : List Bool) (held filling : List ℕ) : Type 0 where
   pub vacant : Vacant alive differs
   pub done-size : length done ≡ recordLimit
-  pub demands-size : length demands ≡ typeLimit
-  pub offers-size : length offers ≡ typeLimit
+  pub held-size : length held ≡ typeLimit
+  pub filling-size : length filling ≡ typeLimit
 
--- And as they are left: by the profiles, before any round; by the rounds.
-pub record Worded (v demands offers : List ℕ) : Type 0 where
-  pub demands-at : Demands v demands
-  pub offers-at : Offers v offers
+-- And as they are left: by the data of all types, before any round; by the rounds.
+pub record Worded (v held filling : List ℕ) : Type 0 where
+  pub held-at : RestrictionWords v held
+  pub filling-at : FillerWords v filling
 
 pub record Started (v : List ℕ) (a b : ℕ) (alive differs : List Bool) : Type 0 where
   pub alive-at : SameSet alive (stage v 0)

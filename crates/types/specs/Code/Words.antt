@@ -30,47 +30,48 @@ signed false x = x
 abbrev pub negated : List ℕ → ℕ → Bool
 negated v i = eqb (recordAt v i .kind) 8
 
--- Bit m: whether t demands a witness for restriction m; whether s is one; whether the restriction is of another role.
-unfoldable pub demand : List ℕ → ℕ → ℕ
-demand v t = number (width v) (λ m. signed (negated v (restriction v m)) (truth v t (restriction v m)))
+-- Bit m: whether restriction m holds at t, so that t needs a witness; whether its filler holds at s, so that s may be one; whether
+-- the restriction is of another role. Kind 8 is negated.
+unfoldable pub restrictionWord : List ℕ → ℕ → ℕ
+restrictionWord v t = number (width v) (λ m. signed (negated v (restriction v m)) (truth v t (restriction v m)))
 
-unfoldable pub offer : List ℕ → ℕ → ℕ
-offer v s = number (width v) (λ m. signed (negated v (restriction v m)) (truth v s (recordAt v (restriction v m) .b)))
+unfoldable pub fillerWord : List ℕ → ℕ → ℕ
+fillerWord v s = number (width v) (λ m. signed (negated v (restriction v m)) (truth v s (recordAt v (restriction v m) .b)))
 
-unfoldable pub others : List ℕ → ℕ → ℕ
-others v r = number (width v) (λ m. not (eqb (recordAt v (restriction v m) .a) r))
+unfoldable pub otherRoleWord : List ℕ → ℕ → ℕ
+otherRoleWord v r = number (width v) (λ m. not (eqb (recordAt v (restriction v m) .a) r))
 
--- What a table holds at x after its entries were spread upwards over the bits below n: the or of the entries at the words
+-- The zeta transform over the bits below n, sums over subsets with the bitwise or for sum: the or of the entries at the words
 -- within x that differ from it below n only.
-unfoldable pub spread : (ℕ → ℕ) → ℕ → ℕ → ℕ
-spread f zero x = f x
-spread f (suc n) x = cond (bit x n) (bitOr (spread f n x) (spread f n (x - 2 ^ n))) (spread f n x)
+unfoldable pub zeta : (ℕ → ℕ) → ℕ → ℕ → ℕ
+zeta f zero x = f x
+zeta f (suc n) x = cond (bit x n) (bitOr (zeta f n x) (zeta f n (x - 2 ^ n))) (zeta f n x)
 
--- x itself where a type of the set offers it, else 0.
-abbrev pub offered : List ℕ → List Bool → ℕ → ℕ
-offered v S x = cond (anyBelow (λ s. has S s && eqb (offer v s) x) (types v)) x 0
+-- x itself where it is the word of the fillers at a type of the set, else 0.
+abbrev pub presentWord : List ℕ → List Bool → ℕ → ℕ
+presentWord v S x = cond (anyBelow (λ s. has S s && eqb (fillerWord v s) x) (types v)) x 0
 
--- The or of all words within x that types of the set offer.
-abbrev pub cover : List ℕ → List Bool → ℕ → ℕ
-cover v S x = spread (offered v S) (width v) x
+-- The join, by bitwise or, of all words within x that are present.
+abbrev pub joins : List ℕ → List Bool → ℕ → ℕ
+joins v S x = zeta (presentWord v S) (width v) x
 
--- What t demands by restrictions of role r is met: within the words allowed for it, they are all offered.
+-- What t needs by restrictions of role r is met: the join of the words allowed for it has them all.
 abbrev pub reached : List ℕ → ℕ → ℕ → ℕ
-reached v t r = bitOr (demand v t) (others v r)
+reached v t r = bitOr (restrictionWord v t) (otherRoleWord v r)
 
 abbrev pub roleServed : List ℕ → List Bool → ℕ → ℕ → Bool
-roleServed v S t r = eqb (bitOr (cover v S (reached v t r)) (others v r)) (reached v t r)
+roleServed v S t r = eqb (bitOr (joins v S (reached v t r)) (otherRoleWord v r)) (reached v t r)
 
 -- A table that holds each restriction's role.
 abbrev pub Roles : List ℕ → List ℕ → Type 0
 Roles v roles = (m : ℕ) → m < width v → getD roles m 0 ≡ recordAt v (restriction v m) .a
 
--- Tables that hold what each type demands, and what it offers.
-abbrev pub Demands : List ℕ → List ℕ → Type 0
-Demands v demands = (t : ℕ) → t < types v → getD demands t 0 ≡ demand v t
+-- Tables that hold the two words of each type.
+abbrev pub RestrictionWords : List ℕ → List ℕ → Type 0
+RestrictionWords v held = (t : ℕ) → t < types v → getD held t 0 ≡ restrictionWord v t
 
-abbrev pub Offers : List ℕ → List ℕ → Type 0
-Offers v offers = (t : ℕ) → t < types v → getD offers t 0 ≡ offer v t
+abbrev pub FillerWords : List ℕ → List ℕ → Type 0
+FillerWords v filling = (t : ℕ) → t < types v → getD filling t 0 ≡ fillerWord v t
 
 -- Two tables hold the same set.
 abbrev pub SameSet : List Bool → List Bool → Type 0

@@ -16,7 +16,7 @@ use Rattle.scripts.specs.Code.Machine.{framesOf, Standing}
 use Rattle.scripts.specs.Code.Tested.{runAfter}
 use Rattle.scripts.specs.Code.Ready.{IsStep}
 use Rattle.scripts.specs.declared.entry.Entry.{Entry}
-use Rattle.scripts.proofs.Theorems.Form.{Formed, formed}
+use Rattle.scripts.proofs.Theorems.Form.{KeepsForm, keeps-form}
 use Rattle.scripts.proofs.Refinement.Frames.{frames-length}
 use Rattle.scripts.proofs.Invariants.Walk.{Walk, standing, walk-start, walk-next, walk-refused, walk-done, walk-falls}
 use Rattle.scripts.proofs.run.run_steps.Statement.{statement}
@@ -49,8 +49,8 @@ tested c = c .before .before
 abbrev read : tie.After-advance Inv-loop μ-loop → tie.After-read-entry2 Inv-loop μ-loop
 read c = c .before .before .before
 
-form : (c : tie.Start Inv-loop μ-loop) → Formed (now (c .args .v)) (now (c .args .s))
-form c = formed _ _ (c .pre .0 .form)
+form : (c : tie.Start Inv-loop μ-loop) → KeepsForm (now (c .args .v)) (now (c .args .s))
+form c = keeps-form _ _ (c .pre .0 .form)
 
 -- the step that the walk stands at
 here : (c : tie.In-loop Inv-loop μ-loop) → IsStep (now (begun c .args .s)) (c .before .loop .at)

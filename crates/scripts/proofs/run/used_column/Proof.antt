@@ -17,7 +17,7 @@ use Rattle.scripts.specs.Code.Codes.{codeOf, codeAt}
 use Rattle.scripts.specs.Code.Numbered.{secondCode, usedNumbers}
 use Rattle.scripts.specs.Code.Ready.{HasEntry}
 use Rattle.scripts.specs.declared.entry.Entry.{Entry}
-use Rattle.scripts.proofs.Theorems.Form.{Formed, formed}
+use Rattle.scripts.proofs.Theorems.Form.{KeepsForm, keeps-form}
 use Rattle.scripts.proofs.Refinement.Terms.{TermRecord}
 use Rattle.scripts.proofs.Refinement.Extensions.{Extends, read-extends, term-coded, second-coded}
 use Rattle.scripts.proofs.run.used_column.Statement.{statement}
@@ -37,8 +37,8 @@ used-as v s h e cx cy cf r p q i = rw (r, p, q, i)
 good : (c : tie.Start) → Accepted (now (c .args .v))
 good c = accepted-vocabulary _ _ (c .pre .0 .begun .marked .vocabulary)
 
-form : (c : tie.Start) → Formed (now (c .args .v)) (now (c .args .s))
-form c = formed _ _ (c .pre .0 .form)
+form : (c : tie.Start) → KeepsForm (now (c .args .v)) (now (c .args .s))
+form c = keeps-form _ _ (c .pre .0 .form)
 
 -- what row 18 tells
 extends : (c : tie.Start) → Extends (now (c .args .v)) (now (c .args .s)) (extensionOf (c .args .e))

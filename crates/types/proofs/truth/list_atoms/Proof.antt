@@ -16,10 +16,10 @@ use Rattle.records.specs.Finite.{digit}
 use Rattle.records.specs.Format.{count, recordAt, recordLimit}
 use Rattle.records.specs.Kinds.{isAtom}
 use Rattle.records.specs.declared.fields.Record.{Record}
-use Rattle.types.specs.Compare.{atomLimit}
+use Rattle.types.specs.Comparison.{atomLimit}
 use Rattle.types.specs.Code.Rules.{AtomsListed}
 use Rattle.types.proofs.Invariants.Lists.{entries, entry, entries-none, entries-length, entry-sound, entry-number}
-use Rattle.types.proofs.Invariants.Lists.{entry-at, total-turn, asked-kept, asked-more}
+use Rattle.types.proofs.Invariants.Lists.{entry-at, total-turn, fill-entry-kept, fill-entry-more}
 use Rattle.types.proofs.Invariants.Tables.{Filled, fill-start}
 use Rattle.types.proofs.truth.list_atoms.Statement.{statement}
 use Rattle.types.proofs.truth.list_atoms.Tie as tie
@@ -109,13 +109,13 @@ loop-again c =
     rw (s .1, s .2) record {
       within = h;
       total = total-turn (atom v) (l .found) (l .i) (w .total) true e;
-      filled = asked-more (atom v) _ (l .i) (w .total) 0 _ (λ j. j) _ (w .filled) _ r e refl;
+      filled = fill-entry-more (atom v) _ (l .i) (w .total) 0 _ (λ j. j) _ (w .filled) _ r e refl;
     })
     (λ s. let e : atom v (l .i) ≡ false = sym (tested (c .before)) ∙ s .0 .left in
     rw (s .1, s .2) record {
       within = h;
       total = omega (arith, total-turn (atom v) (l .found) (l .i) (w .total) false e);
-      filled = asked-kept (atom v) _ (l .i) (w .total) 0 _ (λ j. j) _ (w .filled);
+      filled = fill-entry-kept (atom v) _ (l .i) (w .total) 0 _ (λ j. j) _ (w .filled);
     }) (c .if1 .came)
 
 returns : tie.Need-returns Inv-loop μ-loop

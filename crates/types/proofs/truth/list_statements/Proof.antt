@@ -8,7 +8,7 @@ use denote.Ref.{now}
 use Rattle.records.proofs.Theorems.Accepted.{accepted-well-formed, accepted-vocabulary}
 use Rattle.records.specs.Format.{count, recordLimit}
 use Rattle.types.proofs.Invariants.Lists.{ListedBelow, list-start, list-more, list-same}
-use Rattle.types.proofs.Refinement.Summaries.{stating}
+use Rattle.types.proofs.Refinement.TypeData.{stating}
 use Rattle.types.proofs.truth.list_statements.Statement.{statement}
 use Rattle.types.proofs.truth.list_statements.Tie as tie
 
