@@ -2,8 +2,8 @@
 
 use crate::tests::paper::{header, names, refusal, vocabularies};
 use crate::tests::stored;
-use crate::vocabulary::{check_vocabulary, find_record};
-use crate::{generate, print, vectors};
+use crate::vocabulary::call::find_record;
+use crate::vocabulary::{all, check_vocabulary, decode, encode, misses, Case, Table};
 
 /// The vocabularies of the samples are accepted, with their records counted.
 #[test]
@@ -37,36 +37,36 @@ fn record_call() {
 #[test]
 fn made_cases() {
     for seed in [None, Some(7)] {
-        let planned = generate::all(seed);
-        assert_eq!(generate::misses(&planned), Vec::<String>::new());
+        let planned = all(seed);
+        assert_eq!(misses(&planned), Vec::<String>::new());
         let cases: Vec<_> = planned.into_iter().map(|planned| planned.case).collect();
-        assert_eq!(print::Table::of(&cases).never_met(), Vec::<u8>::new());
+        assert_eq!(Table::of(&cases).never_met(), Vec::<u8>::new());
     }
 }
 
 /// The stored file, read and written again, is the same; as many lines are expected as it has cases.
 #[test]
 fn round_trip() {
-    let file = stored("crates/vectors/stdin");
-    let cases = vectors::decode(&file).unwrap();
-    assert_eq!(vectors::encode(&cases).unwrap(), file);
-    let lines = stored("crates/vectors/stdout");
+    let file = stored("crates/vocabulary_cases/stdin");
+    let cases = decode(&file).unwrap();
+    assert_eq!(encode(&cases).unwrap(), file);
+    let lines = stored("crates/vocabulary_cases/stdout");
     assert_eq!(lines.iter().filter(|byte| **byte == b'\n').count(), cases.len());
 }
 
 /// Made cases are read back as they were written, and a file that ends inside one says in which.
 #[test]
 fn written_cases() {
-    let case = |vocabulary: Vec<u8>, number| vectors::Case { vocabulary, number };
+    let case = |vocabulary: Vec<u8>, number| Case { vocabulary, number };
     let cases = [
         case(Vec::new(), 0),
         case(names(1), 258),
         case(vec![255; 65535], u32::MAX),
     ];
-    let file = vectors::encode(&cases).unwrap();
+    let file = encode(&cases).unwrap();
     assert_eq!(file[..6], [0; 6]);
     assert_eq!(file[6..12], [16, 0, 2, 1, 0, 0]);
-    assert_eq!(vectors::decode(&file).unwrap(), cases);
-    assert_eq!(vectors::decode(&file[..27]).unwrap_err(), "the file ends inside case 1");
-    assert!(vectors::encode(&[case(vec![0; 65536], 0)]).is_err());
+    assert_eq!(decode(&file).unwrap(), cases);
+    assert_eq!(decode(&file[..27]).unwrap_err(), "the file ends inside case 1");
+    assert!(encode(&[case(vec![0; 65536], 0)]).is_err());
 }

@@ -1,6 +1,6 @@
 //! The vocabulary check (rows 1 to 8 of the table) and the record call (rows 1 and 9).
 
-use crate::decode::{at, records, uses, Record, Use, A, B, NEXT, RECORD_BYTES};
+use crate::vocabulary::records::{at, records, uses, Record, Use, A, B, NEXT, RECORD_BYTES};
 
 /// The most records of a vocabulary, header included.
 pub const MOST_RECORDS: usize = 512;

@@ -1,9 +1,9 @@
 //! The ways in which a vocabulary meets each refusal.
 
-use crate::decode::{uses, Record, Use, A, B, NEXT};
-use crate::draft::Draft;
 use crate::random::Random;
-use crate::vocabulary::{is_term_before, may_follow};
+use crate::vocabulary::call::{is_term_before, may_follow};
+use crate::vocabulary::draft::Draft;
+use crate::vocabulary::records::{uses, Record, Use, A, B, NEXT};
 
 /// Headers that meet refusal 2.
 pub fn wrong_headers(roles: u16) -> Vec<Record> {

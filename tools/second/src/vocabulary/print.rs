@@ -1,8 +1,8 @@
 //! The expected output, and the table of how many cases meet each refusal.
 
-use crate::decode::RECORD_BYTES;
-use crate::vectors::Case;
-use crate::vocabulary::{check_vocabulary, find_record, Refusal};
+use crate::vocabulary::call::{check_vocabulary, find_record, Refusal};
+use crate::vocabulary::file::Case;
+use crate::vocabulary::records::RECORD_BYTES;
 
 /// The numbers of an answer: 0 and the value, or the refusal's number and place.
 fn numbers(answer: Result<usize, Refusal>) -> [usize; 2] {
@@ -38,7 +38,7 @@ pub struct Table {
     calls: Vec<Result<usize, Refusal>>,
 }
 
-/// The refusals that the vectors have to meet.
+/// The refusals that the cases have to meet.
 const ROWS: std::ops::RangeInclusive<u8> = 1..=9;
 
 /// How many of the answers are a refusal of this number, or accept, for number 0.

@@ -1,7 +1,7 @@
 //! Vocabularies in the making: records are pushed one after the other, then chained.
 
-use crate::decode::{at, bytes, uses, Record, Use, A, B};
 use crate::random::Random;
+use crate::vocabulary::records::{at, bytes, uses, Record, Use, A, B};
 
 /// The kinds with which a draft starts, so that terms, names, roles and statements soon stand.
 const FIRST_KINDS: [u8; 10] = [3, 9, 3, 5, 3, 7, 9, 4, 8, 6];

@@ -1,4 +1,4 @@
-//! The vector file: cases one after the other. A case is the length of its vocabulary (16 bits),
+//! The file of vocabulary cases: one after the other. A case is the length of its vocabulary (16 bits),
 //! a record number (32 bits), both low byte first, and the vocabulary.
 
 use crate::cases;
@@ -15,7 +15,7 @@ pub struct Case {
 /// The bytes of a case's head.
 const HEAD_BYTES: usize = 6;
 
-/// The bytes of the vector file, or what is wrong with the cases.
+/// The bytes of the file, or what is wrong with the cases.
 pub fn encode(all: &[Case]) -> Result<Vec<u8>, String> {
     let mut bytes = Vec::new();
     for case in all {
@@ -39,7 +39,7 @@ fn split(bytes: &[u8]) -> Option<(Case, &[u8])> {
     Some((case, after))
 }
 
-/// The cases of a vector file, or where it is malformed.
+/// The cases of a file, or where it is malformed.
 pub fn decode(bytes: &[u8]) -> Result<Vec<Case>, String> {
     cases::decode(bytes, split)
 }

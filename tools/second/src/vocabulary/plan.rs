@@ -1,13 +1,13 @@
-//! The cases of the vector file, in groups. Where a group is made for one answer, its cases carry
-//! it, and `misses` compares it with the vocabulary check.
+//! The cases of the vocabulary check and the record call, in groups. Where a group is made for one answer, its cases
+//! carry it, and `misses` compares it with the vocabulary check.
 
 use crate::cases::{beginning, with_byte};
-use crate::decode::{at, Record, A, RECORD_BYTES};
-use crate::draft::Draft;
-use crate::faults::{near_labels, right_nexts, way, ways, with, wrong_headers, wrong_nexts};
 use crate::random::{Random, Seed};
-use crate::vectors::Case;
-use crate::vocabulary::{check_vocabulary, Refusal};
+use crate::vocabulary::call::{check_vocabulary, Refusal};
+use crate::vocabulary::draft::Draft;
+use crate::vocabulary::faults::{near_labels, right_nexts, way, ways, with, wrong_headers, wrong_nexts};
+use crate::vocabulary::file::Case;
+use crate::vocabulary::records::{at, Record, A, RECORD_BYTES};
 
 /// The seed of all random choices in the stored cases.
 const SEED: u64 = 20_240_601;
