@@ -1,5 +1,5 @@
-//! A second implementation of the paper (README.md says which), written from it alone, that makes cases and the
-//! output expected for them. See README.md.
+//! A second implementation of the paper (README.md says which), written from it and not from the library's code, that
+//! makes cases and the output expected for them. See README.md.
 
 mod cases;
 mod comparison;

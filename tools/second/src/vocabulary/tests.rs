@@ -1,5 +1,7 @@
 //! The vocabulary check, the record call, and the file of their cases.
 
+#![allow(clippy::unwrap_used, clippy::indexing_slicing)]
+
 use crate::tests::paper::{header, names, refusal, vocabularies};
 use crate::tests::stored;
 use crate::vocabulary::call::find_record;
