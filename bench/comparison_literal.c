@@ -1,5 +1,5 @@
-/* The comparison in C by the words of docs/FORMATS.md, section 3: "in the set, an s such that (t, s) is allowed for the
- * record's role". The truth of every record at every type is kept; each demand of each type scans all types. */
+/* The comparison in C by the words of docs/FORMATS.md, section 3. The truth of every record at every type is kept; each
+ * demand of each type scans all types. */
 #include "comparison_plain.h"
 
 #include <string.h>
