@@ -1,7 +1,7 @@
-/* The duty vocabulary judge: settles whether terms of a customs vocabulary, in the description logic ALC, are equal or lie
- * one within the other in every finite interpretation that satisfies the vocabulary's statements. Link
- * target/staticlib/libjudge.a (`rt staticlib judge` builds it; it needs nothing but memcpy and memset). examples/settle.c
- * is a program that uses all of this.
+/* The duty vocabulary judge: settles whether terms of a customs vocabulary, in the description logic ALC, are equal or
+ * lie one within the other in every finite interpretation that satisfies the vocabulary's statements. Link
+ * target/staticlib/libjudge.a (`rt staticlib judge` builds it; it needs nothing but memcpy and memset).
+ * examples/settle.c is a program that uses all of this.
  *
  * A VOCABULARY is 8-byte records, at most 512: a header, then terms and statements. A term is a name, or made of
  * earlier terms by not, and, or, some, all. A statement says that one term lies within another. A SCRIPT is 16-byte
@@ -54,9 +54,9 @@ enum {
     JUDGE_FRAMES = 64              /* the most frames that may be open together while a script is checked */
 };
 
-/* Stack that is enough for any call. Measured (tests/stack.c; the kit's compiler, x86-64): the vocabulary check needs
- * 104 bytes, the record call 8, the comparison 46,184, the script check 2,440, and at most 3,100 more where the
- * program binds memset or memcpy only at the first call. */
+/* Stack that is enough for any call; measured, not proved (tests/stack.c, over the stored cases; the kit's compiler,
+ * x86-64): the vocabulary check needs 104 bytes, the record call 8, the comparison 46,184, the script check 2,440, and
+ * at most 3,100 more where the program binds memset or memcpy only at the first call. */
 enum { JUDGE_STACK_BYTES = 131072 };
 
 /* ---- The calls ---- */
@@ -78,8 +78,8 @@ uint64_t judge_compare(const uint8_t *vocabulary, size_t vocabulary_len, uint32_
 
 /* The script check: does this script prove that its header's A lies within its B, over this vocabulary? Accepted:
  * judge_steps. Nothing is written. Refusals 1 to 8, 13, 14, 10, 15 to 25; with 20 to 25 the script keeps the form, and
- * its chain is no derivation of at most 64 open frames; after 23 it may well be one of more. No refusal says that A does
- * not lie within B. */
+ * its chain is no derivation of at most 64 open frames; after 23 it may well be one of more. No refusal says that A
+ * does not lie within B. */
 uint64_t judge_check_script(const uint8_t *vocabulary, size_t vocabulary_len, const uint8_t *script, size_t script_len);
 
 /* ---- Answers, taken apart; unused bits are 0 ---- */
@@ -127,8 +127,8 @@ static inline uint32_t judge_element(uint64_t answer)
     return (uint32_t)(answer >> 9 & 0xffff);
 }
 
-/* Bits 25-41 of a comparison: the number of survivors. With none, no finite interpretation satisfies the statements, and
- * all terms are equal. */
+/* Bits 25-41 of a comparison: the number of survivors. With none, no finite interpretation satisfies the statements,
+ * and all terms are equal. */
 static inline uint32_t judge_survivors(uint64_t answer)
 {
     return (uint32_t)(answer >> 25 & 0x1ffff);
