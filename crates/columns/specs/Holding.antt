@@ -1,4 +1,4 @@
--- When a literal, and a column, literalsHold in an interpretation.
+-- When a literal, and a column, holds in an interpretation.
 use Prim.Native.Nat.{ℕ, _<_}
 use mathlib.Core.Path.{_≡_}
 use mathlib.Core.Bool.{Bool, true, false, Bool·beq, _&&_}
@@ -29,7 +29,7 @@ pub record Choice (I : Interpretation) : Type 0 where
 abbrev pub columnHolds : (I : Interpretation) → Choice I → List ℕ → ℕ → ℕ → ℕ → Column → Bool
 columnHolds I k v owner d e c = literalsHold I v (map (substitute (arguments d e (k .function owner d) (k .chosen))) c)
 
--- "no column literalsHold anywhere"
+-- "no column holds anywhere"
 abbrev pub NoneHolds : (I : Interpretation) → Choice I → List ℕ → Query → Type 0
 NoneHolds I k v q =
     (owner n d e : ℕ) → Element I d → Element I e → n < length (columnsAt v q owner)

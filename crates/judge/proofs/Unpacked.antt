@@ -1,9 +1,9 @@
 -- The numbers can be taken apart again: from the bits of an answer follow the refusal's number and its place, or the value.
---   Unpacked          what the bits of a packed outcome are
---   unpacked          a small outcome can be taken apart
---   check-unpacked    the vocabulary check's
---   record-unpacked   the record call's
---   script-unpacked   the script check's
+--   Unpacked                     what the bits of a packed outcome are
+--   unpacked                     a small outcome can be taken apart
+--   check-unpacked               the vocabulary check's
+--   record-unpacked              the record call's
+--   script-unpacked              the script check's
 --   Verdicts, compare-unpacked   the comparison's
 -- Assumes nothing.
 use Prim.Native.Nat.{ℕ, _*_, _/_, _%_, _^_, _<_, max}

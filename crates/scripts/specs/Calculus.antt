@@ -8,7 +8,7 @@ use Rattle.columns.specs.Literals.{SkolemTerm, constant, Literal, complement, n
 use Rattle.columns.specs.Columns.{Query, columnAt, instanceAt}
 use Rattle.scripts.specs.Steps.{Extension, Step, start, extension, reduction}
 
--- The column that is usedColumn, C₂ of Definition 10; its literal at the position, L₂; and the remainder, C₂ \ {L₂}.
+-- The column that is used, C₂ of Definition 10; its literal at the position, L₂; and the others, C₂ \ {L₂}.
 abbrev pub usedColumn : List ℕ → Query → Extension SkolemTerm → List (Literal SkolemTerm)
 usedColumn v q e = instanceAt (e .owner) (e .first) (e .second) (columnAt v q (e .owner) (e .column))
 

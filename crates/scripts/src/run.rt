@@ -263,7 +263,7 @@ fn run_steps(
     judge_after(pass_if(state.depth == 0, 24, last), steps)
 }
 
-// The chain: its first step is a start, the remainder follow.
+// The chain: its first step is a start, the others follow.
 pub fn check_chain(v: &[u8], marks: &[bool; Record::LIMIT], s: &[u8], header: Entry) -> Judged
     requires { ⌜ Ready (now v) (now s) (now marks) header ⌝ }
     ensures { λ r. ⌜ judged r ≡ chainOutcome (now (v .entry)) (now (s .entry)) ⌝ }

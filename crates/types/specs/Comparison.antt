@@ -33,7 +33,7 @@ verdictWith false element survivors rounds = equal survivors rounds
 unfoldable pub verdict : List ℕ → ℕ → ℕ → Verdict
 verdict v a b = verdictWith (ltb (firstDistinguishing v a b) (types v)) (firstDistinguishing v a b) (members (survivors v)) (rounds v)
 
--- The bounds of rows 11 and 12: the atoms of a vocabulary that is compared, so its types, and the bytes of the form, which
+-- The bounds of rows 11 and 12: the atoms of a vocabulary that is compared, so its types, and the bytes of the bitmap, which
 -- has a bit for each type.
 abbrev pub atomLimit : ℕ
 atomLimit = 12

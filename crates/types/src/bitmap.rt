@@ -48,7 +48,7 @@ pub fn find_first(
     size
 }
 
-// Byte n of the form, built from its top bit.
+// Byte n of the bitmap, built from its top bit.
 fn byte_of(alive: &[bool; TypeData::TYPES], n: usize) -> u8
     requires { ⌜ n < bitmapBytes ⌝ }
     ensures { λ r. ⌜ r ≡ byteOf (now (alive .entry)) n ⌝ }
@@ -76,7 +76,7 @@ fn write_types(alive: &[bool; TypeData::TYPES], end: usize, lent: &mut [u8])
     }
 }
 
-// Writes zeros from `start` to the end of the form.
+// Writes zeros from `start` to the end of the bitmap.
 fn write_zeros(start: usize, lent: &mut [u8])
     requires { ⌜ start ≤ bitmapBytes ⌝ }
     requires { ⌜ bitmapBytes ≤ length (now lent) ⌝ }
@@ -89,12 +89,13 @@ fn write_zeros(start: usize, lent: &mut [u8])
     }
 }
 
-// Writes the form of the types below `size` into the first bytes of what is lent: the bytes that hold types, then zeros.
+// Writes the bitmap of the types below `size` into the first bytes of what is lent: the bytes that hold types, then zeros.
 pub fn write_bitmap(alive: &[bool; TypeData::TYPES], size: usize, lent: &mut [u8])
     requires { ⌜ size ≤ typeLimit ⌝ }
     requires { ⌜ ((t : ℕ) → size ≤ t → has (now alive) t ≡ false) ⌝ }
     requires { ⌜ bitmapBytes ≤ length (now lent) ⌝ }
-    ensures { λ _. ⌜ now (lent .exit) ≡ table bitmapBytes (byteOf (now (alive .entry))) ++ drop bitmapBytes (now (lent .entry)) ⌝ }
+    ensures { λ _. ⌜ now (lent .exit)
+        ≡ table bitmapBytes (byteOf (now (alive .entry))) ++ drop bitmapBytes (now (lent .entry)) ⌝ }
 {
     let end = (size + 7) / 8;
     write_types(alive, end, lent);

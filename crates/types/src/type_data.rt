@@ -19,7 +19,7 @@ pub struct TypeData {
 }
 
 impl TypeData {
-    // Atoms of a vocabulary that is compared, its types, and the bytes of the form that holds a bit for each.
+    // Atoms of a vocabulary that is compared, its types, and the bytes of the bitmap that holds a bit for each.
     pub const ATOMS: usize = 12;
 
     pub const TYPES: usize = 4096;

@@ -1,11 +1,11 @@
 -- The columns of a record by its kind, as a `match` over kind ranges selects them, and which of them take a y.
---   group-constant, group-junction, group-restriction   kinds that differ in signs alone, in one form
---   group-negation, group-inclusion, group-low, group-name, group-high   the other kinds
---   past-at, none-at                                    a column that does not exist
---   two-sizes, size-past, sizes-at                      how many literals a column has
+--   group-constant, group-junction, group-restriction                      kinds that differ in signs alone, in one form
+--   group-negation, group-inclusion, group-low, group-name, group-high     the other kinds
+--   past-at, none-at                                                       a column that does not exist
+--   two-sizes, size-past, sizes-at                                         how many literals a column has
 --   size-constant, size-negation, size-triple, size-inclusion, size-none   the same by the kind
---   NoY, no-y                                           columns without a y
---   restriction-takes-y, plain-takes-none               y stands in the third column of kinds 7 and 8 alone
+--   NoY, no-y                                                              columns without a y
+--   restriction-takes-y, plain-takes-none                                  y stands in the third column of kinds 7 and 8 alone
 -- Assumes nothing.
 use Prim.Native.Nat.{ℕ, zero, suc, _≤_, _<_}
 use native.Mathlib.Omega.{arith}

@@ -1,6 +1,6 @@
 -- Literals as numbers, and up to three of them as a list.
---   packed-positive                    a literal's number is not 0
---   lists-one, lists-two, lists-three  literals that are untilZero
+--   packed-positive                     a literal's number is not 0
+--   lists-one, lists-two, lists-three   literals listed until the first 0
 -- Assumes nothing.
 use Prim.Native.Nat.{ℕ, zero, suc, _<_}
 use native.Mathlib.Omega.{arith}

@@ -1,7 +1,7 @@
 -- When literals and columns hold.
 --   beq-is, is-beq                 a test of signs
 --   Says, says-holds, holds-says   what a literal says, and the test of it
---   complement-holds               a complement literalsHold if the literal does not
+--   complement-holds               a complement holds if the literal does not
 --   lone-false                     a column of one literal, whose complement is so, does not hold
 --   follows-false                  nor one with a literal and the complement of what follows from it
 --   joint-false                    nor one with two literals and the complement of what follows from both

@@ -1,7 +1,7 @@
 -- What the literals of an instance say of the elements that its terms stand for.
 --   value-element    a term stands for an element
 --   instance-value   an instance's literals say what the column's do at those elements
---   instance-false   where no column literalsHold, no instance does
+--   instance-false   where no column holds, no instance does
 -- Assumes nothing.
 use Prim.Native.Nat.{ℕ, _<_}
 use mathlib.Core.Path.{_≡_, refl, ap, ap₂, fun-ext, _∙_}

@@ -1,9 +1,9 @@
 -- Tests below a bound: `allBelow`, and the smallest number at which a test holds.
 --   all-intro, all-at, all-fails, all-miss, all-cong   every number passes, or one does not
---   least-bound, least-holds, least-before   what the smallest is
---   least-is, least-end                      what is the smallest
---   least-cong                               tests that agree below the bound
---   None, none-start, none-turn              no number passes so far, one number further
+--   least-bound, least-holds, least-before             what the smallest is
+--   least-is, least-end                                what is the smallest
+--   least-cong                                         tests that agree below the bound
+--   None, none-start, none-turn                        no number passes so far, one number further
 -- Assumes nothing.
 use Prim.Native.Nat.{ℕ, zero, suc, _+_, _≤_, _<_}
 use native.Mathlib.Omega.{arith}

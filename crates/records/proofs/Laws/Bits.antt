@@ -1,11 +1,11 @@
 -- Numbers by their bits.
---   digit-small                    a truth as a digit
---   bit-first, bit-rest            the bits of a number one bit longer
---   bit-number, number-small       the bits of a number given by them
---   number-cong, number-step       two numbers, and a number built from the top
---   bits-same                      numbers with the same bits
---   bit-or                         bits of a bitwise or
---   cleared                        bits of a number without one of them
+--   digit-small                a truth as a digit
+--   bit-first, bit-rest        the bits of a number one bit longer
+--   bit-number, number-small   the bits of a number given by them
+--   number-cong, number-step   two numbers, and a number built from the top
+--   bits-same                  numbers with the same bits
+--   bit-or                     bits of a bitwise or
+--   cleared                    bits of a number without one of them
 -- Assumes nothing.
 use Prim.Native.Nat.{ℕ, zero, suc, _+_, _-_, _*_, _/_, _%_, _^_, _≤_, _<_}
 use native.Mathlib.Omega.{arith}

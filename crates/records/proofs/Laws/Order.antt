@@ -1,10 +1,10 @@
 -- The order of checks: what a chain of checks answers, and what a run of checks or tests in turn does at one turn.
 --   then-refused, then-refused-as, then-fine   a chain `a then b` where the first check refuses, or passes
---   require-test                  a row whose test was made by a call
---   checked-fine                 a check whose answer is `Fine`
---   and-first-false, and-first-true           a conjunction whose first test was made
---   turn-refused, turn-passed, turns-end   `inTurn` at one turn, and past its end
---   any-hit, any-miss      a search, one number further
+--   require-test                               a row whose test was made by a call
+--   checked-fine                               a check whose answer is `Fine`
+--   and-first-false, and-first-true            a conjunction whose first test was made
+--   turn-refused, turn-passed, turns-end       `inTurn` at one turn, and past its end
+--   any-hit, any-miss                          a search, one number further
 -- Assumes nothing.
 use Prim.Native.Nat.{ℕ, suc, _+_, _-_, _<_, _≤_}
 use native.Mathlib.Numerals.{add-one}
@@ -51,7 +51,7 @@ module _ (check : ℕ → Check) (i n : ℕ) where
       → inTurn check i (n - i) ≡ inTurn check (i + 1) (n - (i + 1))
   turn-passed k h e r = turn h ∙ sym (then-fine k (check i) _ _ e r refl)
 
--- A conjunction whose first test was made: it and-first-false, or the rest decides.
+-- A conjunction whose first test was made: it fails, or the rest decides.
 pub and-first-false : (r a b : Bool) → r ≡ a → not r ≡ true → false ≡ (a && b)
 and-first-false r a b e h = rw (← e, not-true r h)
 

@@ -1,9 +1,9 @@
 -- Kinds by ranges: the tests of a `match` over kind ranges, and what they say of the definitions by kind.
---   Run, between                                    what holds at each number of a range
---   kind-past, kind-tested                          past the table there is no kind; a test that holds along the table
---   term-range, atom-range, ..                      which kinds are terms, atoms, restrictions, statements
---   restriction-kind, statement-kind                a restriction is of kind 7 or 8, a statement of kind 9
---   key-same                                        a key made of kind and A
+--   Run, between                       what holds at each number of a range
+--   kind-past, kind-tested             past the table there is no kind; a test that holds along the table
+--   term-range, atom-range, ..         which kinds are terms, atoms, restrictions, statements
+--   restriction-kind, statement-kind   a restriction is of kind 7 or 8, a statement of kind 9
+--   key-same                           a key made of kind and A
 -- Assumes nothing.
 use Prim.Native.Nat.{ℕ, zero, suc, _+_, _*_, _<_, _≤_}
 use native.Mathlib.Omega.{arith}

@@ -1,11 +1,11 @@
 -- Tests made of tests: how a conjunction, a disjunction or an implication is shown, and what it gives. (`both-left`, `both-right`
 -- of records: the parts of a true conjunction.)
---   both-true, both-rest             a conjunction; the second part of a false one whose first part is true
---   either-true, either-rest         a disjunction; its second part, if the first is false
---   implies-true, implies-rest       an implication, `not a || b`; its second part, if the first is true
---   not-both                         the parts of an implication that fails
---   unless-true, unless-false        a test that cannot hold; one that cannot fail
---   same-truth                       two tests that follow from each other
+--   both-true, both-rest         a conjunction; the second part of a false one whose first part is true
+--   either-true, either-rest     a disjunction; its second part, if the first is false
+--   implies-true, implies-rest   an implication, `not a || b`; its second part, if the first is true
+--   not-both                     the parts of an implication that fails
+--   unless-true, unless-false    a test that cannot hold; one that cannot fail
+--   same-truth                   two tests that follow from each other
 -- Assumes nothing.
 use mathlib.Core.Path.{_≡_, refl, sym}
 use mathlib.Core.Bool.{Bool, true, false, not, _&&_, _||_}

@@ -1,11 +1,11 @@
 -- What acceptance gives the crates above: fields hold what their sorts say, so that operands are earlier terms and roles are
 -- below the count; labels differ, and links lead to later statements.
---   All, all-at, all-map                what sorts of every entry of a list
---   Parts, partsOf, Over, over-map                a construct's class, its roles and its operands; what sorts of each operand
+--   All, all-at, all-map                           what holds of every entry of a list
+--   Parts, partsOf, Over, over-map                 a construct's class, its roles and its operands; what holds of each operand
 --   Operand, Linked, Held, WellFounded, Accepted   what is told of a field, of a record, of a vocabulary
---   well-formed-vocabulary              a vocabulary that passed rows 1 to 8 is Accepted
---   accepted-well-formed                one that the vocabulary check accepts passed them
---   accepted-vocabulary                 and so is Accepted
+--   well-formed-vocabulary                         a vocabulary that passed rows 1 to 8 is Accepted
+--   accepted-well-formed                           one that the vocabulary check accepts passed them
+--   accepted-vocabulary                            and so is Accepted
 -- Assumes nothing.
 use Prim.Native.Nat.{ℕ, zero, suc, _-_, _≤_, _<_}
 use native.Mathlib.Omega.{arith}
@@ -35,7 +35,7 @@ use Rattle.records.proofs.Theorems.Following.{Ahead, Onward}
 use Rattle.records.proofs.Laws.Ranges.{statement-range, statement-kind}
 use Rattle.records.proofs.Refinement.Rows.{rows-passed}
 
--- What sorts of every entry of a list sorts of the entry at an index, and so does what follows from it.
+-- What holds of every entry of a list holds of the entry at an index, and so does what follows from it.
 abbrev pub All : {A : Type 0} → (A → Type 0) → List A → Type 0
 All P [] = Unit {0}
 All P (x ∷ xs) = P x × All P xs
@@ -104,7 +104,7 @@ Later v i x = Ahead (IsStatement v) (count v) i x
 abbrev pub Linked : List ℕ → ℕ → ℕ → Type 0
 Linked v i x = Onward (IsStatement v) (count v) i x
 
--- x fits a field of record i that sorts this sort. (A link is looked at after all records.)
+-- x fits a field of record i that holds this sort. (A link is looked at after all records.)
 abbrev pub Held : List ℕ → ℕ → Sort → ℕ → Type 0
 Held v i Spare x = x ≡ 0
 Held v i Term x = Operand v i x

@@ -1,11 +1,11 @@
 -- Bounds on what the calls answer: what a caller needs to index a vocabulary, or to pack an answer into a word.
---   vocabulary-count   the vocabulary check's count
---   records-near       rows 1 to 8 refuse with a place of at most 512
---   vocabulary-small   the count or place is at most 512, the number not 0
---   record-within      the record call's offset leaves room for a record
+--   vocabulary-count                  the vocabulary check's count
+--   records-near                      rows 1 to 8 refuse with a place of at most 512
+--   vocabulary-small                  the count or place is at most 512, the number not 0
+--   record-within                     the record call's offset leaves room for a record
 --   Nearby, require-near, then-near   a check whose refusal is near
---   then-small, turns-near   what comes after such a check; such checks in turn
---   record-small       its offset or place is at most 4,096 or the number asked for
+--   then-small, turns-near            what comes after such a check; such checks in turn
+--   record-small                      its offset or place is at most 4,096 or the number asked for
 -- Assumes nothing.
 use Prim.Native.Nat.{ℕ, zero, suc, _+_, _-_, _*_, _≤_, _<_, max}
 use native.Mathlib.Omega.{arith}

@@ -1,12 +1,12 @@
 -- What the records of an accepted vocabulary say.
---   record-past                    there is nothing past the end
---   says-past                      kinds past 9 say nothing of an element
---   construct-over                 what holds of operands, whichever record it is
---   Earlier, construct-earlier     operands come before the record, whichever record it is
---   construct-role                 a restriction's role is below the count
---   atomic, construct-atom         atoms by what they say
+--   record-past                                                        there is nothing past the end
+--   says-past                                                          kinds past 9 say nothing of an element
+--   construct-over                                                     what holds of operands, whichever record it is
+--   Earlier, construct-earlier                                         operands come before the record, whichever record it is
+--   construct-role                                                     a restriction's role is below the count
+--   atomic, construct-atom                                             atoms by what they say
 --   restricting, construct-restriction, stating, construct-statement   restrictions and statements by what they say
---   construct-inclusion            a statement says that A lies within B
+--   construct-inclusion                                                a statement says that A lies within B
 -- Assumes nothing.
 use Prim.Native.Nat.{ℕ, zero, suc, _+_, _*_, _-_, _≤_, _<_}
 use native.Mathlib.Omega.{arith}

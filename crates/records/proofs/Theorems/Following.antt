@@ -1,11 +1,11 @@
 -- Chains by a next number, which is 0 or names something ahead: they rise and end.
---   Ahead, Onward              what lies ahead of i; 0, or something ahead
---   follow-nil, follow-step    the chain from 0, and from a number ahead
---   follow-few                 it has no more numbers than steps were made
---   follow-ends                followed as far as one likes it is the chain
---   Rising, follow-rises       each is after the one before
---   follow-target              what is on the chain may be on it
---   left, left-falls           a walk along the chain ends: what is left of it falls
+--   Ahead, Onward             what lies ahead of i; 0, or something ahead
+--   follow-nil, follow-step   the chain from 0, and from a number ahead
+--   follow-few                it has no more numbers than steps were made
+--   follow-ends               followed as far as one likes it is the chain
+--   Rising, follow-rises      each is after the one before
+--   follow-target             what is on the chain may be on it
+--   left, left-falls          a walk along the chain ends: what is left of it falls
 -- Assumes nothing.
 use Prim.Native.Nat.{ℕ, zero, suc, _+_, _-_, _≤_, _<_}
 use native.Mathlib.Omega.{arith}

@@ -1,7 +1,7 @@
 -- Atoms are numbered in record order.
---   rank-turn                          atoms counted, one record further
---   rank-mono, rank-next, rank-same    a later atom has a greater number
---   rank-below, rank-bound             an atom's number is below their count, and no more than its record's
+--   rank-turn                         atoms counted, one record further
+--   rank-mono, rank-next, rank-same   a later atom has a greater number
+--   rank-below, rank-bound            an atom's number is below their count, and no more than its record's
 -- Assumes nothing.
 use Prim.Native.Nat.{ℕ, zero, suc, _+_, _≤_, _<_}
 use native.Mathlib.Omega.{arith}

@@ -1,10 +1,10 @@
 -- Two runs whose literals correspond answer alike: one law for every pair of settings.
---   Pairs                                     two lists whose entries correspond, one by one
---   pairs-nil, pairs-length, pairs-at         such lists are empty together, as long, and have entries that correspond
---   pairs-without, pairs-close, pairs-extend  an entry left out; the goal closed; a column put on top
---   Alike, Corresponds                        complements correspond; the columns of a step do
---   step-same, stepped-pairs                  rows 20 to 23 and 25 at a step; the frames after it
---   run-same, chain-same                      a run; the check of a chain
+--   Pairs                                      two lists whose entries correspond, one by one
+--   pairs-nil, pairs-length, pairs-at          such lists are empty together, as long, and have entries that correspond
+--   pairs-without, pairs-close, pairs-extend   an entry left out; the goal closed; a column put on top
+--   Alike, Corresponds                         complements correspond; the columns of a step do
+--   step-same, stepped-pairs                   rows 20 to 23 and 25 at a step; the frames after it
+--   run-same, chain-same                       a run; the check of a chain
 -- Assumes nothing.
 use Prim.Native.Nat.{ℕ, zero, suc, _-_}
 use mathlib.Core.Path.{_≡_, refl, ap}

@@ -1,8 +1,8 @@
 -- The run over numbers, which the code computes, is the run of the paper, over literals about terms written out.
---   numbers-alike         opposed numbers are complements
---   step-corresponds      the columns of a step that row 18 allows correspond
---   chain-corresponds     so do those of each step of the chain
---   numbers-agree         the check of a chain
+--   numbers-alike       opposed numbers are complements
+--   step-corresponds    the columns of a step that row 18 allows correspond
+--   chain-corresponds   so do those of each step of the chain
+--   numbers-agree       the check of a chain
 -- Assumes nothing.
 use Prim.Native.Nat.{ℕ, _≤_}
 use native.Mathlib.Omega.{arith}

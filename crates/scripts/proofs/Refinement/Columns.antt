@@ -1,9 +1,9 @@
 -- A column at codes, as numbers, corresponds to the column at the terms that the codes stand for.
---   Denotes                           a number is that of a literal at codes, which means a literal about terms
---   about-constant                  a literal about the constant
---   literal-means, column-means     a literal, and a column, at codes and at their terms
---   query-means                     a query column, which speaks of a alone
---   used-denotes                      the column of an extension, where row 18 passed
+--   Denotes                       a number is that of a literal at codes, which denotes a literal about terms
+--   about-constant                a literal about the constant
+--   literal-means, column-means   a literal, and a column, at codes and at their terms
+--   query-means                   a query column, which speaks of a alone
+--   used-denotes                  the column of an extension, where row 18 passed
 -- Assumes nothing.
 use Prim.Native.Nat.{ℕ, zero, suc, _≤_, _<_}
 use native.Mathlib.Omega.{arith}

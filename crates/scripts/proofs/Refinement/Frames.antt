@@ -1,16 +1,16 @@
 -- The open frames of a machine, and the literals of a column, as the code keeps them.
---   entries-length                                  how many entries an array has, as owning it tells
---   literal-first, literal-second, literal-third    the literal at a position
---   without-first, without-second, without-third    the literals without the one at a position
---   untilZero-few, untilZero-some, untilZero-none            at most three are untilZero; one at least, or none, by the first
---   open-none, open-some                            a column's literals are the next frame; with none the goal is closed
---   goal-first, goal-next                           a frame's goal, and whether a literal is open after it, by the table
---   frames-length, frame-at                         there are as many frames as are asked for; a frame, counted from the start
---   Wrote, frames-write, stands-write               literals written above the frames change none of them
---   frames-push, stands-push                        and are the next frame
---   frames-none, stands-none, stands-part           no frame; fewer frames
---   close-drop, close-none, close-last, close-next  the goal closed: no frame, a frame that goes, one that stays
---   stands-next                                     a frame that stays has a goal
+--   entries-length                                   how many entries an array has, as owning it tells
+--   literal-first, literal-second, literal-third     the literal at a position
+--   without-first, without-second, without-third     the literals without the one at a position
+--   untilZero-few, untilZero-some, untilZero-none    at most three are listed; one at least, or none, by the first
+--   open-none, open-some                             a column's literals are the next frame; with none the goal is closed
+--   goal-first, goal-next                            a frame's goal, and whether a literal is open after it, by the table
+--   frames-length, frame-at                          there are as many frames as are asked for; a frame, counted from the start
+--   Wrote, frames-write, stands-write                literals written above the frames change none of them
+--   frames-push, stands-push                         and are the next frame
+--   frames-none, stands-none, stands-part            no frame; fewer frames
+--   close-drop, close-none, close-last, close-next   the goal closed: no frame, a frame that goes, one that stays
+--   stands-next                                      a frame that stays has a goal
 -- Assumes nothing.
 use Prim.Native.Nat.{ℕ, zero, suc, _+_, _*_, _-_, _<_, _≤_}
 use native.Mathlib.Omega.{arith}

@@ -1,12 +1,12 @@
 -- Literals as numbers: those at codes, and what they say once the codes' terms are written out.
---   Code, zero-code, ValidLiteral            a code of 20 bits; a literal whose predicate and codes have room in its number
---   same-sign, two-signs, opposed-signs      numbers that have the sign in bit 0
---   packed-body, opposed-bodies              a literal's number as its sign and the rest
---   concept-same, role-same, other-body      when the rest is equal
---   opposed-complementary                    the numbers of two such literals differ in the sign alone if they are complements
---   small-columns, columns-small             the predicates of an owner's columns have 9 bits
---   owner-below                              so has the owner of a listed column
---   column-small                             so have the predicates of a column
+--   Code, zero-code, ValidLiteral         a code of 20 bits; a literal whose predicate and codes have room in its number
+--   same-sign, two-signs, opposed-signs   numbers that have the sign in bit 0
+--   packed-body, opposed-bodies           a literal's number as its sign and the rest
+--   concept-same, role-same, other-body   when the rest is equal
+--   opposed-complementary                 the numbers of two such literals differ in the sign alone if they are complements
+--   small-columns, columns-small          the predicates of an owner's columns have 9 bits
+--   owner-below                           so has the owner of a listed column
+--   column-small                          so have the predicates of a column
 -- Assumes nothing.
 use Prim.Native.Nat.{ℕ, zero, suc, _+_, _*_, _/_, _%_, _^_, _≤_, _<_}
 use native.Mathlib.Omega.{arith}

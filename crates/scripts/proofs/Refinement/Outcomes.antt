@@ -1,7 +1,7 @@
 -- What the script check answers, by the check that decides.
---   vocabulary-at                                     a vocabulary that was accepted
---   refused-vocabulary, refused-length, refused-form  a check refuses
---   decided                              the chain decides
+--   vocabulary-at                                      a vocabulary that was accepted
+--   refused-vocabulary, refused-length, refused-form   a check refuses
+--   decided                                            the chain decides
 -- Assumes nothing.
 use Prim.Native.Nat.{ℕ}
 use mathlib.Core.Path.{_≡_, sym, ap, _∙_}

@@ -1,8 +1,8 @@
 -- What holds of each refusal along the form and the chain, if it does of each row: one walk over rows 13 to 25.
---   Refusals                                           what holds of an outcome's refusal
---   refusal-row, refusal-then, refusal-passed          a row; a check and the next; the next where it passed
---   isRow                                              rows 13 to 25
---   form-refusals, chain-refusals                      the form; the check of a chain, over any literals
+--   Refusals                                    what holds of an outcome's refusal
+--   refusal-row, refusal-then, refusal-passed   a row; a check and the next; the next where it passed
+--   isRow                                       rows 13 to 25
+--   form-refusals, chain-refusals               the form; the check of a chain, over any literals
 -- Assumes nothing.
 use Prim.Native.Nat.{ℕ, zero, suc, _+_, _-_, _≤_, max}
 use native.Mathlib.Omega.{arith}

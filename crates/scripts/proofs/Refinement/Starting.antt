@@ -1,8 +1,8 @@
 -- The first step of the chain.
---   start-some, start-column                  a query column has a literal; it is the start's
---   start-listed                              row 18: a start names one of the two query columns
---   first-step                                a first step that is not 0 is a step
---   chain-none, chain-other, chain-started    the chain's outcome: no step, another first step, a start
+--   start-some, start-column                 a query column has a literal; it is the start's
+--   start-listed                             row 18: a start names one of the two query columns
+--   first-step                               a first step that is not 0 is a step
+--   chain-none, chain-other, chain-started   the chain's outcome: no step, another first step, a start
 -- Assumes nothing.
 use Prim.Native.Nat.{ℕ, zero, suc, _≤_, _<_}
 use native.Mathlib.Omega.{arith}

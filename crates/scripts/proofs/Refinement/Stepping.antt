@@ -1,12 +1,12 @@
 -- One step of the run over numbers, from what the code's tests tell.
---   not-passed                                        a refusal is no pass
---   open-frames, open-positive                          whether a frame is open
---   goal-frames, reduce-frames, reduce-never              the goal; row 22
---   room-left                                         row 23
---   step-starting, step-extending, step-reducing      the step of a record that was read, by its kind
---   step-neither, step-other                          one that is no extension or reduction; a step that is no start
---   extension-rows, reduction-rows, start-rows        the rows at a step
---   extension-after, reduction-after                  the frames after it
+--   not-passed                                     a refusal is no pass
+--   open-frames, open-positive                     whether a frame is open
+--   goal-frames, reduce-frames, reduce-never       the goal; row 22
+--   room-left                                      row 23
+--   step-starting, step-extending, step-reducing   the step of a record that was read, by its kind
+--   step-neither, step-other                       one that is no extension or reduction; a step that is no start
+--   extension-rows, reduction-rows, start-rows     the rows at a step
+--   extension-after, reduction-after               the frames after it
 -- Assumes nothing.
 use Prim.Native.Nat.{ℕ, zero, suc, _-_, _≤_, _<_}
 use native.Mathlib.Omega.{arith}

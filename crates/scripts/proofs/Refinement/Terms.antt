@@ -1,18 +1,18 @@
 -- Term records: their terms written out, and the codes of these.
---   TermRecord, earlier-term                 a record of kind 1 or 2; an earlier one, as rows 17 and 18 ask for it
---   First, Applied                           what is told of the constant's record; of a record of kind 2
---   Valid, code-zero                         codes: 0, or a function above 0 with a term record; 0 is the constant's
---   Inner, inner-local, line-inner           the inner term of what a record says comes before it
---   entry-past, past-line                    records past the end say nothing
---   term-eq, header-line, header-term        a record's term from those of earlier records; the header counts as the constant
---   term-kind, line-first, line-applied      the kinds of term records, and what these say
---   term-positive, function-positive         the header is no term record, and no function
---   first-record, applied-record, term-record    a term record is the constant's, or of kind 2
---   term-first, term-applied                 their terms
---   apply-valid, apply-small, apply-term     the code of a function at a term record
---   code-valid, code-small, code-term        the code of a term record
---   apply-unique, unique-step, term-unique   no two term records have one term
---   code-apply, code-unique, code-same       two codes are equal if their terms are
+--   TermRecord, earlier-term                    a record of kind 1 or 2; an earlier one, as rows 17 and 18 ask for it
+--   First, Applied                              what is told of the constant's record; of a record of kind 2
+--   Valid, code-zero                            codes: 0, or a function above 0 with a term record; 0 is the constant's
+--   Inner, inner-local, line-inner              the inner term of what a record says comes before it
+--   entry-past, past-line                       records past the end say nothing
+--   term-eq, header-line, header-term           a record's term from those of earlier records; the header counts as the constant
+--   term-kind, line-first, line-applied         the kinds of term records, and what these say
+--   term-positive, function-positive            the header is no term record, and no function
+--   first-record, applied-record, term-record   a term record is the constant's, or of kind 2
+--   term-first, term-applied                    their terms
+--   apply-valid, apply-small, apply-term        the code of a function at a term record
+--   code-valid, code-small, code-term           the code of a term record
+--   apply-unique, unique-step, term-unique      no two term records have one term
+--   code-apply, code-unique, code-same          two codes are equal if their terms are
 -- Assumes nothing.
 use Prim.Native.Nat.{ℕ, zero, suc, _*_, _/_, _%_, _≤_, _<_}
 use native.Mathlib.Omega.{arith}

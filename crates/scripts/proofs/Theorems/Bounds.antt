@@ -1,11 +1,11 @@
 -- Bounds on what the script check answers: what a caller needs to pack an answer into a word.
---   mostPlace                            no answer is above it
---   after-count                          what comes after the vocabulary check
---   row-near, nearby                     rows 13 to 25 at a near place; a check all of whose refusals are near
---   form-near                            the form's refusal is near
---   chain-within                         the numbers of a keeps-form script's chain are small
---   script-small                         the number of steps or the place is at most mostPlace, the refusal's number not 0
---   header-byte, query-below             the query's numbers have 16 bits
+--   mostPlace                  no answer is above it
+--   after-count                what comes after the vocabulary check
+--   row-near, nearby           rows 13 to 25 at a near place; a check all of whose refusals are near
+--   form-near                  the form's refusal is near
+--   chain-within               the numbers of the chain of such a script are small
+--   script-small               the number of steps or the place is at most mostPlace, the refusal's number not 0
+--   header-byte, query-below   the query's numbers have 16 bits
 -- Assumes nothing.
 use Prim.Native.Nat.{ℕ, _+_, _*_, _≤_, _<_, max}
 use native.Mathlib.Omega.{arith}
@@ -54,7 +54,7 @@ form-near m v s h a b =
     (form-refusals (Near m) (λ i. i ≤ m) (row-near m) v s (omega arith, omega arith, a) (omega arith, omega arith, b)
     (omega arith) (λ e i l. omega (arith, length-sized s e .most)))
 
--- numbers of the chain of a keeps-form script
+-- numbers of the chain of a script that keeps the form
 chain-within : (m : ℕ) (s : List ℕ) (is : List ℕ) → entries s ≤ m → All (OnChain s) is → All (λ i. i ≤ m) is
 chain-within m s [] h a = tt
 chain-within m s (i ∷ is) h a = (omega (arith, a .0 .within), chain-within m s is h (a .1))

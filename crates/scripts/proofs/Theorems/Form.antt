@@ -1,10 +1,10 @@
 -- What a passed form tells: rows 13, 14, 10 and 15 to 19.
 --   Sized, TermNumber, IsStepAt              the length's bounds; a number of a term of the vocabulary; a step record
---   KeepsForm                                   what is told of a script
+--   KeepsForm                                what is told of a script
 --   length-sized, header-kind, term-number   rows 13, 14 and 10
 --   Rows, rows-passed, entry-rows            rows 15 to 18 at a record
 --   link-onward, next-onward                 row 19: a link, and a step's next, lead onward
---   keeps-form                                   a script whose form passes is KeepsForm
+--   keeps-form                               what a passed form tells of a script
 --   step-listed, line-step, step-fits        row 18: a step uses what is listed; at a record; at a record of the chain
 --   OnChain, chain-ahead                     the chain has steps alone
 --   steps-listed, chain-listed               each of these uses what is listed

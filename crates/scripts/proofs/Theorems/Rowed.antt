@@ -1,5 +1,5 @@
 -- Which rows a call's refusals are of.
---   require-rows, then-rows, turns-rows      a row, one check after another, checks in turn
+--   require-rows, then-rows, turns-rows                          a row, one check after another, checks in turn
 --   vocabulary-rows, record-rows, comparison-rows, script-rows   the four calls
 -- Assumes nothing.
 use Prim.Native.Nat.{ℕ, zero, suc, _*_, _-_}

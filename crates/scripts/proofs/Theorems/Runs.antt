@@ -1,6 +1,6 @@
 -- A derivation runs: its steps pass, one after the other, and close its column.
 --   height-room     a derivation that keeps the limit has room for its column
---   runs            the steps of a derivation, then remainder, run as the remainder do once the derivation's column is closed
+--   runs            the steps of a derivation, then others, run as the others do once the derivation's column is closed
 --   start-begins    start, and a derivation of its column, is a chain that passes
 --   derives-chain   a chain whose steps are a derivation passes the check
 -- Assumes nothing.

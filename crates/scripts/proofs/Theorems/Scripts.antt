@@ -1,8 +1,8 @@
 -- The script check's answer is right, on every script: demand 2.
---   checked-parts       what acceptance consists of
---   accepted-derives    an accepted script's chain is a derivation, and its steps are counted
---   derives-accepted    a script that keeps the form and whose chain is a derivation is accepted
---   accepted-within     what an accepted script asks is so in every model
+--   checked-parts      what acceptance consists of
+--   accepted-derives   an accepted script's chain is a derivation, and its steps are counted
+--   derives-accepted   a script that keeps the form and whose chain is a derivation is accepted
+--   accepted-within    what an accepted script asks is so in every model
 -- Assumes nothing.
 use Prim.Native.Nat.{ℕ}
 use mathlib.Core.Path.{_≡_, refl}

@@ -1,11 +1,12 @@
--- The calculus is sound: what is derived is so in every finite interpretation satisfying the statements. Were it not so in
--- one, that would deny the query; with the functions and a that it has, no column would hold, but the start column would.
+-- The calculus is sound: what is derived is so in every finite interpretation satisfying the statements.
+-- Suppose a model refutes the query. Its Skolem functions make every column false. By induction every goal of a derivation is
+-- true, so the start column is: contradiction.
 --   listed-column                a column that has positions is one of its owner's
 --   truthOf, allTrue, AllFalse   what literals say of the elements that their terms stand for
---   remainder-true                  a list is true if the literal at a position is, and the remainder
+--   others-true                  a list is true if the literal at a position is, and the others
 --   reduced-true                 a goal whose complement is on a path of false literals is true
---   extended-true                so is one whose complement is in a column with its remainder true, as no column literalsHold
---   derivation-sound             where no column literalsHold, the open literals of a derivation with a path of false literals are true
+--   extended-true                so is one whose complement is in a column whose others are true, as no column holds
+--   derivation-sound             where no column holds, the open literals of a derivation with a path of false literals are true
 --   derives-sound                "A within B" is so in every finite interpretation satisfying the statements, if it is derived
 -- Assumes nothing.
 use Prim.Native.Nat.{ℕ, zero, suc, _-_, _<_}
@@ -59,14 +60,14 @@ module _ (I : Interpretation) (v : List ℕ) (k : Choice I) where
   unfolding literalsHold
   true-cons l c p h = both-true (truthOf l) (allTrue c) p h
 
-  remainder-true : (p : ℕ) (c : Literals) → p < length c → truthOf (getD c p noLiteral) ≡ true
+  others-true : (p : ℕ) (c : Literals) → p < length c → truthOf (getD c p noLiteral) ≡ true
       → allTrue (without p c) ≡ true → allTrue c ≡ true
   unfolding literalsHold without
-  remainder-true p [] l h o = absurd (omega arith)
-  remainder-true zero (m ∷ c) l h o = both-true (truthOf m) (allTrue c) h o
-  remainder-true (suc p) (m ∷ c) l h o =
+  others-true p [] l h o = absurd (omega arith)
+  others-true zero (m ∷ c) l h o = both-true (truthOf m) (allTrue c) h o
+  others-true (suc p) (m ∷ c) l h o =
       both-true (truthOf m) (allTrue c) (both-left (truthOf m) (allTrue (without p c)) o)
-      (remainder-true p c (omega arith) h (both-right (truthOf m) (allTrue (without p c)) o))
+      (others-true p c (omega arith) h (both-right (truthOf m) (allTrue (without p c)) o))
 
   reduced-true : (l : Literal SkolemTerm) (path : Literals) (f : ℕ) → f < length path
       → onPath path f ≡ complement l → AllFalse path → truthOf l ≡ true
@@ -80,7 +81,7 @@ module _ (I : Interpretation) (v : List ℕ) (k : Choice I) where
     extended-true l e h p above = unless-false (truthOf l) (λ f.
         let met : truthOf (connectedLiteral v q e) ≡ true = ap truthOf p ∙ complement-truth l ∙ ap not f in
         let long : e .position < length (usedColumn v q e) = rw length-map h in
-        let holding = remainder-true (e .position) (usedColumn v q e) long met (above f) in
+        let holding = others-true (e .position) (usedColumn v q e) long met (above f) in
         let listed = listed-column (columnsAt v q (e .owner)) (e .column) (e .position) h in
         let fails = instance-false I k (e .owner) (e .first) (e .second) v q none (e .column) listed in
         clash (cc))

@@ -1,14 +1,14 @@
 -- A step at the goal: what it takes to pass, and what it leaves. The frames are `(l ∷ c) ∷ frames`: the goal is l, and c stays
 -- open beside it.
---   Literals, OpenFrames, Steps, goals    a column's open literals; frames of them; steps; the path that goals of frames make
---   room, room-under                     a column may open above n frames: an empty one always, any other under the limit
---   close-goal, goal-below               the goal closed, c is open; a frame's goal, counted as the path counts
---   complement-true                      a literal that is the complement passes the test
---   reduction-passes                       a reduction of the calculus passes
---   reduction-succeeds, extension-succeeds     a step of the calculus passes, and the steps after it run from what it leaves
+--   Literals, OpenFrames, Steps, goals       a column's open literals; frames of them; steps; the path that goals of frames make
+--   room, room-under                         a column may open above n frames: an empty one always, any other under the limit
+--   close-goal, goal-below                   the goal closed, c is open; a frame's goal, counted as the path counts
+--   complement-true                          a literal that is the complement passes the test
+--   reduction-passes                         a reduction of the calculus passes
+--   reduction-succeeds, extension-succeeds   a step of the calculus passes, and the steps after it run from what it leaves
 --   passes-reduction, passes-extension       a step that passes is one of the calculus
 --   succeeds-reduction, succeeds-extension   and the steps after it pass from what it leaves
---   start-open                           start opens a query column above no frame
+--   start-open                               start opens a query column above no frame
 -- Assumes nothing.
 use Prim.Native.Nat.{ℕ, zero, suc, _-_, _<_, _≤_}
 use native.Mathlib.Omega.{arith}

@@ -1,10 +1,10 @@
 -- Lists in rising order, one turn after the other: of the members of a set, and of the numbers that pass a test.
---   ListedBelow                        the members below t, in a list that has room
---   list-start, list-more, list-same   none; one more; none here
+--   ListedBelow                                            the members below t, in a list that has room
+--   list-start, list-more, list-same                       none; one more; none here
 --   entries-none, entries-length, entry-kept, entry-last   numbers that pass, one further
---   entry-sound, entry-found           the entries are those that pass
---   entry-number, entry-at             an entry's number is how many there are before it
---   total-turn, fill-entry-kept, fill-entry-more   a table of what each entry is to hold
+--   entry-sound, entry-found                               the entries are those that pass
+--   entry-number, entry-at                                 an entry's number is how many there are before it
+--   total-turn, fill-entry-kept, fill-entry-more           a table of what each entry is to hold
 -- Assumes nothing.
 use Prim.Native.Nat.{ℕ, zero, suc, _+_, _≤_, _<_}
 use native.Mathlib.Omega.{arith}

@@ -1,10 +1,10 @@
 -- One turn of the code's loops, over plain values.
---   Filled, fill-start, fill-turn   a table filled in order
---   RightAt, right-turn, right-kept   a part of a table filled in order
---   zeros                           a table of nothing but zeros
---   types-bound                     few atoms have few types
---   Ends, ends-turn, ends-empty     a set that has nothing from there on
---   all-holds-turn                  a test of all, one number further
+--   Filled, fill-start, fill-turn                 a table filled in order
+--   RightAt, right-turn, right-kept               a part of a table filled in order
+--   zeros                                         a table of nothing but zeros
+--   types-bound                                   few atoms have few types
+--   Ends, ends-turn, ends-empty                   a set that has nothing from there on
+--   all-holds-turn                                a test of all, one number further
 --   word-start, word-turn, word-end, word-bound   a word built from its top bit
 -- Assumes nothing.
 use Prim.Native.Nat.{ℕ, zero, suc, _+_, _-_, _*_, _≤_, _<_}

@@ -3,12 +3,12 @@
 --   Joining, join-start, join-turn, join-end   a block, entry by entry
 --   shifted, power                             a power of two, as the code has it
 --   words-room                                 the words of so few bits lie in the table
---   zeta-step-end                                one bit, once a loop over its words is past them
+--   zeta-step-end                              one bit, once a loop over its words is past them
 --   Paired, pair-start, pair-turn              one bit, block by block
 --   pair-room, pair-less                       the next block lies in the table, and less is left after it
 --   Stepped, step-start, step-turn             one bit, word by word
 --   step-back, step-less                       the word without the bit lies in the table, and less is left
---   zeta-start, zeta-turn, zeta-end      all bits
+--   zeta-start, zeta-turn, zeta-end            all bits
 -- Assumes nothing.
 use Prim.Native.Nat.{ℕ, suc, _+_, _-_, _*_, _/_, _%_, _^_, _≤_, _<_}
 use native.Mathlib.Omega.{arith}

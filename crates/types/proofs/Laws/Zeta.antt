@@ -1,9 +1,9 @@
 -- The zeta transform: sums over the subsets of a word, here bitwise or, over the bits below n.
---   Inside, Under               a word within another; one that differs from it below n only
---   zeta-kept, zeta-joined  one bit further
---   zeta-intro, zeta-elim   the bits of an entry: those of the entries under it
---   zeta-small                entries stay below a power of two
---   zeta-cong                 an entry comes from the entries up to it
+--   Inside, Under            a word within another; one that differs from it below n only
+--   zeta-kept, zeta-joined   one bit further
+--   zeta-intro, zeta-elim    the bits of an entry: those of the entries under it
+--   zeta-small               entries stay below a power of two
+--   zeta-cong                an entry comes from the entries up to it
 -- Assumes nothing.
 use Prim.Native.Nat.{ℕ, zero, suc, _-_, _^_, _≤_, _<_}
 use native.Mathlib.Omega.{arith}

@@ -1,8 +1,8 @@
 -- What the call answers and leaves, by the check that decides.
---   Called                                  the answer and the lent bytes are those of the comparison
---   refused-vocabulary, refused-query       a check refuses: nothing is written
---   decided-call                            all checks pass
---   query-passed, query-comparable          what the query then tells
+--   Called                              the answer and the lent bytes are those of the comparison
+--   refused-vocabulary, refused-query   a check refuses: nothing is written
+--   decided-call                        all checks pass
+--   query-passed, query-comparable      what the query then tells
 -- Assumes nothing.
 use Prim.Native.Nat.{ℕ}
 use mathlib.Core.Path.{_≡_, sym, ap, _∙_}

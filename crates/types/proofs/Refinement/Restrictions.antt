@@ -1,7 +1,7 @@
 -- The list of the restrictions, the records of kinds 7 and 8.
---   restriction-sound                      its entries are restrictions
---   restrictions-few, width-bound          there are no more of them than atoms
---   restrictions-intro, restrictions-at    a test of every record, at the restrictions
+--   restriction-sound                     its entries are restrictions
+--   restrictions-few, width-bound         there are no more of them than atoms
+--   restrictions-intro, restrictions-at   a test of every record, at the restrictions
 -- Assumes nothing.
 use Prim.Native.Nat.{ℕ, zero, suc, _≤_, _<_}
 use native.Mathlib.Omega.{arith}

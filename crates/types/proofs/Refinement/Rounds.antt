@@ -1,10 +1,10 @@
 -- A round by removals, role after role, and the rounds one after the other.
---   otherRoleWord-done, full-word                            the words of the other roles, and of all bits, as the code makes them
+--   otherRoleWord-done, full-word                     the words of the other roles, and of all bits, as the code makes them
 --   AfterRoles, roles-start, roles-skip, roles-turn   what is left after the roles below r
 --   round-same, removes-same                          a round goes by the set, not by its table
 --   stage-ends, survivors-end, round-rests            a set that has nothing past the types; a round that removes nothing
 --   bits-few, reached-in, met-role, role-skipped      in an elimination: the words lie in the table of joins; one role's test
---   fillerWord-in, joins-done                             the table of joins
+--   fillerWord-in, joins-done                         the table of joins
 --   round-done, eliminating-on                        after all roles it is the round; the state after it
 --   AtStage, rests-survivors, stage-on, rounds-left   rounds one after the other
 -- Assumes nothing.

@@ -1,11 +1,11 @@
 -- Kinds 7 and 8 read alike, by signed truths.
---   wants, gives                 whether t needs a witness for restriction i; whether s is one
---   apart                        whether restriction i is of another role
---   says-some, says-all          what a record of kind 7, or 8, says
---   says-plain                   and one of another kind
---   allows-signed, met-signed    a restriction, whichever its kind
---   allows-plain, met-plain      another record forbids nothing and needs nothing
---   role-below                   the role of a restriction is below the count
+--   wants, gives                whether t needs a witness for restriction i; whether s is one
+--   apart                       whether restriction i is of another role
+--   says-some, says-all         what a record of kind 7, or 8, says
+--   says-plain                  and one of another kind
+--   allows-signed, met-signed   a restriction, whichever its kind
+--   allows-plain, met-plain     another record forbids nothing and needs nothing
+--   role-below                  the role of a restriction is below the count
 -- Assumes nothing.
 use Prim.Native.Nat.{ℕ, zero, suc, _<_}
 use native.Mathlib.Omega.{arith}

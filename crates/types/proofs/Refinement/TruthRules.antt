@@ -1,8 +1,8 @@
 -- The truth rules of the code are the paper's.
 --   rule-restriction, rule-low, rule-high, first-.., second-..   the tables of shapes by the ranges of a `match`
---   agree                          rules that agree at all four places
---   rule-evaluates                  what a record says, by its rule
---   operands-earlier               its operands come no later than the record
+--   agree                                                        rules that agree at all four places
+--   rule-evaluates                                               what a record says, by its rule
+--   operands-earlier                                             its operands come no later than the record
 -- Assumes nothing.
 use Prim.Native.Nat.{ℕ, zero, suc, _+_, _≤_, _<_}
 use native.Mathlib.Omega.{arith}

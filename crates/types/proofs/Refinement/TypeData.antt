@@ -1,7 +1,7 @@
 -- What is kept of a type, from a table of its truths.
 --   prepared-good, few-records, listing-bounded   what is prepared is small
---   describe-done                           at a type: whether the statements hold, whether the terms differ, the words
---   stating                                the statements, listed from marks
+--   describe-done                                 at a type: whether the statements hold, whether the terms differ, the words
+--   stating                                       the statements, listed from marks
 -- Assumes nothing.
 use Prim.Native.Nat.{ℕ, _≤_, _<_}
 use native.Mathlib.Omega.{arith}

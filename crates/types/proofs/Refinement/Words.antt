@@ -1,8 +1,8 @@
 -- The words of the served test, bit by bit.
 --   restrictionWord-bit, fillerWord-bit, otherRoleWord-bit, reached-bit           the bits of a word
 --   restrictionWord-small, fillerWord-small, otherRoleWord-small, reached-small   it has no more bits than there are restrictions
---   Fills, joins-intro, joins-elim                           the bits of a join
---   joins-small                                              it has no more
+--   Fills, joins-intro, joins-elim                                                the bits of a join
+--   joins-small                                                                   it has no more
 -- Assumes nothing.
 use Prim.Native.Nat.{ℕ, _^_, _≤_, _<_}
 use native.Mathlib.Omega.{arith}

@@ -1,8 +1,8 @@
 -- A set of types as an interpretation: "with bits for names and allowed pairs for roles".
---   Canonical                       the interpretation's elements are the members of the set, its pairs the allowed ones
---   canonical-agrees                if the set serves its members, an element belongs to the terms true at it
---   canonical-satisfied             the statements are satisfied, if they hold at its members
---   canonical-model                 so that it is a model, if the set has a member
+--   Canonical             the interpretation's elements are the members of the set, its pairs the allowed ones
+--   canonical-agrees      if the set serves its members, an element belongs to the terms true at it
+--   canonical-satisfied   the statements are satisfied, if they hold at its members
+--   canonical-model       so that it is a model, if the set has a member
 -- Assumes nothing.
 use Prim.Native.Nat.{ℕ, zero, suc, _<_}
 use native.Mathlib.Omega.{arith}

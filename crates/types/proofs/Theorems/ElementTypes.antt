@@ -1,10 +1,10 @@
 -- The type of an element: which atoms hold there. In an interpretation that satisfies the statements it survives.
---   atomRecord, record-of-atom   the record of an atom, by its number
---   typeOf, type-small           an element's type
---   type-agrees                  the terms true at it are those the element belongs to
---   type-allowed                 a role's pairs are allowed pairs of types
---   type-satisfies, type-served       the statements hold at it, and a set with the types of all elements serves it
---   type-survives                it is a survivor
+--   atomRecord, record-of-atom    the record of an atom, by its number
+--   typeOf, type-small            an element's type
+--   type-agrees                   the terms true at it are those the element belongs to
+--   type-allowed                  a role's pairs are allowed pairs of types
+--   type-satisfies, type-served   the statements hold at it, and a set with the types of all elements serves it
+--   type-survives                 it is a survivor
 -- Assumes nothing.
 use Prim.Native.Nat.{ℕ, zero, suc, _<_}
 use native.Mathlib.Omega.{arith}

@@ -1,9 +1,9 @@
 -- The bitmap holds the survivors: what is read back from it is their canonical model.
---   bitmap-bit          bit t mod 8 of byte t div 8 says whether t is a survivor
---   survivor-below    a survivor has a bit in the bitmap
---   readBack-canonical        the interpretation read back is the canonical one of the survivors
---   read-agrees       its elements belong to the terms true at them
---   read-model        it satisfies the statements, if there is a survivor
+--   bitmap-bit           bit t mod 8 of byte t div 8 says whether t is a survivor
+--   survivor-below       a survivor has a bit in the bitmap
+--   readBack-canonical   the interpretation read back is the canonical one of the survivors
+--   read-agrees          its elements belong to the terms true at them
+--   read-model           it satisfies the statements, if there is a survivor
 -- Assumes nothing.
 use Prim.Native.Nat.{ℕ, _+_, _*_, _/_, _%_, _≤_, _<_}
 use native.Mathlib.Omega.{arith}

@@ -1,11 +1,11 @@
 -- What a record says by what its operands say: truth at a type, and membership in an interpretation.
---   evaluate-cong, evaluate-atom                    what a record says, from its atom and its operands
---   restricted-atom, some-earlier, all-earlier    restrictions are atoms, and their fillers come earlier
---   truth-eq, belongs-eq                          the equations of truth and of membership
---   truth-atom, belongs-atom                      at an atom
---   truth-statement, belongs-statement            at a chained statement
---   belongs-some, belongs-all                     at a restriction
---   atom-within                                   there is no atom past the end
+--   evaluate-cong, evaluate-atom                 what a record says, from its atom and its operands
+--   restricted-atom, some-earlier, all-earlier   restrictions are atoms, and their fillers come earlier
+--   truth-eq, belongs-eq                         the equations of truth and of membership
+--   truth-atom, belongs-atom                     at an atom
+--   truth-statement, belongs-statement           at a chained statement
+--   belongs-some, belongs-all                    at a restriction
+--   atom-within                                  there is no atom past the end
 -- Assumes nothing.
 use Prim.Native.Nat.{ℕ, zero, suc, _+_, _≤_, _<_}
 use native.Mathlib.Omega.{arith}

@@ -1,10 +1,10 @@
 -- Restrictions by their witnesses: elements joined by a role, and types allowed for it.
---   Pair                                           e is an element that a pair of the role joins to d
---   some-holds, some-gives                         "some-role holds at d if a pair (d, e) has e in B"
---   all-holds, all-gives, all-misses               "all-role holds if every such e is in B"
---   some-allows, all-allows                        what an allowed pair of types gives
---   Witness, witness-holds, witness-gives          a witness in a set of types
---   some-met, all-met                              one that a set which serves a type has
+--   Pair                                    e is an element that a pair of the role joins to d
+--   some-holds, some-gives                  "some-role holds at d if a pair (d, e) has e in B"
+--   all-holds, all-gives, all-misses        "all-role holds if every such e is in B"
+--   some-allows, all-allows                 what an allowed pair of types gives
+--   Witness, witness-holds, witness-gives   a witness in a set of types
+--   some-met, all-met                       one that a set which serves a type has
 -- Assumes nothing.
 use Prim.Native.Nat.{ℕ, _<_}
 use mathlib.Core.Path.{_≡_, refl, sym, ap, _∙_}

@@ -1,4 +1,4 @@
--- `records::check::check_records` meets its contract. A refusal stands; otherwise the next check decides. A length that checked-fine has a header.
+-- `records::check::check_records` meets its contract. A refusal stands; otherwise the next check decides. A length that passed has a header.
 -- Assumes nothing.
 use mathlib.Core.Path.{_≡_}
 use denote.Ref.{now}
@@ -9,7 +9,7 @@ use Rattle.records.proofs.Laws.Passed.{Sized, length-passed}
 use Rattle.records.proofs.check.check_records.Statement.{statement}
 use Rattle.records.proofs.check.check_records.Tie as tie
 
--- the length has checked-fine
+-- the length has passed
 sized : (c : tie.After-enum-told) → Sized (now (c .before .before .before .before .args .v))
 sized c = length-passed _ (checked-fine _ _ (c .before .before .check-length .ensures) (c .enum-told .given .1))
 

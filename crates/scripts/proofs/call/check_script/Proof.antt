@@ -1,4 +1,4 @@
--- `scripts::call::check_script` meets its contract. Each check that checked-fine hands on to the next; the chain decides last.
+-- `scripts::call::check_script` meets its contract. Each check that passed hands on to the next; the chain decides last.
 -- Assumes nothing.
 use native.Mathlib.Omega.{arith}
 use mathlib.Core.Path.{_≡_}
@@ -15,7 +15,7 @@ use Rattle.scripts.proofs.Refinement.Outcomes.{vocabulary-at, refused-v
 use Rattle.scripts.proofs.call.check_script.Statement.{statement}
 use Rattle.scripts.proofs.call.check_script.Tie as tie
 
--- Places: the start, where the vocabulary was accepted, after row 13 was tried, where it checked-fine, after the form was checked.
+-- Places: the start, where the vocabulary was accepted, after row 13 was tried, where it passed, after the form was checked.
 abbrev start : tie.After-enum-told → tie.Start
 start c = c .before .before .before .before .before
 
@@ -68,7 +68,7 @@ returns-2 c =
     refused-length (now (a .v)) (now (a .s)) _ _ _ _ (accepts (taken m)) (measured m) (c .before .enum-told4 .given .1)
     (c .judge-after .ensures)
 
--- it checked-fine
+-- it passed
 sized : (c : tie.After-enum-told3) → lengthCheck (now (start (taken (long c)) .args .s)) ≡ pass
 sized c = checked-fine _ _ (measured (long c)) (c .enum-told3 .given .1)
 
@@ -100,7 +100,7 @@ returns-3 c =
     refused-form (now (a .v)) (now (a .s)) _ _ _ _ (accepts t) (k .check-form .ensures) (c .before .enum-told6 .given .1)
     (c .judge-after2 .ensures)
 
--- the form checked-fine
+-- the form passed
 fits : (c : tie.After-enum-told5)
     → let a = start (taken (long (begun (keeps-form c)))) .args in formCheck (now (a .v)) (now (a .s)) ≡ pass
 fits c = checked-fine _ _ (keeps-form c .check-form .ensures) (c .enum-told5 .given .1)
