@@ -40,14 +40,5 @@ returns c = tt
 pub fill-spec : {M : Type 1} → statement M
 fill-spec =
     tie.close
-    (tie.spec
-    Inv-loop
-    μ-loop
-    loop-holds
-    slice-write-buffer
-    wrapping-add-u8-requires
-    add-i
-    loop-less
-    loop-again
-    same-length
+    (tie.spec Inv-loop μ-loop loop-holds slice-write-buffer wrapping-add-u8-requires add-i loop-less loop-again same-length
     returns)

@@ -42,15 +42,5 @@ returns-2 c = tt
 pub print-digits-spec : {M : Type 1} → statement M
 print-digits-spec =
     tie.close
-    (tie.spec
-    Inv-loop
-    μ-loop
-    loop-holds
-    shared-slice-read-wide
-    wide-requires
-    print-hex-requires
-    add-i
-    loop-less
-    loop-again
-    returns
-    returns-2)
+    (tie.spec Inv-loop μ-loop loop-holds shared-slice-read-wide wide-requires print-hex-requires add-i loop-less loop-again
+    returns returns-2)

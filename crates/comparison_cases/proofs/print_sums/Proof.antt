@@ -47,17 +47,5 @@ returns c = tt
 pub print-sums-spec : {M : Type 1} → statement M
 print-sums-spec =
     tie.close
-    (tie.spec
-    Inv-loop
-    μ-loop
-    loop-holds
-    shared-slice-read-wide
-    wide-requires
-    wrapping-add-u64-requires
-    wrapping-add-u64-requires-2
-    add-i
-    loop-less
-    loop-again
-    print-number-requires
-    print-number-requires-2
-    returns)
+    (tie.spec Inv-loop μ-loop loop-holds shared-slice-read-wide wide-requires wrapping-add-u64-requires
+    wrapping-add-u64-requires-2 add-i loop-less loop-again print-number-requires print-number-requires-2 returns)

@@ -39,14 +39,4 @@ returns-2 c = tt
 pub used-spec : {M : Type 1} → statement M
 used-spec =
     tie.close
-    (tie.spec
-    Inv-loop
-    μ-loop
-    loop-holds
-    shared-slice-read-if2
-    add-end
-    add-i
-    loop-less
-    loop-again
-    returns
-    returns-2)
+    (tie.spec Inv-loop μ-loop loop-holds shared-slice-read-if2 add-end add-i loop-less loop-again returns returns-2)

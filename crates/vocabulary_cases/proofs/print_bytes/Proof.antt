@@ -44,16 +44,5 @@ returns c = tt
 pub print-bytes-spec : {M : Type 1} → statement M
 print-bytes-spec =
     tie.close
-    (tie.spec
-    Inv-loop
-    μ-loop
-    loop-holds
-    shared-slice-read-wide
-    wide-requires
-    sub-after
-    after-requires
-    print-number-requires
-    add-i
-    loop-less
-    loop-again
-    returns)
+    (tie.spec Inv-loop μ-loop loop-holds shared-slice-read-wide wide-requires sub-after after-requires print-number-requires
+    add-i loop-less loop-again returns)

@@ -15,12 +15,5 @@ add-result-3 c = omega (arith, digit-small (c .before .args .positive), c .digit
 pub pack-concept-spec : {M : Type 1} → statement M
 pack-concept-spec =
     tie.close
-    (tie.spec
-    (λ c κs. search needs)
-    (λ c. search needs)
-    (λ c. search needs)
-    (λ c. search needs)
-    add-result-2
-    (λ c. search needs)
-    add-result-3
-    (λ c. search needs))
+    (tie.spec (λ c κs. search needs) (λ c. search needs) (λ c. search needs) (λ c. search needs) add-result-2
+    (λ c. search needs) add-result-3 (λ c. search needs))

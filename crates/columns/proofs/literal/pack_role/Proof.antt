@@ -18,14 +18,5 @@ add-result-4 c = omega (arith, digit-small (c .before .args .positive), c .digit
 pub pack-role-spec : {M : Type 1} → statement M
 pack-role-spec =
     tie.close
-    (tie.spec
-    (λ c κs. search needs)
-    (λ c. search needs)
-    (λ c. search needs)
-    (λ c. search needs)
-    add-result-2
-    (λ c. search needs)
-    add-result-3
-    (λ c. search needs)
-    add-result-4
-    (λ c. search needs))
+    (tie.spec (λ c κs. search needs) (λ c. search needs) (λ c. search needs) (λ c. search needs) add-result-2
+    (λ c. search needs) add-result-3 (λ c. search needs) add-result-4 (λ c. search needs))

@@ -69,15 +69,5 @@ returns-4 c =
 pub find-column-spec : {M : Type 1} → statement M
 find-column-spec =
     tie.close
-    (tie.spec
-    (λ c κs. search needs)
-    returns
-    (λ c κs. search needs)
-    returns-2
-    (λ c κs. search needs)
-    element-copy-out-has-columns
-    (λ c κs. search needs)
-    (λ c κs. search needs)
-    returns-3
-    (λ c κs. search needs)
-    returns-4)
+    (tie.spec (λ c κs. search needs) returns (λ c κs. search needs) returns-2 (λ c κs. search needs)
+    element-copy-out-has-columns (λ c κs. search needs) (λ c κs. search needs) returns-3 (λ c κs. search needs) returns-4)

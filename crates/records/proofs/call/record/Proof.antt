@@ -34,14 +34,5 @@ returns-2 c = (
 pub record-spec : {M : Type 1} → statement M
 record-spec =
     tie.close
-    (tie.spec
-    (λ c κs. search needs)
-    (λ c. search needs)
-    (λ c. search needs)
-    (λ c. search needs)
-    returns
-    add-end
-    (λ c. search needs)
-    (λ c. search needs)
-    part-result-end
-    returns-2)
+    (tie.spec (λ c κs. search needs) (λ c. search needs) (λ c. search needs) (λ c. search needs) returns add-end
+    (λ c. search needs) (λ c. search needs) part-result-end returns-2)

@@ -57,15 +57,5 @@ returns c =
 pub mark-chain-spec : {M : Type 1} → statement M
 mark-chain-spec =
     tie.close
-    (tie.spec
-    Inv-loop
-    μ-loop
-    read-at-requires
-    (λ c. omega arith)
-    loop-holds
-    array-write-marks
-    read-at-requires-2
-    (λ c. omega arith)
-    loop-less
-    loop-again
-    returns)
+    (tie.spec Inv-loop μ-loop read-at-requires (λ c. omega arith) loop-holds array-write-marks read-at-requires-2
+    (λ c. omega arith) loop-less loop-again returns)

@@ -58,21 +58,6 @@ returns-3 c =
 pub check-links-spec : {M : Type 1} → statement M
 check-links-spec =
     tie.close
-    (tie.spec
-    Inv-loop
-    μ-loop
-    (λ c κs. omega arith)
-    link-fits-requires
-    pass-if-requires
-    (λ c. search needs)
-    (λ c. search needs)
-    returns
-    loop-holds
-    (λ c κs. omega arith)
-    (λ c. search needs)
-    (λ c. search needs)
-    returns-2
-    (λ c. omega arith)
-    (λ c. omega arith)
-    loop-again
-    returns-3)
+    (tie.spec Inv-loop μ-loop (λ c κs. omega arith) link-fits-requires pass-if-requires (λ c. search needs)
+    (λ c. search needs) returns loop-holds (λ c κs. omega arith) (λ c. search needs) (λ c. search needs) returns-2
+    (λ c. omega arith) (λ c. omega arith) loop-again returns-3)

@@ -57,18 +57,6 @@ returns-4 c =
 pub check-records-spec : {M : Type 1} → statement M
 check-records-spec =
     tie.close
-    (tie.spec
-    (λ c κs. search needs)
-    (λ c. search needs)
-    (λ c. search needs)
-    returns
-    check-header-requires
-    (λ c. search needs)
-    (λ c. search needs)
-    returns-2
-    check-each-requires
-    (λ c. search needs)
-    (λ c. search needs)
-    returns-3
-    check-links-requires
+    (tie.spec (λ c κs. search needs) (λ c. search needs) (λ c. search needs) returns check-header-requires (λ c. search needs)
+    (λ c. search needs) returns-2 check-each-requires (λ c. search needs) (λ c. search needs) returns-3 check-links-requires
     returns-4)

@@ -128,24 +128,7 @@ returns-4 c =
 pub check-script-spec : {M : Type 1} → statement M
 check-script-spec =
     tie.close
-    (tie.spec
-    check-vocabulary-requires
-    (λ c. search needs)
-    (λ c. search needs)
-    judge-after-count-requires
-    returns
-    length-fits-requires
-    pass-if-requires
-    (λ c. search needs)
-    (λ c. search needs)
-    judge-after-requires
-    returns-2
-    mark-chain-requires
-    read-entry-requires
-    check-form-requires
-    (λ c. search needs)
-    (λ c. search needs)
-    judge-after-requires-2
-    returns-3
-    check-chain-requires
-    returns-4)
+    (tie.spec check-vocabulary-requires (λ c. search needs) (λ c. search needs) judge-after-count-requires returns
+    length-fits-requires pass-if-requires (λ c. search needs) (λ c. search needs) judge-after-requires returns-2
+    mark-chain-requires read-entry-requires check-form-requires (λ c. search needs) (λ c. search needs) judge-after-requires-2
+    returns-3 check-chain-requires returns-4)

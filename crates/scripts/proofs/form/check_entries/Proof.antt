@@ -52,19 +52,5 @@ returns-3 c =
 pub check-entries-spec : {M : Type 1} → statement M
 check-entries-spec =
     tie.close
-    (tie.spec
-    Inv-loop
-    μ-loop
-    pass-if-requires
-    (λ c. search needs)
-    (λ c. search needs)
-    returns
-    loop-holds
-    check-entry-requires
-    (λ c. search needs)
-    (λ c. search needs)
-    returns-2
-    (λ c. omega arith)
-    (λ c. omega arith)
-    loop-again
-    returns-3)
+    (tie.spec Inv-loop μ-loop pass-if-requires (λ c. search needs) (λ c. search needs) returns loop-holds check-entry-requires
+    (λ c. search needs) (λ c. search needs) returns-2 (λ c. omega arith) (λ c. omega arith) loop-again returns-3)

@@ -85,19 +85,6 @@ returns-4 c =
 pub check-form-spec : {M : Type 1} → statement M
 check-form-spec =
     tie.close
-    (tie.spec
-    (λ c κs. search needs)
-    (λ c κs. search needs)
-    (λ c. search needs)
-    (λ c. search needs)
-    returns
-    (λ c κs. search needs)
-    (λ c. search needs)
-    (λ c. search needs)
-    returns-2
-    check-entries-requires
-    (λ c. search needs)
-    (λ c. search needs)
-    returns-3
-    check-links-requires
-    returns-4)
+    (tie.spec (λ c κs. search needs) (λ c κs. search needs) (λ c. search needs) (λ c. search needs) returns
+    (λ c κs. search needs) (λ c. search needs) (λ c. search needs) returns-2 check-entries-requires (λ c. search needs)
+    (λ c. search needs) returns-3 check-links-requires returns-4)

@@ -30,10 +30,4 @@ returns-2 c =
 pub can-reduce-spec : {M : Type 1} → statement M
 can-reduce-spec =
     tie.close
-    (tie.spec
-    (λ c. search needs)
-    element-copy-out-goal-at
-    goal-at-requires
-    (λ c κs. search needs)
-    returns
-    returns-2)
+    (tie.spec (λ c. search needs) element-copy-out-goal-at goal-at-requires (λ c κs. search needs) returns returns-2)

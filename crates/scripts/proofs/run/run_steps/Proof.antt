@@ -162,26 +162,6 @@ returns-2 c =
 pub run-steps-spec : {M : Type 1} → statement M
 run-steps-spec =
     tie.close
-    (tie.spec
-    Inv-loop
-    μ-loop
-    empty-table-requires
-    empty-requires
-    start-requires
-    read-entry-requires
-    (λ c. omega arith)
-    loop-holds
-    test-step-requires
-    (λ c. search needs)
-    (λ c. search needs)
-    judge-after-requires
-    returns
-    read-entry-requires-2
-    advance-requires
-    add-steps
-    (λ c. omega arith)
-    loop-less
-    loop-again
-    pass-if-requires
-    judge-after-requires-2
-    returns-2)
+    (tie.spec Inv-loop μ-loop empty-table-requires empty-requires start-requires read-entry-requires (λ c. omega arith)
+    loop-holds test-step-requires (λ c. search needs) (λ c. search needs) judge-after-requires returns read-entry-requires-2
+    advance-requires add-steps (λ c. omega arith) loop-less loop-again pass-if-requires judge-after-requires-2 returns-2)

@@ -118,17 +118,6 @@ returns-2 c =
 pub test-extension-spec : {M : Type 1} → statement M
 test-extension-spec =
     tie.close
-    (tie.spec
-    used-column-requires
-    (λ c. search needs)
-    literal-at-requires
-    (λ c κs. search needs)
-    (λ c κs. search needs)
-    (λ c. search needs)
-    (λ c. search needs)
-    (λ c κs. search needs)
-    returns
-    leave-out-requires
-    (λ c κs. search needs)
-    (λ c κs. search needs)
-    returns-2)
+    (tie.spec used-column-requires (λ c. search needs) literal-at-requires (λ c κs. search needs) (λ c κs. search needs)
+    (λ c. search needs) (λ c. search needs) (λ c κs. search needs) returns leave-out-requires (λ c κs. search needs)
+    (λ c κs. search needs) returns-2)

@@ -173,21 +173,6 @@ returns-4 c =
 pub test-step-spec : {M : Type 1} → statement M
 test-step-spec =
     tie.close
-    (tie.spec
-    (λ c κs. search needs)
-    (λ c. search needs)
-    (λ c. search needs)
-    (λ c κs. search needs)
-    returns
-    read-entry-requires
-    sub-last
-    element-copy-out-goal-at
-    goal-at-requires
-    test-extension-requires
-    can-reduce-requires
-    (λ c κs. search needs)
-    (λ c κs. search needs)
-    (λ c κs. search needs)
-    returns-2
-    returns-3
-    returns-4)
+    (tie.spec (λ c κs. search needs) (λ c. search needs) (λ c. search needs) (λ c κs. search needs) returns
+    read-entry-requires sub-last element-copy-out-goal-at goal-at-requires test-extension-requires can-reduce-requires
+    (λ c κs. search needs) (λ c κs. search needs) (λ c κs. search needs) returns-2 returns-3 returns-4)

@@ -86,9 +86,4 @@ returns c =
 pub used-column-spec : {M : Type 1} → statement M
 used-column-spec =
     tie.close
-    (tie.spec
-    term-code-requires
-    second-code-requires
-    (λ c κs. search needs)
-    find-column-requires
-    returns)
+    (tie.spec term-code-requires second-code-requires (λ c κs. search needs) find-column-requires returns)

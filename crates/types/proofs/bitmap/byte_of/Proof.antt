@@ -60,16 +60,5 @@ returns c = whole c
 pub byte-of-spec : {M : Type 1} → statement M
 byte-of-spec =
     tie.close
-    (tie.spec
-    Inv-loop
-    μ-loop
-    (λ c. omega arith)
-    loop-holds
-    (λ c. omega arith)
-    (λ c. omega arith)
-    (λ c. omega arith)
-    push-bit-requires
-    (λ c. omega arith)
-    loop-again
-    cast-result
-    returns)
+    (tie.spec Inv-loop μ-loop (λ c. omega arith) loop-holds (λ c. omega arith) (λ c. omega arith) (λ c. omega arith)
+    push-bit-requires (λ c. omega arith) loop-again cast-result returns)

@@ -44,13 +44,5 @@ returns c =
 pub count-alive-spec : {M : Type 1} → statement M
 count-alive-spec =
     tie.close
-    (tie.spec
-    Inv-loop
-    μ-loop
-    loop-holds
-    (λ c. omega arith)
-    add-found
-    (λ c. omega arith)
-    (λ c. omega arith)
-    loop-again
+    (tie.spec Inv-loop μ-loop loop-holds (λ c. omega arith) add-found (λ c. omega arith) (λ c. omega arith) loop-again
     returns)

@@ -49,14 +49,5 @@ returns c =
 pub write-types-spec : {M : Type 1} → statement M
 write-types-spec =
     tie.close
-    (tie.spec
-    Inv-loop
-    μ-loop
-    loop-holds
-    (λ c κs. omega arith)
-    slice-write-lent
-    (λ c. omega arith)
-    (λ c. omega arith)
-    loop-again
-    same-length
-    returns)
+    (tie.spec Inv-loop μ-loop loop-holds (λ c κs. omega arith) slice-write-lent (λ c. omega arith) (λ c. omega arith)
+    loop-again same-length returns)

@@ -50,13 +50,5 @@ returns c =
 pub write-zeros-spec : {M : Type 1} → statement M
 write-zeros-spec =
     tie.close
-    (tie.spec
-    Inv-loop
-    μ-loop
-    loop-holds
-    slice-write-lent
-    (λ c. omega arith)
-    (λ c. omega arith)
-    loop-again
-    same-length
+    (tie.spec Inv-loop μ-loop loop-holds slice-write-lent (λ c. omega arith) (λ c. omega arith) loop-again same-length
     returns)

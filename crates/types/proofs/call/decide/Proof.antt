@@ -81,12 +81,5 @@ returns c =
 pub decide-spec : {M : Type 1} → statement M
 decide-spec =
     tie.close
-    (tie.spec
-    settle-requires
-    shl-size
-    find-first-requires
-    count-alive-requires
-    write-bitmap-requires
-    (λ c κs. search needs)
-    (λ c. search needs)
-    returns)
+    (tie.spec settle-requires shl-size find-first-requires count-alive-requires write-bitmap-requires (λ c κs. search needs)
+    (λ c. search needs) returns)

@@ -148,25 +148,6 @@ returns c =
 pub decode-spec : {M : Type 1} → statement M
 decode-spec =
     tie.close
-    (tie.spec
-    Inv-loop
-    μ-loop
-    loop-holds
-    (λ c κs. omega arith)
-    (λ c κs. search needs)
-    mul-code
-    element-write-code
-    cast-first-operand
-    (λ c κs. search needs)
-    add-code
-    mul-code-2
-    element-write-code-2
-    (λ c κs. search needs)
-    (λ c. omega arith)
-    add-code-2
-    mul-code-4
-    element-write-code-3
-    add-i
-    (λ c. omega arith)
-    loop-again
-    returns)
+    (tie.spec Inv-loop μ-loop loop-holds (λ c κs. omega arith) (λ c κs. search needs) mul-code element-write-code
+    cast-first-operand (λ c κs. search needs) add-code mul-code-2 element-write-code-2 (λ c κs. search needs)
+    (λ c. omega arith) add-code-2 mul-code-4 element-write-code-3 add-i (λ c. omega arith) loop-again returns)

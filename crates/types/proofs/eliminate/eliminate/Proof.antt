@@ -106,14 +106,5 @@ loop-again c =
 pub eliminate-spec : {M : Type 1} → statement M
 eliminate-spec =
     tie.close
-    (tie.spec
-    Inv-loop
-    μ-loop
-    (λ c κs. search needs)
-    list-live-requires
-    loop-holds
-    remove-unserved-requires
-    returns
-    add-done
-    loop-less
-    loop-again)
+    (tie.spec Inv-loop μ-loop (λ c κs. search needs) list-live-requires loop-holds remove-unserved-requires returns add-done
+    loop-less loop-again)

@@ -85,21 +85,5 @@ returns c =
 pub enter-words-spec : {M : Type 1} → statement M
 enter-words-spec =
     tie.close
-    (tie.spec
-    Inv-loop
-    μ-loop
-    clear-words-requires
-    loop-holds
-    mul-t
-    element-copy-out-t
-    cast-t
-    element-copy-out-if1
-    mul-word
-    element-copy-out-word
-    cast-joins
-    mul-joins
-    element-write-joins
-    add-j
-    (λ c. omega arith)
-    loop-again
-    returns)
+    (tie.spec Inv-loop μ-loop clear-words-requires loop-holds mul-t element-copy-out-t cast-t element-copy-out-if1 mul-word
+    element-copy-out-word cast-joins mul-joins element-write-joins add-j (λ c. omega arith) loop-again returns)

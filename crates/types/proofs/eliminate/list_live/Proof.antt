@@ -62,16 +62,5 @@ returns c =
 pub list-live-spec : {M : Type 1} → statement M
 list-live-spec =
     tie.close
-    (tie.spec
-    Inv-loop
-    μ-loop
-    loop-holds
-    element-copy-out-if1
-    cast-live
-    mul-live
-    element-write-live
-    add-left
-    add-t
-    (λ c. omega arith)
-    loop-again
-    returns)
+    (tie.spec Inv-loop μ-loop loop-holds element-copy-out-if1 cast-live mul-live element-write-live add-left add-t
+    (λ c. omega arith) loop-again returns)

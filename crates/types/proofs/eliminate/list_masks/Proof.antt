@@ -69,16 +69,5 @@ returns c =
 pub list-masks-spec : {M : Type 1} → statement M
 list-masks-spec =
     tie.close
-    (tie.spec
-    Inv-loop
-    μ-loop
-    read-at-requires
-    loop-holds
-    other-roles-requires
-    cast-masks
-    mul-masks
-    array-write-masks
-    add-role
-    (λ c. omega arith)
-    loop-again
-    returns)
+    (tie.spec Inv-loop μ-loop read-at-requires loop-holds other-roles-requires cast-masks mul-masks array-write-masks add-role
+    (λ c. omega arith) loop-again returns)

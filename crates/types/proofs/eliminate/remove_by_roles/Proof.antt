@@ -100,20 +100,5 @@ returns c =
 pub remove-by-roles-spec : {M : Type 1} → statement M
 remove-by-roles-spec =
     tie.close
-    (tie.spec
-    Inv-loop
-    μ-loop
-    read-at-requires
-    cast-full
-    shl-full
-    sub-full
-    loop-holds
-    cast-mask
-    mul-mask
-    element-copy-out-mask
-    remove-unmet-requires
-    (λ c κs. search needs)
-    add-role
-    loop-less
-    loop-again
-    returns)
+    (tie.spec Inv-loop μ-loop read-at-requires cast-full shl-full sub-full loop-holds cast-mask mul-mask element-copy-out-mask
+    remove-unmet-requires (λ c κs. search needs) add-role loop-less loop-again returns)

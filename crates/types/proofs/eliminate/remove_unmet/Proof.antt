@@ -81,19 +81,5 @@ returns c = remove-end _ _ _ _ _ _ (c .before .loop .inv) _ (c .before .before .
 pub remove-unmet-spec : {M : Type 1} → statement M
 remove-unmet-spec =
     tie.close
-    (tie.spec
-    Inv-loop
-    μ-loop
-    loop-holds
-    mul-t
-    element-copy-out-t
-    cast-t
-    element-copy-out-if1
-    mul-is-met
-    element-copy-out-is-met
-    is-met-requires
-    element-write-alive
-    add-j
-    (λ c. omega arith)
-    loop-again
-    returns)
+    (tie.spec Inv-loop μ-loop loop-holds mul-t element-copy-out-t cast-t element-copy-out-if1 mul-is-met
+    element-copy-out-is-met is-met-requires element-write-alive add-j (λ c. omega arith) loop-again returns)

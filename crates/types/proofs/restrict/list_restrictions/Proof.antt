@@ -165,22 +165,6 @@ returns c =
 pub list-restrictions-spec : {M : Type 1} → statement M
 list-restrictions-spec =
     tie.close
-    (tie.spec
-    Inv-loop
-    μ-loop
-    loop-holds
-    (λ c κs. omega arith)
-    (λ c κs. search needs)
-    cast-places
-    mul-places
-    array-write-places
-    mul-fillers
-    array-write-fillers
-    mul-roles
-    array-write-roles
-    array-write-signs
-    add-count
-    add-i
-    (λ c. omega arith)
-    loop-again
-    returns)
+    (tie.spec Inv-loop μ-loop loop-holds (λ c κs. omega arith) (λ c κs. search needs) cast-places mul-places
+    array-write-places mul-fillers array-write-fillers mul-roles array-write-roles array-write-signs add-count add-i
+    (λ c. omega arith) loop-again returns)

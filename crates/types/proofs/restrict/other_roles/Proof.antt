@@ -42,14 +42,5 @@ returns c =
 pub other-roles-spec : {M : Type 1} → statement M
 other-roles-spec =
     tie.close
-    (tie.spec
-    Inv-loop
-    μ-loop
-    loop-holds
-    (λ c. omega arith)
-    (λ c. omega arith)
-    (λ c. omega arith)
-    push-bit-requires
-    (λ c. omega arith)
-    loop-again
-    returns)
+    (tie.spec Inv-loop μ-loop loop-holds (λ c. omega arith) (λ c. omega arith) (λ c. omega arith) push-bit-requires
+    (λ c. omega arith) loop-again returns)

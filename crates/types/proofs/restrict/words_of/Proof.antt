@@ -115,24 +115,6 @@ returns c =
 pub words-of-spec : {M : Type 1} → statement M
 words-of-spec =
     tie.close
-    (tie.spec
-    Inv-loop
-    μ-loop
-    loop-holds
-    (λ c. omega arith)
-    element-copy-out-sign
-    mul-place
-    element-copy-out-place
-    cast-place
-    mul-filler
-    element-copy-out-filler
-    cast-filler
-    element-copy-out-apply-sign
-    (λ c κs. search needs)
-    push-bit-requires
-    element-copy-out-apply-sign-2
-    (λ c κs. search needs)
-    push-bit-requires-2
-    (λ c. omega arith)
-    loop-again
-    returns)
+    (tie.spec Inv-loop μ-loop loop-holds (λ c. omega arith) element-copy-out-sign mul-place element-copy-out-place cast-place
+    mul-filler element-copy-out-filler cast-filler element-copy-out-apply-sign (λ c κs. search needs) push-bit-requires
+    element-copy-out-apply-sign-2 (λ c κs. search needs) push-bit-requires-2 (λ c. omega arith) loop-again returns)

@@ -91,12 +91,5 @@ returns c =
 pub settle-spec : {M : Type 1} → statement M
 settle-spec =
     tie.close
-    (tie.spec
-    list-restrictions-requires
-    decode-requires
-    list-atoms-requires
-    list-statements-requires
-    describe-types-requires
-    shl-eliminate
-    eliminate-requires
-    returns)
+    (tie.spec list-restrictions-requires decode-requires list-atoms-requires list-statements-requires describe-types-requires
+    shl-eliminate eliminate-requires returns)

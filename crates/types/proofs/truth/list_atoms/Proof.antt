@@ -130,17 +130,5 @@ returns c =
 pub list-atoms-spec : {M : Type 1} → statement M
 list-atoms-spec =
     tie.close
-    (tie.spec
-    Inv-loop
-    μ-loop
-    loop-holds
-    (λ c κs. omega arith)
-    (λ c κs. search needs)
-    cast-places
-    mul-places
-    array-write-places
-    add-found
-    add-i
-    (λ c. omega arith)
-    loop-again
-    returns)
+    (tie.spec Inv-loop μ-loop loop-holds (λ c κs. omega arith) (λ c κs. search needs) cast-places mul-places
+    array-write-places add-found add-i (λ c. omega arith) loop-again returns)

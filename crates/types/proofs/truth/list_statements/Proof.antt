@@ -71,17 +71,5 @@ returns c =
 pub list-statements-spec : {M : Type 1} → statement M
 list-statements-spec =
     tie.close
-    (tie.spec
-    Inv-loop
-    μ-loop
-    mark-chain-requires
-    loop-holds
-    array-read-if1
-    cast-statements
-    mul-statements
-    element-write-statements
-    add-found
-    add-i
-    (λ c. omega arith)
-    loop-again
-    returns)
+    (tie.spec Inv-loop μ-loop mark-chain-requires loop-holds array-read-if1 cast-statements mul-statements
+    element-write-statements add-found add-i (λ c. omega arith) loop-again returns)

@@ -106,16 +106,5 @@ returns c =
 pub set-atoms-spec : {M : Type 1} → statement M
 set-atoms-spec =
     tie.close
-    (tie.spec
-    Inv-loop
-    μ-loop
-    loop-holds
-    mul-at
-    element-copy-out-at
-    cast-at
-    shr-done
-    element-write-done
-    add-j
-    (λ c. omega arith)
-    loop-again
-    returns)
+    (tie.spec Inv-loop μ-loop loop-holds mul-at element-copy-out-at cast-at shr-done element-write-done add-j
+    (λ c. omega arith) loop-again returns)

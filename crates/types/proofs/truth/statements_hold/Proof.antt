@@ -67,16 +67,5 @@ returns-2 c =
 pub statements-hold-spec : {M : Type 1} → statement M
 statements-hold-spec =
     tie.close
-    (tie.spec
-    Inv-loop
-    μ-loop
-    loop-holds
-    mul-at
-    element-copy-out-at
-    cast-at
-    element-copy-out-if1
-    returns
-    add-j
-    (λ c. omega arith)
-    loop-again
-    returns-2)
+    (tie.spec Inv-loop μ-loop loop-holds mul-at element-copy-out-at cast-at element-copy-out-if1 returns add-j
+    (λ c. omega arith) loop-again returns-2)

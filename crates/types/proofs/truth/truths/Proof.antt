@@ -158,27 +158,7 @@ returns c =
 pub truths-spec : {M : Type 1} → statement M
 truths-spec =
     tie.close
-    (tie.spec
-    Inv-loop
-    μ-loop
-    set-atoms-requires
-    loop-holds
-    add-first
-    mul-first
-    element-copy-out-first
-    cast-first
-    (λ c. omega arith)
-    add-second
-    mul-second-2
-    element-copy-out-second
-    cast-second
-    mul-apply
-    element-copy-out-apply
-    element-copy-out-apply-2
-    element-copy-out-apply-3
-    (λ c κs. search needs)
-    element-write-done
-    add-i
-    (λ c. omega arith)
-    loop-again
-    returns)
+    (tie.spec Inv-loop μ-loop set-atoms-requires loop-holds add-first mul-first element-copy-out-first cast-first
+    (λ c. omega arith) add-second mul-second-2 element-copy-out-second cast-second mul-apply element-copy-out-apply
+    element-copy-out-apply-2 element-copy-out-apply-3 (λ c κs. search needs) element-write-done add-i (λ c. omega arith)
+    loop-again returns)

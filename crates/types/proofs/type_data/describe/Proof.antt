@@ -54,10 +54,4 @@ returns c =
 pub describe-spec : {M : Type 1} → statement M
 describe-spec =
     tie.close
-    (tie.spec
-    truths-requires
-    words-of-requires
-    statements-hold-requires
-    element-copy-out-t19
-    element-copy-out-t22
-    returns)
+    (tie.spec truths-requires words-of-requires statements-hold-requires element-copy-out-t19 element-copy-out-t22 returns)

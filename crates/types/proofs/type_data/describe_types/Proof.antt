@@ -140,19 +140,5 @@ returns c =
 pub describe-types-spec : {M : Type 1} → statement M
 describe-types-spec =
     tie.close
-    (tie.spec
-    Inv-loop
-    μ-loop
-    shl-size
-    loop-holds
-    describe-requires
-    element-write-alive
-    element-write-differs
-    mul-held
-    element-write-held
-    mul-filling
-    element-write-filling
-    add-t
-    (λ c. omega arith)
-    loop-again
-    returns)
+    (tie.spec Inv-loop μ-loop shl-size loop-holds describe-requires element-write-alive element-write-differs mul-held
+    element-write-held mul-filling element-write-filling add-t (λ c. omega arith) loop-again returns)

@@ -41,13 +41,4 @@ returns c =
 pub clear-words-spec : {M : Type 1} → statement M
 clear-words-spec =
     tie.close
-    (tie.spec
-    Inv-loop
-    μ-loop
-    loop-holds
-    mul-joins
-    element-write-joins
-    add-x
-    (λ c. omega arith)
-    loop-again
-    returns)
+    (tie.spec Inv-loop μ-loop loop-holds mul-joins element-write-joins add-x (λ c. omega arith) loop-again returns)

@@ -53,14 +53,4 @@ returns c = zeta-step-end _ _ _ _ _ (c .before .loop .inv .joined) (c .loop-test
 pub zeta-blocks-spec : {M : Type 1} → statement M
 zeta-blocks-spec =
     tie.close
-    (tie.spec
-    Inv-loop
-    μ-loop
-    (λ c. omega arith)
-    loop-holds
-    join-block-requires
-    mul-at
-    add-at
-    loop-less
-    loop-again
-    returns)
+    (tie.spec Inv-loop μ-loop (λ c. omega arith) loop-holds join-block-requires mul-at add-at loop-less loop-again returns)

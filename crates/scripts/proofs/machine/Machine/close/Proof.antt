@@ -82,19 +82,5 @@ returns-2 c =
 pub close-spec : {M : Type 1} → statement M
 close-spec =
     tie.close
-    (tie.spec
-    Inv-loop
-    μ-loop
-    loop-holds
-    (λ c. omega arith)
-    element-copy-out-closed
-    (λ c. omega arith)
-    has-next-requires
-    add-self
-    (λ c. omega arith)
-    element-write-self
-    returns
-    (λ c. omega arith)
-    (λ c. omega arith)
-    loop-again
-    returns-2)
+    (tie.spec Inv-loop μ-loop loop-holds (λ c. omega arith) element-copy-out-closed (λ c. omega arith) has-next-requires
+    add-self (λ c. omega arith) element-write-self returns (λ c. omega arith) (λ c. omega arith) loop-again returns-2)
