@@ -26,7 +26,7 @@ PositionExists v q e = e .position < length (columnAt v q (e .owner) (e .column)
 abbrev pub onPath : List (Literal SkolemTerm) → ℕ → Literal SkolemTerm
 onPath path f = getD path (length path - suc f) noLiteral
 
--- "C, M, Path" of Definition 10, where C is the column's open literals, in their order, and M the listed columns. Axiom: {} is
+-- C, M, Path of Definition 10, where C is the column's open literals, in their order, and M the listed columns. Axiom: {} is
 -- derived. Reduction: C ∪ {L₁}, where the complement of L₁ is on the path, from C. Extension: C ∪ {L₁}, where a column has
 -- the complement L₂ of L₁, from C₂ \ {L₂} with L₁ on the path, and from C.
 pub data Derivation (v : List ℕ) (q : Query) : List (Literal SkolemTerm) → List (Literal SkolemTerm) → Type 0 where

@@ -1,6 +1,6 @@
 -- "In an interpretation that satisfies the statements and denies the query, the functions and a can be chosen so that no column
--- holds anywhere." The function of "some role r to B" gives an element of B joined by r, that of "all role r to B" one joined by
--- r and not in B, if there is one.
+-- holds anywhere." The function of a record of kind 7 gives an element of B joined by its role, that of kind 8 one joined by it
+-- and not in B, if there is one: these are the Skolem functions.
 --   pick, pick-found, pick-keeps           the smallest number that passes a test, or else a given one
 --   Shows, witness, witness-shows          an element that shows what a restriction says of d, if there is one
 --   restriction-holds, restriction-gives   kinds 7 and 8 alike: what such an element tells, and when there is one

@@ -139,7 +139,7 @@ module _ (v : List ℕ) where
           let same : n ≡ types v = omega (arith, stage-falls n before) in
           same ∙ sym (least-end (types v) (rests v) (λ m h. ap not (before m (omega arith))))
 
--- "a set of types at which all statements hold and which serves each of its members"
+-- A "set of types at which all statements hold and which serves each of its members".
 pub record Serving (v : List ℕ) (S : List Bool) : Type 0 where
   pub small : (t : ℕ) → has S t ≡ true → t < types v
   pub fit : (t : ℕ) → has S t ≡ true → satisfies v t ≡ true
