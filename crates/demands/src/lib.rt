@@ -1,0 +1,1 @@
+// The library's calls, with the demands as their contracts.
