@@ -1,1 +1,3 @@
 -- The demands, proved.
+pub mod Rows
+pub mod Tables
