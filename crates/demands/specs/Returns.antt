@@ -2,7 +2,6 @@
 use Prim.Native.Nat.{ℕ, _*_}
 use mathlib.Core.Path.{_≡_}
 use mathlib.Core.List.{List, [], _++_}
-use mathlib.Core.Logic.{_⊎_}
 use lib.ListN.{length, take, drop}
 use Rattle.records.specs.Format.{count}
 use Rattle.records.specs.declared.answers.Counted.{Counted}
@@ -32,10 +31,10 @@ OffsetReturns v number (located.At at) = NoneApplies (recordTable v number) × (
 OffsetReturns v number (located.Refused n p) = Refuses (recordTable v number) n p
 
 -- "The record call hands back the eight bytes as part of the lent vocabulary; refused, an empty part."
-abbrev pub RecordReturns : List ℕ → ℕ → List ℕ → Type 0
-RecordReturns v number part =
-    (NoneApplies (recordTable v number) × (part ≡ take 8 (drop (8 * number) v)) × (length part ≡ 8))
-    ⊎ (((n : ℕ) × (p : ℕ) × Refuses (recordTable v number) n p) × (part ≡ []))
+pub data RecordReturns (v : List ℕ) (number : ℕ) (part : List ℕ) : Type 0 where
+  handed : NoneApplies (recordTable v number) → part ≡ take 8 (drop (8 * number) v) → length part ≡ 8
+      → RecordReturns v number part
+  empty : (n p : ℕ) → Refuses (recordTable v number) n p → part ≡ [] → RecordReturns v number part
 
 -- What goes with either answer of the comparison: "the number of survivors and of rounds that removed something", and the lent
 -- bytes after the call, the survivors in "the first 512 bytes .. ; later bytes keep their content".
