@@ -111,6 +111,7 @@ follows {rows} {value} {answer} tries h =
         let number : k ≡ n = cc in
         let place : l ≡ p = cc in
         cc
+
     passed : (x : _) (c : Check) → (c then accepted value) ≡ accepted x → (c ≡ pass) × (x ≡ value)
     passed x (accepted u) h =
         let same : accepted value ≡ accepted x = h in
