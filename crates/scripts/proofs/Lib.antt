@@ -1,9 +1,8 @@
--- Laws about the definitions of specs/, and what is proved of the calls: Samples (those of the paper); runs and derivations,
+-- Laws about the definitions of specs/, and what is proved of the script check: runs and derivations,
 -- each from the other (Played, Closing, Runs, Readings); what is derived is so (Sound); the machine's frames (Frames); what a
 -- record says (Lines), what a passed form tells (Formed), term records and their codes (Terms), literals as numbers (Numbers);
 -- two runs whose literals correspond (Matching), and those of the code and the paper (Used, Agreement); what holds of all
--- refusals (Refusals), their rows (Rowed) and bounds (Bounds).
-pub mod Samples
+-- refusals (Refusals), and their bounds (Bounds).
 pub mod Played
 pub mod Closing
 pub mod Runs
@@ -23,8 +22,5 @@ pub mod Used
 pub mod Agreement
 pub mod Outcomes
 pub mod Scripts
-pub mod Denials
 pub mod Refusals
-pub mod Rowed
-pub mod Demands
 pub mod Bounds
