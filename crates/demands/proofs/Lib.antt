@@ -5,4 +5,5 @@ pub mod Tables
 pub mod Denials
 pub mod Demands
 pub mod Returns
+pub mod Bounds
 pub mod Samples

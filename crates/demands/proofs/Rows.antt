@@ -52,7 +52,7 @@ unfolding rowsInTurn inTurn
 turns-are rows check zero i each = record { same = refl }
 turns-are rows check (suc n) i each = append-is (each i) (turns-are rows check n (suc i) each)
 
-none-passed : (rows : List Row) → NoneApplies rows → first rows ≡ pass
+pub none-passed : (rows : List Row) → NoneApplies rows → first rows ≡ pass
 none-passed [] h = refl
 none-passed (r ∷ rows) h = rw (h .0) (none-passed rows (h .1))
 
@@ -65,7 +65,7 @@ passed-none (r ∷ rows) e = at (r .applies) refl e (passed-none rows)
     at true q h more = absurd (clash (cc))
     at false q h more = (q, more h)
 
-refuses-first : (rows : List Row) (n p : ℕ) → Refuses rows n p → first rows ≡ refused n p
+pub refuses-first : (rows : List Row) (n p : ℕ) → Refuses rows n p → first rows ≡ refused n p
 refuses-first rows n p r =
     ap first (r .splits) ∙ first-then (r .before) (row n p true ∷ r .after) ∙ rw (none-passed (r .before) (r .clear))
 

@@ -82,7 +82,7 @@ module _ (v s : List ℕ) where
       (row-is (script.unusedFits e) 16 i
       (row-is (script.termFits v s i (lineOf e)) 17 i (last-is (script.lineFits v s i (lineOf e)) 18 i)))
 
-  form-is : Tries (formTable v s) (script.formCheck v s)
+  pub form-is : Tries (formTable v s) (script.formCheck v s)
   unfolding script.formCheck script.linkCheck
   form-is =
       let entered = turns-are (entryRows v s) (script.entryCheck v s) (entries s - 1) 1 entry-rows-are in
