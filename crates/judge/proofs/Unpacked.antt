@@ -15,12 +15,11 @@ use Rattle.records.specs.Format.{recordSize, recordLimit}
 use Rattle.records.specs.Outcome.{Outcome, accepted, refused}
 use Rattle.records.specs.Check.{vocabularyCheck}
 use Rattle.records.specs.Call.{recordCall}
-use Rattle.records.proofs.Bounds.{Small, vocabulary-small, record-small}
 use Rattle.records.proofs.Passed.{clash}
 use Rattle.types.specs.Compare.{Verdict, equal, different, comparison}
-use Rattle.types.proofs.Bounds.{SmallVerdict, most, comparison-small}
 use Rattle.scripts.specs.Run.{scriptCheck}
-use Rattle.scripts.proofs.Bounds.{mostPlace, script-small, query-below}
+use Rattle.demands.proofs.Bounds.{Small, SmallVerdict, vocabulary-small, record-small, most, comparison-small}
+use Rattle.demands.proofs.Bounds.{mostPlace, script-small, query-below}
 use Rattle.judge.specs.Packed.{numberOf, valueOf, packed, packedVerdict}
 
 pub record Unpacked (o : Outcome ℕ) : Type 0 where

@@ -1,8 +1,7 @@
--- Laws about the definitions of specs/, and what is proved of the script check: runs and derivations,
--- each from the other (Played, Closing, Runs, Readings); what is derived is so (Sound); the machine's frames (Frames); what a
--- record says (Lines), what a passed form tells (Formed), term records and their codes (Terms), literals as numbers (Numbers);
--- two runs whose literals correspond (Matching), and those of the code and the paper (Used, Agreement); what holds of all
--- refusals (Refusals), and their bounds (Bounds).
+-- Laws about the definitions of specs/, and what is proved of the script check: runs and derivations, each from the other (Played,
+-- Closing, Runs, Readings); what is derived is so (Sound); the machine's frames (Frames); what a record says (Lines), what a
+-- passed form tells (Formed), term records and their codes (Terms), literals as numbers (Numbers); two runs whose literals
+-- correspond (Matching), and those of the code and the paper (Used, Agreement); the script check (Scripts).
 pub mod Played
 pub mod Closing
 pub mod Runs
@@ -22,5 +21,3 @@ pub mod Used
 pub mod Agreement
 pub mod Outcomes
 pub mod Scripts
-pub mod Refusals
-pub mod Bounds

@@ -14,7 +14,6 @@ pub mod Filed
 pub mod Written
 pub mod Verdicts
 pub mod Comparison
-pub mod Bounds
 pub mod Width
 pub mod Restrictions
 pub mod Signed
