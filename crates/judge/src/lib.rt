@@ -26,7 +26,7 @@ fn pack(number: u8, value: usize) -> u64
 pub extern "C" fn judge_check_vocabulary(vocabulary: &[u8]) -> u64
     ensures { λ r. ⌜ r ≡ packed (vocabularyCheck (now (vocabulary .entry))) ⌝ }
 {
-    let answer = records::check_vocabulary(vocabulary);
+    let answer = demands::check_vocabulary(vocabulary);
     match answer {
         Counted::Records(count) => pack(0, count),
         Counted::Refused { number, place } => pack(number, place),
@@ -37,7 +37,7 @@ pub extern "C" fn judge_check_vocabulary(vocabulary: &[u8]) -> u64
 pub extern "C" fn judge_record(vocabulary: &[u8], number: u32) -> u64
     ensures { λ r. ⌜ r ≡ packed (recordCall (now (vocabulary .entry)) number) ⌝ }
 {
-    let answer = records::find_record(vocabulary, number);
+    let answer = demands::find_record(vocabulary, number);
     match answer {
         Located::At(offset) => pack(0, offset),
         Located::Refused { number: row, place } => pack(row, place),
@@ -70,7 +70,7 @@ pub extern "C" fn judge_compare(vocabulary: &[u8], a: u32, b: u32, buffer: &mut 
         ≡ written (comparison (now (vocabulary .entry)) a b (length (now (buffer .entry))))
         (now (vocabulary .entry)) (now (buffer .entry)) ⌝ }
 {
-    let answer = types::compare(vocabulary, a, b, buffer);
+    let answer = demands::compare(vocabulary, a, b, buffer);
     match answer {
         Compared::Equal { survivors, rounds } => pack_verdict(false, 0, survivors, rounds),
         Compared::Different {
@@ -86,7 +86,7 @@ pub extern "C" fn judge_compare(vocabulary: &[u8], a: u32, b: u32, buffer: &mut 
 pub extern "C" fn judge_check_script(vocabulary: &[u8], script: &[u8]) -> u64
     ensures { λ r. ⌜ r ≡ packed (scriptCheck (now (vocabulary .entry)) (now (script .entry))) ⌝ }
 {
-    let answer = scripts::check_script(vocabulary, script);
+    let answer = demands::check_script(vocabulary, script);
     match answer {
         Judged::Accepted(steps) => pack(0, steps),
         Judged::Refused { number, place } => pack(number, place),

@@ -8,5 +8,4 @@ mod Agreement
 pub mod Frames
 pub mod Stepping
 pub mod Starting
-pub mod Refusals
 pub mod Outcomes

@@ -5,9 +5,4 @@ mod Steps
 mod Runs
 mod Derivations
 mod Soundness
-mod Scripts
-pub mod Bounds
-mod Samples
-mod Denials
-mod Rowed
-mod Demands
+pub mod Scripts

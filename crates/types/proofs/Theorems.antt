@@ -7,4 +7,3 @@ mod CanonicalModel
 mod ReadBack
 pub mod Verdicts
 pub mod Comparison
-pub mod Bounds

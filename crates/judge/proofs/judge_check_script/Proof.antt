@@ -6,11 +6,10 @@ use native.Mathlib.Omega.{arith}
 use mathlib.Core.Path.{_≡_, _∙_, ap, sym, subst}
 use denote.Ref.{now}
 use borrow.Author.Needs.{needs}
-use Rattle.records.proofs.Theorems.Bounds.{Small}
 use Rattle.scripts.specs.Format.{queryOf}
 use Rattle.scripts.specs.Answers.{judged}
 use Rattle.scripts.specs.declared.answers.Judged.{Judged}
-use Rattle.scripts.proofs.Theorems.Bounds.{mostPlace, script-small, query-below}
+use Rattle.demands.proofs.Bounds.{Small, mostPlace, script-small, query-below}
 use Rattle.judge.proofs.judge_check_script.Statement.{statement}
 use Rattle.judge.proofs.judge_check_script.Tie as tie
 
@@ -19,7 +18,7 @@ small : (c : tie.After-check-script) (o : Judged) → c .check-script .result �
     → Small (mostPlace (now (c .before .before .before .args .script))) (judged o)
 small c o e =
     let a = c .before .before .before .args in
-    subst (Small _) (sym (c .check-script .ensures) ∙ ap judged e) (script-small (now (a .vocabulary)) (now (a .script)))
+    subst (Small _) (sym (c .check-script .ensures .0) ∙ ap judged e) (script-small (now (a .vocabulary)) (now (a .script)))
 
 -- a place is at most a number of the query, and that has 16 bits
 query : (c : tie.After-check-script) → let s = now (c .before .before .before .args .script) in
@@ -37,13 +36,20 @@ pack-requires-2 c κs =
     omega (arith, query k .0, query k .1, small k _ (c .before .answer2 .given .1))
 
 returns : tie.Need-returns
-returns c = rw (← c .before .before .before .before .check-script .ensures, c .before .before .answer .given .1) (omega arith)
+returns c = rw (← c .before .before .before .before .check-script .ensures .0, c .before .before .answer .given .1) (omega arith)
 
 returns-2 : tie.Need-returns-2
 returns-2 c =
-    rw (← c .before .before .before .before .check-script .ensures, c .before .before .answer2 .given .1) (c .pack2 .ensures)
+    rw (← c .before .before .before .before .check-script .ensures .0, c .before .before .answer2 .given .1) (c .pack2 .ensures)
 
 pub judge-check-script-spec : {M : Type 1} → statement M
 judge-check-script-spec =
     tie.close
-    (tie.spec (λ c κs. search needs) (λ c. search needs) pack-requires (λ c. search needs) pack-requires-2 returns returns-2)
+    (tie.spec
+    (λ c κs. search needs)
+    (λ c. search needs)
+    pack-requires
+    (λ c. search needs)
+    pack-requires-2
+    returns
+    returns-2)

@@ -6,7 +6,7 @@ use mathlib.Core.Path.{_≡_, sym, ap, _∙_, subst}
 use lib.ListN.{length}
 use borrow.Author.Needs.{needs}
 use denote.Ref.{now}
-use Rattle.types.proofs.Theorems.Bounds.{SmallVerdict, most, comparison-small}
+use Rattle.demands.proofs.Bounds.{SmallVerdict, most, comparison-small}
 use Rattle.types.specs.Answers.{compared}
 use Rattle.types.specs.Comparison.{comparison}
 use Rattle.types.specs.declared.answers.Compared.{Compared}
@@ -47,20 +47,32 @@ packed-answer c o n e p = p ∙ ap packedVerdict (sym (ap compared e) ∙ c .com
 returns : tie.Need-returns
 returns c =
     let k = c .before .before .before .before .before .before in
-    (packed-answer k _ _ (c .before .before .answer .given .1) (c .pack-verdict .ensures), k .compare .ensures .1)
+    (packed-answer k _ _ (c .before .before .answer .given .1) (c .pack-verdict .ensures), k .compare .ensures .1 .0)
 
 returns-2 : tie.Need-returns-2
 returns-2 c =
     let k = c .before .before .before .before .before .before in
-    (packed-answer k _ _ (c .before .before .answer2 .given .1) (c .pack-verdict2 .ensures), k .compare .ensures .1)
+    (packed-answer k _ _ (c .before .before .answer2 .given .1) (c .pack-verdict2 .ensures), k .compare .ensures .1 .0)
 
 returns-3 : tie.Need-returns-3
 returns-3 c =
     let k = c .before .before .before .before .before .before in
-    (packed-answer k _ _ (c .before .before .answer3 .given .1) (c .pack .ensures), k .compare .ensures .1)
+    (packed-answer k _ _ (c .before .before .answer3 .given .1) (c .pack .ensures), k .compare .ensures .1 .0)
 
 pub judge-compare-spec : {M : Type 1} → statement M
 judge-compare-spec =
     tie.close
-    (tie.spec (λ c κs. search needs) (λ c. search needs) pack-verdict-requires (λ c. search needs) pack-verdict-requires-2
-    (λ c. search needs) pack-requires (λ c. search needs) returns (λ c. search needs) returns-2 (λ c. search needs) returns-3)
+    (tie.spec
+    (λ c κs. search needs)
+    (λ c. search needs)
+    pack-verdict-requires
+    (λ c. search needs)
+    pack-verdict-requires-2
+    (λ c. search needs)
+    pack-requires
+    (λ c. search needs)
+    returns
+    (λ c. search needs)
+    returns-2
+    (λ c. search needs)
+    returns-3)

@@ -1,6 +1,6 @@
 -- The walk along the chain of steps.
 --   standing, reached, step-ahead    where a walk stands, by the links
---   chain-at, chain-end, chain-few   the chain from a step, from 0, and its length
+--   chain-at, chain-end   the chain from a step, and from 0
 --   next-reached, walk-falls         the next step; what is left of the walk falls
 --   Walk, walk-start, walk-next      what was run and what is left is the run
 --   walk-refused, walk-done          the answer at a refusal, and at the end
@@ -17,7 +17,7 @@ use Rattle.records.specs.Outcome.{Outcome, Check, accepted, refused, pass, _the
 use Rattle.records.specs.Answers.{checked}
 use Rattle.records.specs.declared.answers.Checked.{Checked}
 use Rattle.records.specs.declared.answers.Checked.the-variants.{Refused}
-use Rattle.records.proofs.Theorems.Following.{Onward, follow-nil, follow-step, follow-few, left, left-falls}
+use Rattle.records.proofs.Theorems.Following.{Onward, follow-nil, follow-step, left, left-falls}
 use Rattle.scripts.specs.Format.{entryLimit, entries, recordStep, nextStep, chainFrom}
 use Rattle.records.specs.Finite.{isNil}
 use Rattle.scripts.specs.Run.{Frames, stepCheck, stepped, run}
@@ -25,7 +25,7 @@ use Rattle.scripts.specs.Code.Machine.{framesFrom}
 use Rattle.scripts.specs.Code.Numbered.{numbered}
 use Rattle.scripts.specs.Code.Tested.{stepsAfter, runAfter}
 use Rattle.scripts.specs.Code.Ready.{IsStep, Reached}
-use Rattle.scripts.proofs.Theorems.Form.{KeepsForm, IsStepAt, OnChain}
+use Rattle.scripts.proofs.Theorems.Form.{KeepsForm, IsStepAt, OnChain, chain-few}
 
 pub standing : (s : List ℕ) (i : ℕ) → Reached s i → (i ≡ 0 → ⊥) → IsStep s i
 standing s i (inl e) n = absurd (n e)
@@ -40,9 +40,6 @@ step-ahead s i t = record { later = t .positive; within = t .within; target = t 
 
 pub chain-end : (s : List ℕ) → chainFrom s 0 ≡ []
 chain-end s = follow-nil (nextStep s) (entries s)
-
-pub chain-few : (s : List ℕ) (i : ℕ) → length (chainFrom s i) ≤ entries s
-chain-few s i = follow-few (nextStep s) (entries s) i
 
 -- The run's outcome from a state: the steps made so far, and those that are left.
 abbrev outcome : List ℕ → List ℕ → Frames ℕ → ℕ → ℕ → ℕ → Outcome ℕ

@@ -22,8 +22,8 @@ use Rattle.columns.specs.Literals.{SkolemTerm, Literal, complement}
 use Rattle.columns.specs.Columns.{Query}
 use Rattle.scripts.specs.Format.{queryOf}
 use Rattle.scripts.specs.Steps.{Extension, Step, start, extension, reduction}
-use Rattle.scripts.specs.Calculus.{connectedLiteral, remainder, PositionExists, onPath, Derivation, ended, reduced, extended, steps, height}
-use Rattle.scripts.specs.Calculus.{frameLimit, startColumn, Derives}
+use Rattle.scripts.specs.Calculus.{connectedLiteral, remainder, PositionExists, onPath, Derivation, ended, reduced}
+use Rattle.scripts.specs.Calculus.{extended, steps, height, frameLimit, startColumn, Derives}
 use Rattle.scripts.specs.Run.{close, extendBy, stepped, chainCheck, writtenOut, stepAt}
 use Rattle.scripts.proofs.Theorems.Tests.{passes, succeeds, chainSucceeds, chain-succeeds}
 use Rattle.scripts.proofs.Theorems.Steps.{Literals, OpenFrames, Steps, goals, room, room-under, close-goal}

@@ -6,6 +6,7 @@
 --   link-onward, next-onward                 row 19: a link, and a step's next, lead onward
 --   keeps-form                               what a passed form tells of a script
 --   step-listed, line-step, step-fits        row 18: a step uses what is listed; at a record; at a record of the chain
+--   chain-few   the length of the chain
 --   OnChain, chain-ahead                     the chain has steps alone
 --   steps-listed, chain-listed               each of these uses what is listed
 -- Assumes nothing.
@@ -22,7 +23,7 @@ use Rattle.records.specs.Outcome.{pass, _then_, require, inTurn}
 use Rattle.records.specs.Format.{recordAt, count}
 use Rattle.records.specs.Kinds.{isTerm}
 use Rattle.records.proofs.Laws.Passed.{both-left, both-right, require-passed, then-passed, turn-at}
-use Rattle.records.proofs.Theorems.Following.{Ahead, Onward, follow-target}
+use Rattle.records.proofs.Theorems.Following.{Ahead, Onward, follow-few, follow-target}
 use Rattle.records.proofs.Theorems.Accepted.{All}
 use Rattle.records.proofs.Theorems.Chains.{all-occurring}
 use Rattle.types.specs.Comparison.{termCheck}
@@ -30,7 +31,7 @@ use Rattle.records.proofs.Laws.Tests.{implies-rest}
 use Rattle.columns.specs.Columns.{columnAt, takesY}
 use Rattle.scripts.specs.Steps.{Step, start, extension, reduction, stepBy}
 use Rattle.scripts.specs.Format.{entrySize, entryLimit, entryAt, entries, queryOf, firstStep, Line, blank, named, applied}
-use Rattle.scripts.specs.Format.{step, lineOf, lineAt, isStep, stepOf, recordStep, nextStep, chain, termAt}
+use Rattle.scripts.specs.Format.{step, lineOf, lineAt, isStep, stepOf, recordStep, nextStep, chainFrom, chain, termAt}
 use Rattle.scripts.specs.Form.{lengthFits, lengthCheck, headerFits, headerCheck, queryCheck, kindFits, unusedFits}
 use Rattle.scripts.specs.Form.{termFits, stepFits, lineFits, xFits, yFits, rowsCheck, entryCheck, entriesCheck, linkFits}
 use Rattle.scripts.specs.Form.{nextFits, linkCheck, linksCheck, formCheck}
@@ -38,6 +39,10 @@ use Rattle.records.specs.Finite.{allZero}
 use Rattle.scripts.specs.Run.{stepAt}
 use Rattle.scripts.proofs.Theorems.Derivations.{StepListed, AllListed}
 use Rattle.scripts.specs.declared.entry.Entry.{Entry}
+
+-- The chain has no more steps than there are records.
+pub chain-few : (s : List ℕ) (i : ℕ) → length (chainFrom s i) ≤ entries s
+chain-few s i = follow-few (nextStep s) (entries s) i
 
 -- Row 13 passed: 16 to 32,768 bytes, a multiple of 16.
 pub record Sized (s : List ℕ) : Type 0 where

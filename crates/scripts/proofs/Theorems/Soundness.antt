@@ -29,7 +29,8 @@ use Rattle.columns.proofs.Theorems.Instances.{instance-false}
 use Rattle.columns.proofs.Theorems.Skolem.{none-holds}
 use Rattle.scripts.specs.Steps.{Extension, Step}
 use Rattle.records.specs.Finite.{without}
-use Rattle.scripts.specs.Calculus.{usedColumn, connectedLiteral, remainder, PositionExists, onPath, Derivation, ended, reduced, extended, Derives}
+use Rattle.scripts.specs.Calculus.{usedColumn, connectedLiteral, remainder, PositionExists, onPath, Derivation, ended}
+use Rattle.scripts.specs.Calculus.{reduced, extended, Derives}
 use Rattle.scripts.proofs.Theorems.Steps.{Literals}
 
 listed-column : (l : List Column) (n p : ℕ) → p < length (getD l n []) → n < length l

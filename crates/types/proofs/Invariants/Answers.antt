@@ -22,7 +22,8 @@ use Rattle.records.specs.Finite.{digit, least, table, has, members, countBelow,
 use Rattle.records.proofs.Laws.Bits.{digit-small, number-cong}
 use Rattle.types.specs.Types.{types}
 use Rattle.types.specs.Survivors.{survivors, rounds}
-use Rattle.types.specs.Comparison.{Verdict, distinguishes, firstDistinguishing, verdictWith, verdict, atomLimit, bitmapBytes}
+use Rattle.types.specs.Comparison.{Verdict, distinguishes, firstDistinguishing, verdictWith, verdict, atomLimit}
+use Rattle.types.specs.Comparison.{bitmapBytes}
 use Rattle.types.specs.Bitmap.{byteOf, bitmap}
 use Rattle.types.specs.Code.Words.{SameSet}
 use Rattle.types.specs.Code.Settling.{Differs, cleared}

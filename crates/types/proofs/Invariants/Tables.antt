@@ -2,7 +2,6 @@
 --   Filled, fill-start, fill-turn                 a table filled in order
 --   RightAt, right-turn, right-kept               a part of a table filled in order
 --   zeros                                         a table of nothing but zeros
---   types-bound                                   few atoms have few types
 --   Ends, ends-turn, ends-empty                   a set that has nothing from there on
 --   all-holds-turn                                a test of all, one number further
 --   word-start, word-turn, word-end, word-bound   a word built from its top bit
@@ -17,9 +16,7 @@ use mathlib.Core.List.{List}
 use lib.ListN.{length, getD, set, replicate, length-set}
 use lib.Pow.{pow-mono}
 use lib.Seq.{getD-set-same, getD-set-other}
-use Rattle.records.specs.Atoms.{atoms}
 use Rattle.records.specs.Finite.{digit, allBelow, number}
-use Rattle.types.specs.Types.{types}
 use Rattle.records.proofs.Laws.Bits.{number-step, number-small, number-cong}
 use Rattle.types.specs.Comparison.{atomLimit, typeLimit}
 
@@ -63,10 +60,6 @@ module _ {A : Type 0} (d : A) (l : List A) (at : ℕ → ℕ) (f : ℕ → A) (i
 
   pub right-kept : (p : ℕ) (x : A) → ((j : ℕ) → j < i → at j ≡ p → ⊥) → RightAt d (set l p x) at f i
   right-kept p x other j k = getD-set-other l p (at j) x d (other j k) ∙ right j k
-
--- Few atoms have few types.
-pub types-bound : (v : List ℕ) → atoms v ≤ atomLimit → types v ≤ typeLimit
-types-bound v h = pow-mono {j = atomLimit} h
 
 -- A set that has nothing from i on.
 abbrev pub Ends : List Bool → ℕ → Type 0

@@ -28,7 +28,8 @@ use Rattle.records.proofs.Theorems.Accepted.{Accepted, accepted-vocabulary}
 use Rattle.types.specs.Types.{types, served}
 use Rattle.types.specs.Survivors.{satisfies, round, removes, stage, rounds, survivors}
 use Rattle.types.specs.Comparison.{atomLimit, typeLimit}
-use Rattle.types.specs.Code.Words.{width, otherRoleWord, fillerWord, reached, presentWord, zeta, roleServed, Roles, FillerWords, SameSet}
+use Rattle.types.specs.Code.Words.{width, otherRoleWord, fillerWord, reached, presentWord, zeta, roleServed, Roles}
+use Rattle.types.specs.Code.Words.{FillerWords, SameSet}
 use Rattle.types.specs.Code.Elimination.{otherRole, Enters, ZetaTo, Joins, metAt, Keeps, Eliminating, AfterRound}
 use Rattle.records.proofs.Laws.Tests.{same-truth, both-true, unless-false}
 use Rattle.records.proofs.Laws.Sets.{Within, table-at, table-past, table-cong}

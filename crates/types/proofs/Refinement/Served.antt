@@ -26,8 +26,8 @@ use Rattle.records.proofs.Laws.Width.{bit-ones}
 use Rattle.types.proofs.Refinement.Restrictions.{restriction-sound, restrictions-intro, restrictions-at}
 use Rattle.types.proofs.Refinement.Signed.{gives, met-plain, met-signed, role-below}
 use Rattle.types.proofs.Refinement.Allowed.{allowed-inside, inside-allowed}
-use Rattle.types.proofs.Refinement.Words.{Fills, restrictionWord-bit, fillerWord-bit, otherRoleWord-bit, otherRoleWord-small, reached-small}
-use Rattle.types.proofs.Refinement.Words.{joins-intro, joins-elim, joins-small}
+use Rattle.types.proofs.Refinement.Words.{Fills, restrictionWord-bit, fillerWord-bit, otherRoleWord-bit}
+use Rattle.types.proofs.Refinement.Words.{otherRoleWord-small, reached-small, joins-intro, joins-elim, joins-small}
 
 -- joined or other, held or other: the same, if they are where the restriction is no other's
 agree : (c o d : Bool) → (c ≡ true → (d || o) ≡ true) → (o ≡ false → d ≡ true → c ≡ true) → (c || o) ≡ (d || o)

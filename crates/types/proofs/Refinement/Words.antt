@@ -16,7 +16,8 @@ use Rattle.records.specs.Finite.{anyBelow, has, bit}
 use Rattle.records.proofs.Laws.Passed.{clash, both-left, both-right}
 use Rattle.records.proofs.Laws.Search.{any-intro, any-elim}
 use Rattle.types.specs.Types.{types}
-use Rattle.types.specs.Code.Words.{width, restriction, restrictionWord, fillerWord, otherRoleWord, presentWord, joins, reached}
+use Rattle.types.specs.Code.Words.{width, restriction, restrictionWord, fillerWord, otherRoleWord, presentWord, joins}
+use Rattle.types.specs.Code.Words.{reached}
 use Rattle.records.proofs.Laws.Bits.{bit-number, number-small, bit-or}
 use Rattle.records.proofs.Laws.Width.{bit-past, bit-zero}
 use Rattle.types.proofs.Refinement.Signed.{wants, gives, apart}

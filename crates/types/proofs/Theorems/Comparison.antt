@@ -24,8 +24,8 @@ use Rattle.records.proofs.Laws.Sets.{members-zero}
 use Rattle.types.proofs.Theorems.Survivors.{rounds-bound}
 use Rattle.types.proofs.Theorems.ReadBack.{readBack-canonical, read-model}
 use Rattle.types.proofs.Theorems.Verdicts.{Answered, answered, Decided, same, apart, decided, named-first}
-use Rattle.types.proofs.Theorems.Verdicts.{distinguishes-survivor, distinguishes-differ, indistinct-same, indistinct-equal, distinguishes-shown}
-use Rattle.types.proofs.Theorems.Verdicts.{distinguishes-unequal}
+use Rattle.types.proofs.Theorems.Verdicts.{distinguishes-survivor, distinguishes-differ, indistinct-same}
+use Rattle.types.proofs.Theorems.Verdicts.{indistinct-equal, distinguishes-shown, distinguishes-unequal}
 
 -- The counts that go with either answer.
 abbrev pub Counts : List ℕ → Verdict → Type 0

@@ -28,7 +28,8 @@ use Rattle.types.specs.Survivors.{satisfies, stage, rounds, survivors}
 use Rattle.records.proofs.Laws.Tests.{both-true, either-true, implies-true, unless-true}
 use Rattle.records.proofs.Laws.Below.{all-intro, least-is}
 use Rattle.records.proofs.Laws.Bits.{bit-number, number-small}
-use Rattle.types.proofs.Theorems.Truth.{evaluate-cong, truth-eq, belongs-eq, belongs-atom, belongs-statement, atom-within}
+use Rattle.types.proofs.Theorems.Truth.{evaluate-cong, truth-eq, belongs-eq, belongs-atom, belongs-statement}
+use Rattle.types.proofs.Theorems.Truth.{atom-within}
 use Rattle.types.proofs.Theorems.Witnesses.{Pair, some-holds, some-gives, all-gives, all-misses, witness-holds}
 use Rattle.types.proofs.Theorems.Survivors.{table-has, stage-keeps}
 

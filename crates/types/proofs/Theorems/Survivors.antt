@@ -1,4 +1,5 @@
 -- The survivors are the largest set of types at which all statements hold and which serves each of its members.
+--   types-bound                            few atoms have few types
 --   has-table, table-has                   the members of a set given by a test
 --   stage-keeps                            what rounds keep holds of every stage
 --   served-more                            a greater set serves more
@@ -16,17 +17,24 @@ use mathlib.Core.Bool.{Bool, true, false, not, _&&_}
 use mathlib.Core.List.{List}
 use lib.ListN.{length}
 use borrow.Author.Tests.{not-true, not-false}
+use lib.Pow.{pow-mono}
 use Rattle.records.specs.Format.{count}
+use Rattle.records.specs.Atoms.{atoms}
 use Rattle.records.proofs.Laws.Passed.{clash, both-left, both-right, any-at}
 use Rattle.records.proofs.Laws.Search.{any-elim, any-none}
 use Rattle.records.specs.Finite.{table, has, members, least}
 use Rattle.types.specs.Meaning.{Restriction, some, all, plain, restrictionAt}
 use Rattle.types.specs.Types.{types, truth, witnessed, met, served}
 use Rattle.types.specs.Survivors.{satisfies, round, removes, stage, rounds, survivors}
+use Rattle.types.specs.Comparison.{atomLimit, typeLimit}
 use Rattle.types.proofs.Theorems.Witnesses.{witness-holds, witness-gives}
 use Rattle.records.proofs.Laws.Tests.{both-true, both-rest, either-true, either-rest, implies-true, implies-rest}
 use Rattle.records.proofs.Laws.Below.{all-intro, all-at, least-bound, least-holds, least-before, least-is, least-end}
 use Rattle.records.proofs.Laws.Sets.{length-table, table-at, table-past, Within, members-bound, members-less, members-zero}
+
+-- Few atoms have few types.
+pub types-bound : (v : List ℕ) → atoms v ≤ atomLimit → types v ≤ typeLimit
+types-bound v h = pow-mono {j = atomLimit} h
 
 -- The members of a set given by a test.
 pub has-table : (n : ℕ) (test : ℕ → Bool) (t : ℕ) → has (table n test) t ≡ true → (t < n) × (test t ≡ true)

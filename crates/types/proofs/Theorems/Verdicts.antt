@@ -25,8 +25,8 @@ use Rattle.records.specs.Finite.{has, members}
 use Rattle.types.specs.Meaning.{Interpretation, Element, belongs, Model, AlwaysEqual}
 use Rattle.types.specs.Types.{types, truth}
 use Rattle.types.specs.Survivors.{rounds, survivors}
-use Rattle.types.specs.Comparison.{Verdict, equal, different, distinguishes, firstDistinguishing, verdictWith, verdict, atomLimit}
-use Rattle.types.specs.Comparison.{bitmapBytes, termCheck, atomsCheck, lentCheck, queryCheck, comparison}
+use Rattle.types.specs.Comparison.{Verdict, equal, different, distinguishes, firstDistinguishing, verdictWith, verdict}
+use Rattle.types.specs.Comparison.{atomLimit, bitmapBytes, termCheck, atomsCheck, lentCheck, queryCheck, comparison}
 use Rattle.types.specs.Bitmap.{bitmap, readBack}
 use Rattle.records.proofs.Laws.Tests.{both-rest}
 use Rattle.records.proofs.Laws.Below.{least-holds, least-before}

@@ -17,7 +17,8 @@ use Rattle.types.specs.Types.{types, truth}
 use Rattle.types.specs.Survivors.{satisfies, stage, rounds, survivors}
 use Rattle.types.specs.Comparison.{atomLimit, typeLimit}
 use Rattle.types.specs.Code.Rules.{Decoded, AtomsListed}
-use Rattle.types.specs.Code.Words.{width, restriction, signed, negated, restrictionWord, fillerWord, Roles, RestrictionWords, FillerWords, SameSet}
+use Rattle.types.specs.Code.Words.{width, restriction, signed, negated, restrictionWord, fillerWord, Roles}
+use Rattle.types.specs.Code.Words.{RestrictionWords, FillerWords, SameSet}
 
 -- The restrictions, and of each its filler, its role and whether it is negated.
 pub record RestrictionsListed (v : List ℕ) (r : Restrictions) : Type 0 where

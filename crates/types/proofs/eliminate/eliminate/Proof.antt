@@ -14,7 +14,7 @@ use Rattle.types.specs.Types.{types}
 use Rattle.types.specs.Comparison.{typeLimit}
 use Rattle.types.specs.Code.Elimination.{Eliminating}
 use Rattle.types.proofs.Refinement.Rounds.{stage-ends, eliminating-on, AtStage, rests-survivors, stage-on, rounds-left}
-use Rattle.types.proofs.Invariants.Tables.{types-bound}
+use Rattle.types.proofs.Theorems.Survivors.{types-bound}
 use Rattle.types.proofs.eliminate.eliminate.Statement.{statement}
 use Rattle.types.proofs.eliminate.eliminate.Tie as tie
 

@@ -11,7 +11,8 @@ use Rattle.records.proofs.Laws.Passed.{clash}
 use borrow.Author.Tests.{not-true, not-false}
 use Rattle.types.specs.Comparison.{typeLimit}
 use Rattle.types.specs.Code.Elimination.{metAt}
-use Rattle.types.proofs.Invariants.Elimination.{keeps-within, RemovedBelow, remove-start, remove-out, remove-kept, remove-end}
+use Rattle.types.proofs.Invariants.Elimination.{keeps-within, RemovedBelow, remove-start, remove-out, remove-kept}
+use Rattle.types.proofs.Invariants.Elimination.{remove-end}
 use Rattle.types.proofs.eliminate.remove_unmet.Statement.{statement}
 use Rattle.types.proofs.eliminate.remove_unmet.Tie as tie
 

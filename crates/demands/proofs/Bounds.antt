@@ -1,0 +1,256 @@
+-- Bounds on what the calls answer, from their tables: what a caller needs to pack an answer into a word.
+--   Near, Small, SmallVerdict                         a refusal, and an answer, whose numbers are small
+--   Bounded, bounded-append, bounded-turns            each row that is reached is near; of more rows, and of rows in turn
+--   refusal-near, small                               so a refusal is near, and with a small value the answer small
+--   vocabulary-small, record-small                    the count or place is at most 512; the offset or place 4,096 or the number
+--   most, comparison-small                            the verdict's numbers are at most 2^12
+--   mostPlace, script-small, query-below              the steps or place are at most 2,048, or a number of the query, of 16 bits
+-- Assumes nothing.
+use Prim.Native.Nat.{ℕ, zero, suc, _+_, _-_, _*_, _≤_, _<_, max}
+use native.Mathlib.Omega.{arith}
+use mathlib.Core.Path.{_≡_, refl, sym, subst, _∙_}
+use mathlib.Core.Bool.{Bool, true, false, not}
+use mathlib.Core.List.{List, [], _∷_, _++_}
+use lib.ListN.{length, getD, drop}
+use lib.Seq.{getD-take, getD-drop}
+use lib.Dec.{ltb}
+use borrow.Author.Tests.{ltb-true}
+use Rattle.records.specs.Outcome.{Outcome, Check, accepted, refused, pass, _then_, require}
+use Rattle.records.specs.Format.{recordSize, recordLimit, count}
+use Rattle.records.specs.Check.{lengthFits, vocabularyCheck}
+use Rattle.records.specs.Call.{recordCall}
+use Rattle.records.specs.Atoms.{atoms}
+use Rattle.records.proofs.Laws.Passed.{clash, Sized, require-passed, length-passed}
+use Rattle.records.proofs.Theorems.Accepted.{All}
+use Rattle.records.proofs.Theorems.Ranks.{rank-bound}
+use Rattle.records.specs.Finite.{members}
+use Rattle.types.specs.Types.{types}
+use Rattle.types.specs.Survivors.{rounds, survivors}
+use Rattle.types.specs.Comparison.{Verdict, equal, different, typeLimit, comparison}
+use Rattle.records.proofs.Laws.Sets.{members-bound}
+use Rattle.types.proofs.Theorems.Survivors.{types-bound, stage-length, survivors-serving}
+use Rattle.types.proofs.Theorems.Verdicts.{answered}
+use Rattle.types.proofs.Theorems.Comparison.{counts, different-first}
+use Rattle.scripts.specs.Format.{entrySize, entryLimit, partAt, entryAt, entries, queryOf, firstStep, chain}
+use Rattle.scripts.specs.Form as script
+use Rattle.scripts.specs.Run.{scriptCheck}
+use Rattle.scripts.proofs.Theorems.Form.{OnChain, length-sized, keeps-form, chain-ahead, chain-few}
+use Rattle.demands.specs.Table.{Row, rowsInTurn, recordRows, vocabularyTable, comparisonTable, entryRows, formTable}
+use Rattle.demands.specs.Table.{OpenFrames, framesAfter, stepRows, laterRows, chainTable, NoneApplies, Refuses, Follows}
+use Rattle.demands.proofs.Rows.{first, none-passed, refuses-first}
+use Rattle.demands.proofs.Tables.{form-is, vocabulary-follows, record-follows, comparison-follows, script-follows}
+
+-- A refusal's number is not 0 and fits a byte, and its place is at most m.
+abbrev pub Near : ℕ → ℕ → ℕ → Type 0
+Near m n p = (0 < n) × (n < 256) × (p ≤ m)
+
+-- An outcome whose value is at most m, or whose refusal is near.
+abbrev pub Small : ℕ → Outcome ℕ → Type 0
+Small m (accepted x) = x ≤ m
+Small m (refused n p) = Near m n p
+
+-- A verdict whose numbers are at most 2^12, or a refusal that is near.
+abbrev pub SmallVerdict : ℕ → Outcome Verdict → Type 0
+SmallVerdict m (accepted (equal s n)) = (s ≤ typeLimit) × (n ≤ typeLimit)
+SmallVerdict m (accepted (different t s n)) = (t < typeLimit) × (s ≤ typeLimit) × (n ≤ typeLimit)
+SmallVerdict m (refused n p) = Near m n p
+
+-- Each row is near, if it is reached.
+abbrev Bounded : ℕ → List Row → Type 0
+Bounded m [] = Unit {0}
+Bounded m (r ∷ rows) = Near m (r .number) (r .place) × (r .applies ≡ false → Bounded m rows)
+
+-- what was not refused
+fits : (b : Bool) (n p : ℕ) → not b ≡ false → require b n p ≡ pass
+fits true n p e = refl
+fits false n p e = absurd (clash (cc))
+
+-- row 1
+measured : (v : List ℕ) → not (lengthFits v) ≡ false → Sized v
+measured v q = length-passed v (fits (lengthFits v) 1 0 q)
+
+none-right : (xs ys : List Row) → NoneApplies (xs ++ ys) → NoneApplies ys
+none-right [] ys h = h
+none-right (r ∷ xs) ys h = none-right xs ys (h .1)
+
+none-left : (xs ys : List Row) → NoneApplies (xs ++ ys) → NoneApplies xs
+none-left [] ys h = tt
+none-left (r ∷ xs) ys h = (h .0, none-left xs ys (h .1))
+
+module _ (m : ℕ) where
+  bounded-append : (xs ys : List Row) → Bounded m xs → (NoneApplies xs → Bounded m ys) → Bounded m (xs ++ ys)
+  bounded-append [] ys h k = k tt
+  bounded-append (r ∷ xs) ys h k = (h .0, λ q. bounded-append xs ys (h .1 q) (λ none. k (q, none)))
+
+  bounded-turns : (rows : ℕ → List Row) (n i : ℕ) → i + n ≤ m → ((k : ℕ) → k ≤ m → Bounded m (rows k))
+      → Bounded m (rowsInTurn rows i n)
+  unfolding rowsInTurn
+  bounded-turns rows zero i h each = tt
+  bounded-turns rows (suc n) i h each =
+      bounded-append (rows i) (rowsInTurn rows (suc i) n) (each i (omega arith))
+      (λ _. bounded-turns rows n (suc i) (omega arith) each)
+
+  first-near : (rows : List Row) (n p : ℕ) → Bounded m rows → first rows ≡ refused n p → Near m n p
+  first-near [] n p h e = absurd (clash (cc))
+  first-near (r ∷ rows) n p h e = at (r .applies) refl e (λ q. first-near rows n p (h .1 q))
+    where
+      at : (b : Bool) → r .applies ≡ b → (require (not b) (r .number) (r .place) then first rows) ≡ refused n p
+          → (r .applies ≡ false → first rows ≡ refused n p → Near m n p) → Near m n p
+      at false q k more = more q k
+      at true q k more =
+          let same : _≡_ {A = Check} (refused (r .number) (r .place)) (refused n p) = k in
+          let number : r .number ≡ n = cc in
+          let place : r .place ≡ p = cc in
+          omega (arith, h .0)
+
+  refusal-near : (rows : List Row) (n p : ℕ) → Bounded m rows → Refuses rows n p → Near m n p
+  refusal-near rows n p h r = first-near rows n p h (refuses-first rows n p r)
+
+  small : {rows : List Row} {value : ℕ} {answer : Outcome ℕ} → Follows rows value answer → Bounded m rows
+      → (NoneApplies rows → value ≤ m) → Small m answer
+  small {rows} {value} {answer = accepted x} f h k = let w = f .accepted-only x refl in omega (arith, k (w .0), w .1)
+  small {rows} {value} {answer = refused n p} f h k = refusal-near rows n p h (f .refused-only n p refl)
+
+  vocabulary-bounded : recordLimit ≤ m → (v : List ℕ) → Bounded m (vocabularyTable v)
+  vocabulary-bounded large v = (
+    omega arith,
+    λ q.
+        let sized = measured v q in (
+          omega arith,
+          λ _.
+              bounded-append (rowsInTurn (recordRows v) 1 (count v - 1)) _
+              (bounded-turns (recordRows v) (count v - 1) 1 (omega arith) (λ i h.
+              (omega arith, λ _. (omega arith, λ _. (omega arith, λ _. (omega arith, λ _. (omega arith, λ _. tt)))))))
+              (λ _. (omega arith, λ _. bounded-turns _ (count v - 1) 1 (omega arith) (λ i h. (omega arith, λ _. tt)))),
+        ),
+  )
+
+  form-bounded : (v s : List ℕ) → entryLimit ≤ m → queryOf s .a ≤ m → queryOf s .b ≤ m → Bounded m (formTable v s)
+  form-bounded v s large a b = (
+    omega arith,
+    λ q.
+        let sized = length-sized s (fits (script.lengthFits s) 13 0 q) in (
+          omega arith,
+          λ _. (
+            omega arith,
+            λ _. (
+              omega arith,
+              λ _. (
+                omega arith,
+                λ _.
+                    bounded-append (rowsInTurn (entryRows v s) 1 (entries s - 1)) _
+                    (bounded-turns (entryRows v s) (entries s - 1) 1 (omega arith) (λ i h.
+                    (omega arith, λ _. (omega arith, λ _. (omega arith, λ _. (omega arith, λ _. tt))))))
+                    (λ _. (omega arith, λ _. bounded-turns _ (entries s - 1) 1 (omega arith) (λ i h. (omega arith, λ _. tt)))),
+              ),
+            ),
+          ),
+        ),
+  )
+
+  module _ (v s : List ℕ) where
+    later-bounded : (is : List ℕ) (frames : OpenFrames v s) (last : ℕ) → last ≤ m → All (λ i. i ≤ m) is
+        → Bounded m (laterRows v s frames last is)
+    unfolding laterRows
+    later-bounded [] frames last h all = (omega arith, λ _. tt)
+    later-bounded (i ∷ is) frames last h all =
+        let near = all .0 in
+        bounded-append (stepRows v s frames i) (laterRows v s (framesAfter v s frames i) i is)
+        (omega arith, λ _. (omega arith, λ _. (omega arith, λ _. (omega arith, λ _. (omega arith, λ _. tt)))))
+        (λ _. later-bounded is (framesAfter v s frames i) i near (all .1))
+
+    chain-bounded : (is : List ℕ) → All (λ i. i ≤ m) is → Bounded m (chainTable v s is)
+    unfolding chainTable
+    chain-bounded [] all = (omega arith, λ _. tt)
+    chain-bounded (i ∷ is) all =
+        let near = all .0 in
+        (omega arith, λ _. later-bounded is (framesAfter v s [] i) i near (all .1))
+
+pub vocabulary-small : (v : List ℕ) → Small recordLimit (vocabularyCheck v)
+vocabulary-small v =
+    small recordLimit (vocabulary-follows v) (vocabulary-bounded recordLimit (omega arith) v)
+    (λ none. let sized = measured v (none .0) in omega arith)
+
+pub record-small : (v : List ℕ) (n : ℕ) → Small (max (recordSize * recordLimit) n) (recordCall v n)
+record-small v n =
+    small (max (recordSize * recordLimit) n) (record-follows v n) (omega arith, λ _. (omega arith, λ _. tt))
+    (λ none.
+    let sized = measured v (none .0) in
+    let below = ltb-true n (count v) (require-passed (ltb n (count v)) 9 n (fits (ltb n (count v)) 9 n (none .1 .0))) in
+    omega arith)
+
+members-types : (v : List ℕ) → members (survivors v) ≤ types v
+unfolding survivors
+members-types v = omega (arith, members-bound (survivors v), stage-length v (rounds v))
+
+module _ (v : List ℕ) (a b lent : ℕ) where
+  abbrev pub most : ℕ
+  most = max recordLimit (max a b)
+
+  answer-small : (x : Verdict) → comparison v a b lent ≡ accepted x → SmallVerdict most (accepted x)
+  answer-small (equal s n) e =
+      let few = types-bound v (answered v a b lent (equal s n) e .few) in
+      let c = counts v a b lent (equal s n) e in
+      (omega (arith, c .0, members-types v), omega (arith, c .2))
+  answer-small (different t s n) e =
+      let few = types-bound v (answered v a b lent (different t s n) e .few) in
+      let c = counts v a b lent (different t s n) e in
+      let first = different-first v a b lent t s n e in (
+        omega (arith, survivors-serving v .small t (first .0)),
+        omega (arith, c .0, members-types v),
+        omega (arith, c .2),
+      )
+
+  comparison-bounded : Bounded most (comparisonTable v a b lent)
+  comparison-bounded =
+      bounded-append most (vocabularyTable v) _ (vocabulary-bounded most (omega arith) v) (λ none.
+      let sized = measured v (none .0) in
+      let few : atoms v ≤ recordLimit = omega (arith, rank-bound v (count v)) in
+      (omega arith, λ _. (omega arith, λ _. (omega arith, λ _. (omega arith, λ _. tt)))))
+
+  pub comparison-small : SmallVerdict most (comparison v a b lent)
+  comparison-small = at (comparison v a b lent) refl
+    where
+      at : (o : Outcome Verdict) → comparison v a b lent ≡ o → SmallVerdict most o
+      at (accepted x) e = answer-small x e
+      at (refused n p) e =
+          refusal-near most (comparisonTable v a b lent) n p comparison-bounded
+          (comparison-follows v a b lent .refused-only n p e)
+
+-- A script has at most 2,048 records, a vocabulary 512; row 10's place is a number of the query.
+abbrev pub mostPlace : List ℕ → ℕ
+mostPlace s = max entryLimit (max (queryOf s .a) (queryOf s .b))
+
+-- numbers of the chain of a keeps-form script
+chain-within : (m : ℕ) (s : List ℕ) (is : List ℕ) → entries s ≤ m → All (OnChain s) is → All (λ i. i ≤ m) is
+chain-within m s [] h a = tt
+chain-within m s (i ∷ is) h a = (omega (arith, a .0 .within), chain-within m s is h (a .1))
+
+pub script-small : (v s : List ℕ) → Small (mostPlace s) (scriptCheck v s)
+script-small v s =
+    let m = mostPlace s in
+    let begun = vocabularyTable v ++ formTable v s in
+    let passed : NoneApplies begun → script.formCheck v s ≡ pass
+    = λ none. sym (form-is v s .same) ∙ none-passed (formTable v s) (none-right (vocabularyTable v) (formTable v s) none) in
+    small m (script-follows v s)
+    (bounded-append m begun _
+    (bounded-append m (vocabularyTable v) _ (vocabulary-bounded m (omega arith) v)
+    (λ _. form-bounded m v s (omega arith) (omega arith) (omega arith)))
+    (λ none.
+    let f = keeps-form v s (passed none) in
+    chain-bounded m v s (chain s) (chain-within m s (chain s) (omega (arith, f .sized .most)) (chain-ahead v s f))))
+    (λ none.
+    let f = keeps-form v s (passed (none-left begun _ none)) in
+    omega (arith, f .sized .most, chain-few s (firstStep s)))
+
+header-byte : (s : List ℕ) (i : ℕ) → i < entrySize → ((j : ℕ) → getD s j 0 < 256) → getD (partAt s 0) i 0 < 256
+header-byte s i h bytes =
+    let e = getD-take entrySize (drop (entrySize * 0) s) i 0 h ∙ getD-drop (entrySize * 0) s i 0 in
+    subst (λ (x : ℕ). x < 256) (sym e) (bytes (entrySize * 0 + i))
+
+pub query-below : (s : List ℕ) → ((i : ℕ) → getD s i 0 < 256) → (queryOf s .a < 65536) × (queryOf s .b < 65536)
+unfolding entryAt
+query-below s bytes = (
+  omega (arith, header-byte s 2 (omega arith) bytes, header-byte s 3 (omega arith) bytes),
+  omega (arith, header-byte s 4 (omega arith) bytes, header-byte s 5 (omega arith) bytes),
+)

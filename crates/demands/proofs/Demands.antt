@@ -1,0 +1,35 @@
+-- The three demands, proved: specs/Demands.antt states them.
+-- Assumes nothing.
+use lib.ListN.{length}
+use Rattle.types.specs.Comparison.{verdict}
+use Rattle.types.proofs.Theorems.Verdicts.{answers-always}
+use Rattle.scripts.proofs.Theorems.Scripts.{checked-parts, accepted-derives, derives-accepted, accepted-within}
+use Rattle.demands.specs.Demands.{Demand1, Demand2, Demand3}
+use Rattle.demands.proofs.Tables.{vocabulary-follows, record-follows, comparison-follows, script-follows}
+use Rattle.demands.proofs.Denials.{right-verdict}
+
+pub demand-1 : Demand1
+demand-1 =
+    record {
+      vocabulary = vocabulary-follows;
+      recording = record-follows;
+      compares = comparison-follows;
+      checks = script-follows;
+      untouched = λ v a b n p lent e. rw e;
+      empty = λ v number n p e. rw e;
+    }
+
+pub demand-2 : Demand2
+demand-2 =
+    record {
+      exact = λ v s m e form. record {
+        only = λ n h. (accepted-derives v s n h, checked-parts v s n h .counted);
+        always = derives-accepted v s m e form;
+      };
+      means = accepted-within;
+    }
+
+pub demand-3 : Demand3
+demand-3 v a b m lent e s t few room =
+    let answers = answers-always v a b (length lent) m e s t few room in
+    record { answer = verdict v a b; answers = answers; right = right-verdict v a b lent (verdict v a b) answers }

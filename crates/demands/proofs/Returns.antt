@@ -1,0 +1,86 @@
+-- What the calls return, from the equations of their contracts.
+--   vocabulary-returns, offset-returns, record-returns, comparison-returns, script-returns   of each call
+-- Assumes nothing.
+use Prim.Native.Nat.{ℕ, _+_, _≤_}
+use native.Mathlib.Omega.{arith}
+use mathlib.Core.Path.{_≡_, refl, sym, ap, _∙_}
+use mathlib.Core.List.{List, []}
+use lib.ListN.{length, length-take, length-drop}
+use Rattle.records.specs.Outcome.{Outcome, accepted, refused}
+use Rattle.records.specs.Check.{vocabularyCheck}
+use Rattle.records.specs.Call.{recordCall, partFor, recordPart}
+use Rattle.records.specs.Answers as records
+use Rattle.records.specs.declared.answers.Counted.{Counted}
+use Rattle.records.specs.declared.answers.Counted.the-variants as counted
+use Rattle.records.specs.declared.answers.Located.{Located}
+use Rattle.records.specs.declared.answers.Located.the-variants as located
+use Rattle.records.proofs.Theorems.Bounds.{record-within}
+use Rattle.records.specs.Finite.{members}
+use Rattle.types.specs.Survivors.{survivors, rounds}
+use Rattle.types.specs.Comparison.{Verdict, equal, different, comparison}
+use Rattle.types.specs.Bitmap.{written}
+use Rattle.types.specs.Answers as types
+use Rattle.types.specs.declared.answers.Compared.{Compared}
+use Rattle.types.specs.declared.answers.Compared.the-variants as compared
+use Rattle.types.proofs.Theorems.Comparison.{counts}
+use Rattle.scripts.specs.Run.{scriptCheck}
+use Rattle.scripts.specs.Answers as scripts
+use Rattle.scripts.specs.declared.answers.Judged.{Judged}
+use Rattle.scripts.specs.declared.answers.Judged.the-variants as judged
+use Rattle.scripts.proofs.Theorems.Scripts.{checked-parts, accepted-derives, accepted-within}
+use Rattle.demands.specs.Returns.{VocabularyReturns, OffsetReturns, RecordReturns, handed, empty, Settled}
+use Rattle.demands.specs.Returns.{ComparisonReturns, ScriptReturns}
+use Rattle.demands.proofs.Tables.{vocabulary-follows, record-follows, comparison-follows, script-follows}
+use Rattle.demands.proofs.Denials.{right-verdict}
+
+pub vocabulary-returns : (v : List ℕ) (r : Counted) → records.counted r ≡ vocabularyCheck v → VocabularyReturns v r
+vocabulary-returns v (counted.Records n) e = vocabulary-follows v .accepted-only n (sym e)
+vocabulary-returns v (counted.Refused n p) e = vocabulary-follows v .refused-only n p (sym e)
+
+pub offset-returns : (v : List ℕ) (number : ℕ) (r : Located) → records.located r ≡ recordCall v number → OffsetReturns v number r
+offset-returns v number (located.At n) e = record-follows v number .accepted-only n (sym e)
+offset-returns v number (located.Refused n p) e = record-follows v number .refused-only n p (sym e)
+
+pub record-returns : (v : List ℕ) (number : ℕ) (part : List ℕ) → part ≡ recordPart v number → RecordReturns v number part
+record-returns v number part e = at (recordCall v number) refl e
+  where
+    at : (o : Outcome ℕ) → recordCall v number ≡ o → part ≡ partFor o v → RecordReturns v number part
+    at (accepted n) q h =
+        let w = record-follows v number .accepted-only n q in
+        let whole : n + 8 ≤ length v = record-within v number n q in
+        handed (w .0) (h ∙ rw (w .1)) (ap length h ∙ simp (length-take, length-drop) (omega arith))
+    at (refused n p) q h = empty n p (record-follows v number .refused-only n p q) h
+
+module _ (v : List ℕ) (a b : ℕ) (before after : List ℕ) where
+  settled : (x : Verdict) (alive done : ℕ) → comparison v a b (length before) ≡ accepted x
+      → after ≡ written (comparison v a b (length before)) v before → alive ≡ members (survivors v) → done ≡ rounds v
+      → Settled v a b before after alive done
+  settled x alive done e w c d =
+      record {
+        none = comparison-follows v a b (length before) .accepted-only x e .0;
+        counted = c;
+        elapsed = d;
+        wrote = w ∙ rw e;
+      }
+
+  pub comparison-returns : (r : Compared) → types.compared r ≡ comparison v a b (length before)
+      → after ≡ written (comparison v a b (length before)) v before → ComparisonReturns v a b before after r
+  comparison-returns (compared.Equal s n) e w =
+      let c = counts v a b (length before) (equal s n) (sym e) in
+      (right-verdict v a b before (equal s n) (sym e), settled (equal s n) s n (sym e) w (c .0) (c .1))
+  comparison-returns (compared.Different t s n) e w =
+      let c = counts v a b (length before) (different t s n) (sym e) in
+      let apart = right-verdict v a b before (different t s n) (sym e) in
+      (apart .0, rw w (apart .1), settled (different t s n) s n (sym e) w (c .0) (c .1))
+  comparison-returns (compared.Refused n p) e w =
+      (comparison-follows v a b (length before) .refused-only n p (sym e), w ∙ rw (← e))
+
+pub script-returns : (v s : List ℕ) (r : Judged) → scripts.judged r ≡ scriptCheck v s → ScriptReturns v s r
+script-returns v s (judged.Accepted n) e =
+    record {
+      none = script-follows v s .accepted-only n (sym e) .0;
+      always = accepted-within v s n (sym e);
+      derives = accepted-derives v s n (sym e);
+      counted = checked-parts v s n (sym e) .counted;
+    }
+script-returns v s (judged.Refused n p) e = script-follows v s .refused-only n p (sym e)

@@ -1,0 +1,125 @@
+-- Each call is its table: it tries the rows in their order and then has a value.
+--   records-are, form-is, chain-is                        rows 1 to 8; 13 to 19; 20 to 25
+--   vocabulary-follows, record-follows, comparison-follows, script-follows    the four calls
+-- Assumes nothing.
+use Prim.Native.Nat.{ℕ, _*_, _-_}
+use mathlib.Core.Path.{_≡_, refl, sym, _∙_}
+use mathlib.Core.Bool.{_&&_}
+use mathlib.Core.List.{List, [], _∷_}
+use lib.ListN.{length}
+use lib.Dec.{ltb, leb}
+use Rattle.records.specs.Outcome.{Outcome, Check, accepted, refused, _then_, require}
+use Rattle.records.specs.Format.{recordAt, count, firstStatement}
+use Rattle.records.specs.Kinds.{sortsOf, isTerm}
+use Rattle.records.specs.Check.{lengthFits, lengthCheck, headerFits, kindFits, rowFits, recordCheck, linkFits, nextFits}
+use Rattle.records.specs.Check.{linkCheck, recordsCheck, vocabularyCheck}
+use Rattle.records.specs.Call.{recordCall}
+use Rattle.records.specs.Atoms.{atoms}
+use Rattle.types.specs.Comparison.{verdict, termCheck, queryCheck, comparison}
+use Rattle.scripts.specs.Format.{entryAt, entries, queryOf, firstStep, lineOf, chain}
+use Rattle.scripts.specs.Form as script
+use Rattle.records.specs.Finite.{isNil}
+use Rattle.scripts.specs.Run.{isStart, connects, reduces, hasRoom, stepCheck, run, chainCheck, writtenOut, stepAt, scriptCheck}
+use Rattle.demands.specs.Table.{Row, recordRows, vocabularyTable, recordTable, termRow, comparisonTable, entryRows}
+use Rattle.demands.specs.Table.{Follows, formTable, OpenFrames, framesAfter, stepRows, laterRows, chainTable, scriptTable}
+use Rattle.demands.proofs.Rows.{then-assoc, Tries, follows, append-is, row-is, plain-is, last-is, turns-are}
+
+-- what comes after the vocabulary check comes after its rows
+after-count : {B C : Type 0} (v : List ℕ) (b : Outcome B) (c : Outcome C)
+    → (vocabularyCheck v then b then c) ≡ ((recordsCheck v then b) then c)
+unfolding vocabularyCheck
+after-count v b c = at (recordsCheck v)
+  where
+    at : (r : Check) → ((r then accepted (count v)) then b then c) ≡ ((r then b) then c)
+    at (accepted u) = refl
+    at (refused n p) = refl
+
+module _ (v : List ℕ) where
+  record-rows-are : (i : ℕ) → Tries (recordRows v i) (recordCheck v i)
+  unfolding recordCheck
+  record-rows-are i =
+      let r = recordAt v i in
+      let s = sortsOf (r .kind) in
+      row-is (kindFits r) 3 i
+      (row-is (rowFits v i 4 s r) 4 i
+      (row-is (rowFits v i 5 s r) 5 i
+      (row-is (rowFits v i 6 s r) 6 i (last-is (rowFits v i 7 s r) 7 i))))
+
+  pub records-are : Tries (vocabularyTable v) (recordsCheck v)
+  unfolding recordsCheck linkCheck
+  records-are =
+      row-is (lengthFits v) 1 0
+      (row-is (headerFits (recordAt v 0)) 2 0
+      (append-is (turns-are (recordRows v) (recordCheck v) (count v - 1) 1 record-rows-are)
+      (row-is (linkFits v 0 (firstStatement v)) 8 0
+      (turns-are _ (linkCheck v) (count v - 1) 1 (λ i. last-is (nextFits v i) 8 i)))))
+
+  pub vocabulary-follows : Follows (vocabularyTable v) (count v) (vocabularyCheck v)
+  unfolding vocabularyCheck
+  vocabulary-follows = follows records-are refl
+
+  pub record-follows : (number : ℕ) → Follows (recordTable v number) (8 * number) (recordCall v number)
+  unfolding recordCall
+  record-follows number =
+      let known = ltb number (count v) in
+      follows (row-is (lengthFits v) 1 0 (last-is known 9 number)) (sym (then-assoc (lengthCheck v) (require known 9 number) _))
+
+  term-is : (x : ℕ) {rows : List Row} {c : Check} → Tries rows c → Tries (termRow v x ∷ rows) (termCheck v x then c)
+  term-is x = row-is (ltb x (count v) && isTerm (recordAt v x .kind)) 10 x
+
+  pub comparison-follows : (a b lent : ℕ) → Follows (comparisonTable v a b lent) (verdict v a b) (comparison v a b lent)
+  unfolding comparison
+  comparison-follows a b lent =
+      let query = term-is a (term-is b (row-is (leb (atoms v) 12) 11 (atoms v) (last-is (leb 512 lent) 12 0))) in
+      follows (append-is records-are query) (after-count v (queryCheck v a b lent) (accepted (verdict v a b)))
+
+module _ (v s : List ℕ) where
+  entry-rows-are : (i : ℕ) → Tries (entryRows v s i) (script.entryCheck v s i)
+  unfolding script.entryCheck
+  entry-rows-are i =
+      let e = entryAt s i in
+      row-is (script.kindFits e) 15 i
+      (row-is (script.unusedFits e) 16 i
+      (row-is (script.termFits v s i (lineOf e)) 17 i (last-is (script.lineFits v s i (lineOf e)) 18 i)))
+
+  pub form-is : Tries (formTable v s) (script.formCheck v s)
+  unfolding script.formCheck script.linkCheck
+  form-is =
+      let entered = turns-are (entryRows v s) (script.entryCheck v s) (entries s - 1) 1 entry-rows-are in
+      let linked = turns-are _ (script.linkCheck s) (entries s - 1) 1 (λ i. last-is (script.nextFits s i) 19 i) in
+      let b = queryOf s .b in
+      let asked = term-is v (queryOf s .a) (last-is (ltb b (count v) && isTerm (recordAt v b .kind)) 10 b) in
+      row-is (script.lengthFits s) 13 0
+      (row-is (script.headerFits (entryAt s 0)) 14 0
+      (append-is asked
+      (append-is (row-is (ltb 1 (entries s)) 17 1 entered) (row-is (script.linkFits s 0 (firstStep s)) 19 0 linked))))
+
+  step-rows-are : (frames : OpenFrames v s) (i : ℕ)
+      → Tries (stepRows v s frames i) (stepCheck (writtenOut v (queryOf s)) i frames (stepAt s i))
+  unfolding stepCheck
+  step-rows-are frames i =
+      let paper = writtenOut v (queryOf s) in
+      plain-is (isNil frames) 25 i
+      (plain-is (isStart (stepAt s i)) 20 i
+      (row-is (connects paper frames (stepAt s i)) 21 i
+      (row-is (reduces paper frames (stepAt s i)) 22 i (last-is (hasRoom paper frames (stepAt s i)) 23 i))))
+
+  later-are : (is : List ℕ) (frames : OpenFrames v s) (last : ℕ)
+      → Tries (laterRows v s frames last is) (run (writtenOut v (queryOf s)) (stepAt s) frames last is)
+  unfolding laterRows run
+  later-are [] frames last = last-is (isNil frames) 24 last
+  later-are (i ∷ is) frames last = append-is (step-rows-are frames i) (later-are is (framesAfter v s frames i) i)
+
+  chain-is : (is : List ℕ) → Tries (chainTable v s is) (chainCheck (writtenOut v (queryOf s)) (stepAt s) is)
+  unfolding chainTable chainCheck
+  chain-is [] = record { same = refl }
+  chain-is (i ∷ is) = row-is (isStart (stepAt s i)) 20 i (later-are is (framesAfter v s [] i) i)
+
+  pub script-follows : Follows (scriptTable v s) (length (chain s)) (scriptCheck v s)
+  unfolding scriptCheck
+  script-follows =
+      let ran = chainCheck (writtenOut v (queryOf s)) (stepAt s) (chain s) in
+      let value = accepted (length (chain s)) in
+      follows (append-is (append-is (records-are v) form-is) (chain-is (chain s)))
+      (after-count v (script.formCheck v s) (ran then value)
+      ∙ sym (then-assoc (recordsCheck v then script.formCheck v s) ran value))

@@ -1,0 +1,67 @@
+-- The demands over what the calls return, for every input: what the contracts of src/lib.rt promise to a caller.
+use Prim.Native.Nat.{ℕ, _*_}
+use mathlib.Core.Path.{_≡_}
+use mathlib.Core.List.{List, [], _++_}
+use lib.ListN.{length, take, drop}
+use Rattle.records.specs.Format.{count}
+use Rattle.records.specs.declared.answers.Counted.{Counted}
+use Rattle.records.specs.declared.answers.Counted.the-variants as counted
+use Rattle.records.specs.declared.answers.Located.{Located}
+use Rattle.records.specs.declared.answers.Located.the-variants as located
+use Rattle.records.specs.Finite.{members}
+use Rattle.types.specs.Meaning.{AlwaysEqual, AlwaysWithin}
+use Rattle.types.specs.Survivors.{survivors, rounds}
+use Rattle.types.specs.Bitmap.{bitmap, readBack}
+use Rattle.types.specs.declared.answers.Compared.{Compared}
+use Rattle.types.specs.declared.answers.Compared.the-variants as compared
+use Rattle.scripts.specs.Format.{queryOf, chain}
+use Rattle.scripts.specs.declared.answers.Judged.{Judged}
+use Rattle.scripts.specs.declared.answers.Judged.the-variants as judged
+use Rattle.demands.specs.Table.{vocabularyTable, recordTable, comparisonTable, scriptTable, NoneApplies, Refuses}
+use Rattle.demands.specs.Demands.{ChainDerives, Shown}
+
+-- The vocabulary check "answers the number of records, header included".
+abbrev pub VocabularyReturns : List ℕ → Counted → Type 0
+VocabularyReturns v (counted.Records n) = NoneApplies (vocabularyTable v) × (n ≡ count v)
+VocabularyReturns v (counted.Refused n p) = Refuses (vocabularyTable v) n p
+
+-- The offset of a record.
+abbrev pub OffsetReturns : List ℕ → ℕ → Located → Type 0
+OffsetReturns v number (located.At at) = NoneApplies (recordTable v number) × (at ≡ 8 * number)
+OffsetReturns v number (located.Refused n p) = Refuses (recordTable v number) n p
+
+-- "The record call hands back the eight bytes as part of the lent vocabulary; refused, an empty part."
+pub data RecordReturns (v : List ℕ) (number : ℕ) (part : List ℕ) : Type 0 where
+  handed : NoneApplies (recordTable v number) → part ≡ take 8 (drop (8 * number) v) → length part ≡ 8
+      → RecordReturns v number part
+  empty : (n p : ℕ) → Refuses (recordTable v number) n p → part ≡ [] → RecordReturns v number part
+
+-- What goes with either answer of the comparison: "the number of survivors and of rounds that removed something", and the lent
+-- bytes after the call, the survivors in "the first 512 bytes .. ; later bytes keep their content".
+pub record Settled (v : List ℕ) (a b : ℕ) (before after : List ℕ) (alive done : ℕ) : Type 0 where
+  pub none : NoneApplies (comparisonTable v a b (length before))
+  pub counted : alive ≡ members (survivors v)
+  pub elapsed : done ≡ rounds v
+  pub wrote : after ≡ bitmap v ++ drop 512 before
+
+-- Equal: in every finite interpretation satisfying the statements. Different: not so, and the bytes after the call, read back,
+-- show it by the element. Refused: the bytes are as they were.
+abbrev pub ComparisonReturns : List ℕ → ℕ → ℕ → List ℕ → List ℕ → Compared → Type 0
+ComparisonReturns v a b before after (compared.Equal alive done) =
+    AlwaysEqual v a b × Settled v a b before after alive done
+ComparisonReturns v a b before after (compared.Different t alive done) =
+    (AlwaysEqual v a b → ⊥) × Shown (readBack v after) v a b t × Settled v a b before after alive done
+ComparisonReturns v a b before after (compared.Refused n p) =
+    Refuses (comparisonTable v a b (length before)) n p × (after ≡ before)
+
+-- Accepted: what the script asks is so in every finite interpretation satisfying the statements, and its chain, of so many steps,
+-- derives it.
+pub record Proved (v s : List ℕ) (n : ℕ) : Type 0 where
+  pub none : NoneApplies (scriptTable v s)
+  pub always : AlwaysWithin v (queryOf s .a) (queryOf s .b)
+  pub derives : ChainDerives v s
+  pub counted : n ≡ length (chain s)
+
+abbrev pub ScriptReturns : List ℕ → List ℕ → Judged → Type 0
+ScriptReturns v s (judged.Accepted n) = Proved v s n
+ScriptReturns v s (judged.Refused n p) = Refuses (scriptTable v s) n p

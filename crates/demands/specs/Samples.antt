@@ -1,0 +1,142 @@
+-- Samples 1 to 9 of paper 01, from the bytes of their vocabularies and scripts, as "a joint table": answers, counts, and of the
+-- comparison the first two bytes written. "Every statement in these samples is on the chain."
+use Prim.Native.Nat.{ℕ}
+use mathlib.Core.Path.{_≡_}
+use mathlib.Core.List.{List, [], _∷_, map}
+use lib.ListN.{take}
+use Rattle.records.specs.Outcome.{Outcome, accepted, refused}
+use Rattle.types.specs.Comparison.{Verdict, equal, different, comparison}
+use Rattle.types.specs.Bitmap.{bitmap}
+use Rattle.scripts.specs.Run.{scriptCheck}
+
+-- the eight bytes of a vocabulary record, and the sixteen of a script record in two halves, whose numbers are under 256
+abbrev pub fields : ℕ → ℕ → ℕ → ℕ → List ℕ → List ℕ
+fields kind a b next rest = kind ∷ 0 ∷ a ∷ 0 ∷ b ∷ 0 ∷ next ∷ 0 ∷ rest
+
+abbrev pub words : ℕ → ℕ → ℕ → ℕ → List ℕ → List ℕ
+words a b c d rest = a ∷ 0 ∷ b ∷ 0 ∷ c ∷ 0 ∷ d ∷ 0 ∷ rest
+
+-- the records of a vocabulary
+abbrev pub header : ℕ → ℕ → List ℕ → List ℕ
+header first roles rest = 16 ∷ 1 ∷ first ∷ 0 ∷ roles ∷ 0 ∷ 0 ∷ 0 ∷ rest
+
+abbrev pub top : List ℕ → List ℕ
+top rest = fields 1 0 0 0 rest
+
+abbrev pub bottom : List ℕ → List ℕ
+bottom rest = fields 2 0 0 0 rest
+
+abbrev pub name : ℕ → List ℕ → List ℕ
+name label rest = fields 3 label 0 0 rest
+
+abbrev pub and : ℕ → ℕ → List ℕ → List ℕ
+and a b rest = fields 5 a b 0 rest
+
+abbrev pub some : ℕ → ℕ → List ℕ → List ℕ
+some role b rest = fields 7 role b 0 rest
+
+abbrev pub all : ℕ → ℕ → List ℕ → List ℕ
+all role b rest = fields 8 role b 0 rest
+
+abbrev pub within : ℕ → ℕ → ℕ → List ℕ → List ℕ
+within a b next rest = fields 9 a b next rest
+
+-- the records of a script
+abbrev pub asking : ℕ → ℕ → ℕ → List ℕ → List ℕ
+asking a b first rest = words 32 a b first (words 0 0 0 0 rest)
+
+abbrev pub constant : List ℕ → List ℕ
+constant rest = words 1 0 0 0 (words 0 0 0 0 rest)
+
+abbrev pub function : ℕ → ℕ → List ℕ → List ℕ
+function i t rest = words 2 i t 0 (words 0 0 0 0 rest)
+
+abbrev pub start : ℕ → ℕ → List ℕ → List ℕ
+start column next rest = words 3 column 0 0 (words 0 0 0 next rest)
+
+abbrev pub extension : ℕ → ℕ → ℕ → ℕ → ℕ → List ℕ → List ℕ
+extension owner column x position next rest = words 4 owner column x (words 0 position 0 next rest)
+
+-- A comparison of two terms, or a script to check.
+pub data Question : Type 0 where
+  compares : List ℕ → ℕ → ℕ → Question
+  checks : List ℕ → List ℕ → Question
+
+pub data Answer : Type 0 where
+  verdicts : Outcome Verdict → List ℕ → Answer
+  judgments : Outcome ℕ → Answer
+
+abbrev pub answer : Question → Answer
+answer (compares v a b) = verdicts (comparison v a b 512) (take 2 (bitmap v))
+answer (checks v s) = judgments (scriptCheck v s)
+
+abbrev pub says : Verdict → ℕ → ℕ → Answer
+says x first second = verdicts (accepted x) (first ∷ second ∷ [])
+
+-- "V: names 1, 2, 3; 4 = 1 and 2; 5: 4 within 3."
+abbrev pub V₁ : List ℕ
+V₁ = header 5 0 (name 1 (name 2 (name 3 (and 1 2 (within 4 3 0 [])))))
+
+-- "V with 6: 3 within 4 chained"
+abbrev pub V₂ : List ℕ
+V₂ = header 5 0 (name 1 (name 2 (name 3 (and 1 2 (within 4 3 6 (within 3 4 0 []))))))
+
+-- "Name 1; 2 some role 0 to 1; 3: 1 within 2; 4 bottom"
+abbrev pub V₃ : List ℕ
+V₃ = header 3 1 (name 1 (some 0 1 (within 1 2 0 (bottom []))))
+
+-- "Bottom 1; 2 some role 0 to 1"
+abbrev pub V₄ : List ℕ
+V₄ = header 0 1 (bottom (some 0 1 []))
+
+-- "Top 1, bottom 2, 3: 1 within 2"
+abbrev pub V₅ : List ℕ
+V₅ = header 3 0 (top (bottom (within 1 2 0 [])))
+
+-- "Names 1, 2; 3 some role 0 to 2; 4 all role 0 to 2; 5: 1 within 3; 6: 4 within 1; 7 top"
+abbrev pub V₆ : List ℕ
+V₆ = header 5 1 (name 1 (name 2 (some 0 2 (all 0 2 (within 1 3 6 (within 4 1 0 (top [])))))))
+
+-- "query 4 within 3: start 1; extension owner 5, column 0, x = a, position 1; extension owner 0, column 0, position 0"
+abbrev pub S₇ : List ℕ
+S₇ = asking 4 3 2 (constant (start 1 3 (extension 5 0 1 1 4 (extension 0 0 1 0 0 []))))
+
+-- "The same without its last step"
+abbrev pub S₈ : List ℕ
+S₈ = asking 4 3 2 (constant (start 1 3 (extension 5 0 1 1 0 [])))
+
+-- "query 2 within 1: start 0; owner 2, column 1, x = a, position 0; owner 1, column 0, x = f2(a), position 0", where that x, f2(a)
+-- or a, is left open
+abbrev pub S₉ : ℕ → List ℕ
+S₉ x = asking 2 1 3 (constant (function 2 1 (start 0 4 (extension 2 1 1 0 5 (extension 1 0 x 0 0 [])))))
+
+abbrev pub asked : List Question
+asked =
+    compares V₁ 4 3
+    ∷ compares V₂ 4 3
+    ∷ compares V₃ 1 4
+    ∷ compares V₄ 1 2
+    ∷ compares V₅ 1 2
+    ∷ compares V₆ 1 7
+    ∷ checks V₁ S₇
+    ∷ checks V₁ S₈
+    ∷ checks V₄ (S₉ 2)
+    ∷ checks V₄ (S₉ 1)
+    ∷ []
+
+abbrev pub answered : List Answer
+answered =
+    says (different 4 7 0) 247 0
+    ∷ says (equal 4 0) 135 0
+    ∷ says (different 3 3 0) 13 0
+    ∷ says (equal 1 1) 1 0
+    ∷ says (equal 0 0) 0 0
+    ∷ says (different 0 8 0) 245 160
+    ∷ judgments (accepted 3)
+    ∷ judgments (refused 24 3)
+    ∷ judgments (accepted 3)
+    ∷ judgments (refused 21 5)
+    ∷ []
+
+abbrev pub Samples : Type 0
+Samples = map answer asked ≡ answered

@@ -1,0 +1,162 @@
+-- The paper's table of refusals, as a list of rows for each call: each row with its number, its place and whether it applies.
+-- "Every refusal gives number and place and leaves all lent memory untouched. The first that applies in table order is given
+-- and never otherwise."
+use Prim.Native.Nat.{ℕ, zero, suc, _-_}
+use mathlib.Core.Path.{_≡_}
+use mathlib.Core.Bool.{Bool, true, false, not, _&&_}
+use mathlib.Core.List.{List, [], _∷_, _++_}
+use lib.Dec.{ltb, leb}
+use Rattle.records.specs.Outcome.{Outcome, accepted, refused}
+use Rattle.records.specs.Format.{recordAt, count, firstStatement}
+use Rattle.records.specs.Kinds.{sortsOf, isTerm}
+use Rattle.records.specs.Check.{lengthFits, headerFits, kindFits, rowFits, linkFits, nextFits}
+use Rattle.records.specs.Atoms.{atoms}
+use Rattle.columns.specs.Literals.{SkolemTerm, Literal}
+use Rattle.scripts.specs.Format.{entryAt, entries, queryOf, firstStep, lineOf, chain}
+use Rattle.scripts.specs.Form as script
+use Rattle.scripts.specs.Run.{Frames, isStart, connects, reduces, hasRoom, stepped, writtenOut, stepAt}
+use Rattle.records.specs.Finite.{isNil}
+
+pub record Row : Type 0 where
+  pub number : ℕ
+  pub place : ℕ
+  pub applies : Bool
+
+abbrev pub row : ℕ → ℕ → Bool → Row
+row number place applies = record { number = number; place = place; applies = applies }
+
+-- "in turn": the rows at i, i + 1, .., n of them
+unfoldable pub rowsInTurn : (ℕ → List Row) → ℕ → ℕ → List Row
+rowsInTurn rows i zero = []
+rowsInTurn rows i (suc n) = rows i ++ rowsInTurn rows (suc i) n
+
+-- | Each record in turn | 3 | kind not 1 to 9, or second byte | record |
+-- | | 4 | unused field not zero | record |
+-- | | 5 | term number | record |
+-- | | 6 | role not below the count | record |
+-- | | 7 | label of an earlier name | record |
+abbrev pub recordRows : List ℕ → ℕ → List Row
+recordRows v i =
+    let r = recordAt v i in
+    row 3 i (not (kindFits r))
+    ∷ row 4 i (not (rowFits v i 4 (sortsOf (r .kind)) r))
+    ∷ row 5 i (not (rowFits v i 5 (sortsOf (r .kind)) r))
+    ∷ row 6 i (not (rowFits v i 6 (sortsOf (r .kind)) r))
+    ∷ row 7 i (not (rowFits v i 7 (sortsOf (r .kind)) r))
+    ∷ []
+
+-- | Vocabulary length | 1 | under 8, over 4,096 or no multiple of 8 | 0 |
+-- | Its header | 2 | kind, second byte, role count or next | 0 |
+-- | Header A, then each statement's next | 8 | not 0 and not a later statement | record |
+abbrev pub vocabularyTable : List ℕ → List Row
+vocabularyTable v =
+    row 1 0 (not (lengthFits v))
+    ∷ row 2 0 (not (headerFits (recordAt v 0)))
+    ∷ rowsInTurn (recordRows v) 1 (count v - 1)
+    ++ row 8 0 (not (linkFits v 0 (firstStatement v)))
+    ∷ rowsInTurn (λ i. row 8 i (not (nextFits v i)) ∷ []) 1 (count v - 1)
+
+-- | Record call, after 1 | 9 | number past the end | number |
+abbrev pub recordTable : List ℕ → ℕ → List Row
+recordTable v number = row 1 0 (not (lengthFits v)) ∷ row 9 number (not (ltb number (count v))) ∷ []
+
+-- | Query A, then B | 10 | no term record | number |
+abbrev pub termRow : List ℕ → ℕ → Row
+termRow v x = row 10 x (not (ltb x (count v) && isTerm (recordAt v x .kind)))
+
+-- | Comparison | 11 | k over 12 | k |
+-- | | 12 | under 512 bytes lent | 0 |
+-- "The order for a comparison is 1 to 8, 10, 11, 12"
+abbrev pub comparisonTable : List ℕ → ℕ → ℕ → ℕ → List Row
+comparisonTable v a b lent =
+    vocabularyTable v
+    ++ termRow v a
+    ∷ termRow v b
+    ∷ row 11 (atoms v) (not (leb (atoms v) 12))
+    ∷ row 12 0 (not (leb 512 lent))
+    ∷ []
+
+-- | Each script record in turn | 15 | kind not 1 to 5 | record |
+-- | | 16 | unused word not zero | record |
+-- | | 17 | term rule; record 1 absent or not the constant | record, 1 if absent |
+-- | | 18 | start's w1 over 1; extension's owner, column or position not one that exists, .. | record |
+abbrev pub entryRows : List ℕ → List ℕ → ℕ → List Row
+entryRows v s i =
+    let e = entryAt s i in
+    row 15 i (not (script.kindFits e))
+    ∷ row 16 i (not (script.unusedFits e))
+    ∷ row 17 i (not (script.termFits v s i (lineOf e)))
+    ∷ row 18 i (not (script.lineFits v s i (lineOf e)))
+    ∷ []
+
+-- "A script keeps the form when none of 13, 14, 10 and 15 to 19 applies"
+-- | Script length, after 1 to 8 | 13 | under 16, over 32,768 or no multiple of 16 | 0 |
+-- | Script header, then 10 | 14 | w0, or w4 to w7 | 0 |
+-- | w3, then each step's next | 19 | not 0 and not a later step | record |
+abbrev pub formTable : List ℕ → List ℕ → List Row
+formTable v s =
+    row 13 0 (not (script.lengthFits s))
+    ∷ row 14 0 (not (script.headerFits (entryAt s 0)))
+    ∷ termRow v (queryOf s .a)
+    ∷ termRow v (queryOf s .b)
+    ∷ row 17 1 (not (ltb 1 (entries s)))
+    ∷ rowsInTurn (entryRows v s) 1 (entries s - 1)
+    ++ row 19 0 (not (script.linkFits s 0 (firstStep s)))
+    ∷ rowsInTurn (λ i. row 19 i (not (script.nextFits s i)) ∷ []) 1 (entries s - 1)
+
+-- Along the chain of a script: the steps are read, and the frames kept, as specs/Run of scripts says.
+module _ (v s : List ℕ) where
+  abbrev pub OpenFrames : Type 0
+  OpenFrames = Frames (Literal SkolemTerm)
+
+  abbrev pub framesAfter : OpenFrames → ℕ → OpenFrames
+  framesAfter frames i = stepped (writtenOut v (queryOf s)) frames (stepAt s i)
+
+  -- | Along the chain | 25 | step after all is closed | record |
+  -- | | 20 | no first start, or a later one | record, 0 if no step |
+  -- | | 21 | extension not complementary | record |
+  -- | | 22 | reduction frame or complement | record |
+  -- | | 23 | a 65th frame | record |
+  -- The five at a step after the first.
+  abbrev pub stepRows : OpenFrames → ℕ → List Row
+  stepRows frames i =
+      row 25 i (isNil frames)
+      ∷ row 20 i (isStart (stepAt s i))
+      ∷ row 21 i (not (connects (writtenOut v (queryOf s)) frames (stepAt s i)))
+      ∷ row 22 i (not (reduces (writtenOut v (queryOf s)) frames (stepAt s i)))
+      ∷ row 23 i (not (hasRoom (writtenOut v (queryOf s)) frames (stepAt s i)))
+      ∷ []
+
+  -- "Along the chain the five are tried at each step before the next."
+  -- | Chain's end | 24 | a frame left | last step |
+  unfoldable pub laterRows : OpenFrames → ℕ → List ℕ → List Row
+  laterRows frames last [] = row 24 last (not (isNil frames)) ∷ []
+  laterRows frames last (i ∷ rest) = stepRows frames i ++ laterRows (framesAfter frames i) i rest
+
+  -- The first step has to be a start, and then none of the others applies.
+  unfoldable pub chainTable : List ℕ → List Row
+  chainTable [] = row 20 0 true ∷ []
+  chainTable (i ∷ rest) = row 20 i (not (isStart (stepAt s i))) ∷ laterRows (framesAfter [] i) i rest
+
+-- The order "for a script check [is] 1 to 8, 13, 14, 10, then 15 on"
+abbrev pub scriptTable : List ℕ → List ℕ → List Row
+scriptTable v s = vocabularyTable v ++ formTable v s ++ chainTable v s (chain s)
+
+-- No row of a table applies.
+abbrev pub NoneApplies : List Row → Type 0
+NoneApplies [] = Unit {0}
+NoneApplies (r ∷ rows) = (r .applies ≡ false) × NoneApplies rows
+
+-- "The first that applies in table order is given": a row with number n and place p applies, and none before it does.
+pub record Refuses (rows : List Row) (n p : ℕ) : Type 0 where
+  pub before : List Row
+  pub after : List Row
+  pub splits : rows ≡ before ++ (row n p true ∷ after)
+  pub clear : NoneApplies before
+
+-- "and never otherwise": the answer is a refusal exactly when the table refuses so, and a value exactly when no row applies.
+pub record Follows {A : Type 0} (rows : List Row) (value : A) (answer : Outcome A) : Type 0 where
+  pub refused-only : (n p : ℕ) → answer ≡ refused n p → Refuses rows n p
+  pub refused-always : (n p : ℕ) → Refuses rows n p → answer ≡ refused n p
+  pub accepted-only : (x : A) → answer ≡ accepted x → NoneApplies rows × (x ≡ value)
+  pub accepted-always : NoneApplies rows → answer ≡ accepted value

@@ -1,0 +1,68 @@
+// The library's calls: those of the crates below, with the three demands as their contracts. Each says that the answer is that of
+// the paper's definition, what follows for a caller (specs/Returns.antt), and that lent bytes are as before, or what is there now.
+// That every call ends, on every input, is part of what the prover checks.
+use records::answers::Counted;
+use records::answers::Located;
+use scripts::answers::Judged;
+use types::answers::Compared;
+ghost use mathlib.Core.Path.{_≡_};
+ghost use lib.ListN.{length};
+ghost use Rattle.records.specs.Answers.{counted, located};
+ghost use Rattle.records.specs.Check.{vocabularyCheck};
+ghost use Rattle.records.specs.Call.{recordCall, recordPart, recordPlace};
+ghost use Rattle.types.specs.Answers.{compared};
+ghost use Rattle.types.specs.Comparison.{comparison};
+ghost use Rattle.types.specs.Bitmap.{written};
+ghost use Rattle.scripts.specs.Answers.{judged};
+ghost use Rattle.scripts.specs.Run.{scriptCheck};
+ghost use Rattle.demands.specs.Returns.{VocabularyReturns, OffsetReturns, RecordReturns, ComparisonReturns};
+ghost use Rattle.demands.specs.Returns.{ScriptReturns};
+
+// The vocabulary check.
+pub fn check_vocabulary(v: &[u8]) -> Counted
+    ensures { λ r. ⌜ counted r ≡ vocabularyCheck (now (v .entry)) ⌝ }
+    ensures { λ r. ⌜ VocabularyReturns (now (v .entry)) r ⌝ }
+    ensures { λ _. ⌜ now (v .exit) ≡ now (v .entry) ⌝ }
+{
+    records::check_vocabulary(v)
+}
+
+// Where the record call finds a record, or its refusal.
+pub fn find_record(v: &[u8], number: u32) -> Located
+    ensures { λ r. ⌜ located r ≡ recordCall (now (v .entry)) number ⌝ }
+    ensures { λ r. ⌜ OffsetReturns (now (v .entry)) number r ⌝ }
+    ensures { λ _. ⌜ now (v .exit) ≡ now (v .entry) ⌝ }
+{
+    records::find_record(v, number)
+}
+
+// The record call: a part of the lent vocabulary.
+pub fn record(v: &[u8], number: u32) -> &[u8]
+    ensures { λ r. ⌜ now r ≡ recordPart (now (v .entry)) number ⌝ }
+    ensures { λ r. ⌜ r .ptr ≡ recordPlace (now (v .entry)) number (v .entry .ptr) ⌝ }
+    ensures { λ r. ⌜ RecordReturns (now (v .entry)) number (now r) ⌝ }
+    ensures { λ _. ⌜ now (v .exit) ≡ now (v .entry) ⌝ }
+{
+    records::record(v, number)
+}
+
+// The comparison of the terms a and b.
+pub fn compare(v: &[u8], a: u32, b: u32, lent: &mut [u8]) -> Compared
+    ensures { λ r. ⌜ compared r ≡ comparison (now (v .entry)) a b (length (now (lent .entry))) ⌝ }
+    ensures { λ _. ⌜ now (lent .exit)
+        ≡ written (comparison (now (v .entry)) a b (length (now (lent .entry)))) (now (v .entry)) (now (lent .entry)) ⌝ }
+    ensures { λ r. ⌜ ComparisonReturns (now (v .entry)) a b (now (lent .entry)) (now (lent .exit)) r ⌝ }
+    ensures { λ _. ⌜ now (v .exit) ≡ now (v .entry) ⌝ }
+{
+    types::compare(v, a, b, lent)
+}
+
+// The script check.
+pub fn check_script(v: &[u8], s: &[u8]) -> Judged
+    ensures { λ r. ⌜ judged r ≡ scriptCheck (now (v .entry)) (now (s .entry)) ⌝ }
+    ensures { λ r. ⌜ ScriptReturns (now (v .entry)) (now (s .entry)) r ⌝ }
+    ensures { λ _. ⌜ now (v .exit) ≡ now (v .entry) ⌝ }
+    ensures { λ _. ⌜ now (s .exit) ≡ now (s .entry) ⌝ }
+{
+    scripts::check_script(v, s)
+}
