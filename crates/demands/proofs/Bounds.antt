@@ -11,13 +11,13 @@ use native.Mathlib.Omega.{arith}
 use mathlib.Core.Path.{_≡_, refl, sym, subst, _∙_}
 use mathlib.Core.Bool.{Bool, true, false, not}
 use mathlib.Core.List.{List, [], _∷_, _++_}
-use lib.ListN.{length, getD, drop}
+use lib.ListN.{getD, drop}
 use lib.Seq.{getD-take, getD-drop}
 use lib.Dec.{ltb}
 use borrow.Author.Tests.{ltb-true}
 use Rattle.records.specs.Outcome.{Outcome, Check, accepted, refused, pass, _then_, require}
 use Rattle.records.specs.Format.{recordSize, recordLimit, count}
-use Rattle.records.specs.Check.{lengthFits, recordsCheck, vocabularyCheck}
+use Rattle.records.specs.Check.{lengthFits, vocabularyCheck}
 use Rattle.records.specs.Call.{recordCall}
 use Rattle.records.specs.Atoms.{atoms}
 use Rattle.records.proofs.Passed.{clash, Sized, require-passed, length-passed}
@@ -26,7 +26,7 @@ use Rattle.records.proofs.Ranks.{rank-bound}
 use Rattle.types.specs.Below.{members}
 use Rattle.types.specs.Types.{types}
 use Rattle.types.specs.Survivors.{rounds, survivors}
-use Rattle.types.specs.Compare.{Verdict, equal, different, typeLimit, verdict, comparison}
+use Rattle.types.specs.Compare.{Verdict, equal, different, typeLimit, comparison}
 use Rattle.types.proofs.Sets.{members-bound}
 use Rattle.types.proofs.Turns.{types-bound}
 use Rattle.types.proofs.Largest.{stage-length, survivors-serving}
@@ -37,9 +37,9 @@ use Rattle.scripts.specs.Form as script
 use Rattle.scripts.specs.Run.{scriptCheck}
 use Rattle.scripts.proofs.Formed.{OnChain, length-sized, formed, chain-ahead}
 use Rattle.scripts.proofs.Walking.{chain-few}
-use Rattle.demands.specs.Table.{Row, row, rowsInTurn, recordRows, vocabularyTable, recordTable, comparisonTable}
+use Rattle.demands.specs.Table.{Row, rowsInTurn, recordRows, vocabularyTable, comparisonTable}
 use Rattle.demands.specs.Table.{entryRows, formTable, OpenFrames, framesAfter, stepRows, laterRows, chainTable}
-use Rattle.demands.specs.Table.{scriptTable, NoneApplies, Refuses, Follows}
+use Rattle.demands.specs.Table.{NoneApplies, Refuses, Follows}
 use Rattle.demands.proofs.Rows.{first, none-passed, refuses-first}
 use Rattle.demands.proofs.Tables.{form-is, vocabulary-follows, record-follows, comparison-follows, script-follows}
 

@@ -8,7 +8,7 @@ use mathlib.Core.Bool.{_&&_}
 use mathlib.Core.List.{List, [], _∷_}
 use lib.ListN.{length}
 use lib.Dec.{ltb, leb}
-use Rattle.records.specs.Outcome.{Outcome, Check, accepted, refused, pass, _then_, require}
+use Rattle.records.specs.Outcome.{Outcome, Check, accepted, refused, _then_, require}
 use Rattle.records.specs.Format.{recordAt, count, firstStatement}
 use Rattle.records.specs.Kinds.{sortsOf, isTerm}
 use Rattle.records.specs.Check.{lengthFits, lengthCheck, headerFits, kindFits, rowFits, recordCheck, linkFits, nextFits, linkCheck}

@@ -5,7 +5,7 @@ use mathlib.Core.Path.{_≡_}
 use mathlib.Core.Bool.{true, not}
 use mathlib.Core.List.{List, [], map}
 use lib.ListN.{length}
-use Rattle.records.specs.Outcome.{Outcome, accepted, refused, pass}
+use Rattle.records.specs.Outcome.{accepted, refused, pass}
 use Rattle.records.specs.Format.{count}
 use Rattle.records.specs.Check.{vocabularyCheck}
 use Rattle.records.specs.Call.{recordCall, recordPart}

@@ -65,7 +65,7 @@ termRow v x = row 10 x (not (ltb x (count v) && isTerm (recordAt v x .kind)))
 
 -- | Comparison | 11 | k over 12 | k |
 -- | | 12 | under 512 bytes lent | 0 |
--- "The order for a comparison is 1 to 8, 10, 11, 12"
+-- "The order for a comparison is 1 to 8, 10, 11, 12".
 abbrev pub comparisonTable : List ℕ → ℕ → ℕ → ℕ → List Row
 comparisonTable v a b lent =
     vocabularyTable v
@@ -78,7 +78,8 @@ comparisonTable v a b lent =
 -- | Each script record in turn | 15 | kind not 1 to 5 | record |
 -- | | 16 | unused word not zero | record |
 -- | | 17 | term rule; record 1 absent or not the constant | record, 1 if absent |
--- | | 18 | start's w1 over 1; extension's owner, column or position not one that exists, .. | record |
+-- | | 18 | start's w1 over 1; extension's owner, column or position not one that exists, w3 or a needed w4 not an earlier term
+-- record, w3 not 1 for owner 0, w4 not 0 without y, or a statement off the chain | record |
 abbrev pub entryRows : List ℕ → List ℕ → ℕ → List Row
 entryRows v s i =
     let e = entryAt s i in
@@ -137,7 +138,7 @@ module _ (v s : List ℕ) where
   chainTable [] = row 20 0 true ∷ []
   chainTable (i ∷ rest) = row 20 i (not (isStart (stepAt s i))) ∷ laterRows (framesAfter [] i) i rest
 
--- The order "for a script check [is] 1 to 8, 13, 14, 10, then 15 on"
+-- The order is "for a script check 1 to 8, 13, 14, 10, then 15 on".
 abbrev pub scriptTable : List ℕ → List ℕ → List Row
 scriptTable v s = vocabularyTable v ++ formTable v s ++ chainTable v s (chain s)
 
