@@ -11,8 +11,8 @@ use lib.Dec.{ltb, leb}
 use Rattle.records.specs.Outcome.{Outcome, Check, accepted, refused, _then_, require}
 use Rattle.records.specs.Format.{recordAt, count, firstStatement}
 use Rattle.records.specs.Kinds.{sortsOf, isTerm}
-use Rattle.records.specs.Check.{lengthFits, lengthCheck, headerFits, kindFits, rowFits, recordCheck, linkFits, nextFits, linkCheck}
-use Rattle.records.specs.Check.{recordsCheck, vocabularyCheck}
+use Rattle.records.specs.Check.{lengthFits, lengthCheck, headerFits, kindFits, rowFits, recordCheck, linkFits, nextFits}
+use Rattle.records.specs.Check.{linkCheck, recordsCheck, vocabularyCheck}
 use Rattle.records.specs.Call.{recordCall}
 use Rattle.records.specs.Atoms.{atoms}
 use Rattle.types.specs.Compare.{verdict, termCheck, queryCheck, comparison}
@@ -20,8 +20,9 @@ use Rattle.scripts.specs.Format.{entryAt, entries, queryOf, firstStep, lineOf, 
 use Rattle.scripts.specs.Form as script
 use Rattle.scripts.specs.Run.{isNil, isStart, connects, reduces, hasRoom, stepCheck, run, chainCheck, writtenOut, stepAt}
 use Rattle.scripts.specs.Run.{scriptCheck}
-use Rattle.demands.specs.Table.{Row, recordRows, vocabularyTable, recordTable, termRow, comparisonTable, entryRows}
-use Rattle.demands.specs.Table.{Follows, formTable, OpenFrames, framesAfter, stepRows, laterRows, chainTable, scriptTable}
+use Rattle.demands.specs.Table.{Row, Follows, recordRows, nextRows, vocabularyTable, recordTable, termRow}
+use Rattle.demands.specs.Table.{comparisonTable, entryRows, nextStepRows, formTable, OpenFrames, framesAfter, stepRows}
+use Rattle.demands.specs.Table.{laterRows, chainTable, scriptTable}
 use Rattle.demands.proofs.Rows.{then-assoc, Tries, follows, append-is, row-is, plain-is, last-is, turns-are}
 
 -- what comes after the vocabulary check comes after its rows
@@ -52,7 +53,7 @@ module _ (v : List ℕ) where
       (row-is (headerFits (recordAt v 0)) 2 0
       (append-is (turns-are (recordRows v) (recordCheck v) (count v - 1) 1 record-rows-are)
       (row-is (linkFits v 0 (firstStatement v)) 8 0
-      (turns-are _ (linkCheck v) (count v - 1) 1 (λ i. last-is (nextFits v i) 8 i)))))
+      (turns-are (nextRows v) (linkCheck v) (count v - 1) 1 (λ i. last-is (nextFits v i) 8 i)))))
 
   pub vocabulary-follows : Follows (vocabularyTable v) (count v) (vocabularyCheck v)
   unfolding vocabularyCheck
@@ -86,7 +87,7 @@ module _ (v s : List ℕ) where
   unfolding script.formCheck script.linkCheck
   form-is =
       let entered = turns-are (entryRows v s) (script.entryCheck v s) (entries s - 1) 1 entry-rows-are in
-      let linked = turns-are _ (script.linkCheck s) (entries s - 1) 1 (λ i. last-is (script.nextFits s i) 19 i) in
+      let linked = turns-are (nextStepRows s) (script.linkCheck s) (entries s - 1) 1 (λ i. last-is (script.nextFits s i) 19 i) in
       let b = queryOf s .b in
       let asked = term-is v (queryOf s .a) (last-is (ltb b (count v) && isTerm (recordAt v b .kind)) 10 b) in
       row-is (script.lengthFits s) 13 0

@@ -44,16 +44,23 @@ recordRows v i =
     ∷ row 7 i (not (rowFits v i 7 (sortsOf (r .kind)) r))
     ∷ []
 
+-- | Header A, then each statement's next | 8 | not 0 and not a later statement | record |
+abbrev pub headerLinkRow : List ℕ → Row
+headerLinkRow v = row 8 0 (not (linkFits v 0 (firstStatement v)))
+
+abbrev pub nextRows : List ℕ → ℕ → List Row
+nextRows v i = row 8 i (not (nextFits v i)) ∷ []
+
 -- | Vocabulary length | 1 | under 8, over 4,096 or no multiple of 8 | 0 |
 -- | Its header | 2 | kind, second byte, role count or next | 0 |
--- | Header A, then each statement's next | 8 | not 0 and not a later statement | record |
+-- and then the records, each in turn, and row 8.
 abbrev pub vocabularyTable : List ℕ → List Row
 vocabularyTable v =
     row 1 0 (not (lengthFits v))
     ∷ row 2 0 (not (headerFits (recordAt v 0)))
     ∷ rowsInTurn (recordRows v) 1 (count v - 1)
-    ++ row 8 0 (not (linkFits v 0 (firstStatement v)))
-    ∷ rowsInTurn (λ i. row 8 i (not (nextFits v i)) ∷ []) 1 (count v - 1)
+    ++ headerLinkRow v
+    ∷ rowsInTurn (nextRows v) 1 (count v - 1)
 
 -- | Record call, after 1 | 9 | number past the end | number |
 abbrev pub recordTable : List ℕ → ℕ → List Row
@@ -89,10 +96,17 @@ entryRows v s i =
     ∷ row 18 i (not (script.lineFits v s i (lineOf e)))
     ∷ []
 
--- "A script keeps the form when none of 13, 14, 10 and 15 to 19 applies"
+-- | w3, then each step's next | 19 | not 0 and not a later step | record |
+abbrev pub firstStepRow : List ℕ → Row
+firstStepRow s = row 19 0 (not (script.linkFits s 0 (firstStep s)))
+
+abbrev pub nextStepRows : List ℕ → ℕ → List Row
+nextStepRows s i = row 19 i (not (script.nextFits s i)) ∷ []
+
 -- | Script length, after 1 to 8 | 13 | under 16, over 32,768 or no multiple of 16 | 0 |
 -- | Script header, then 10 | 14 | w0, or w4 to w7 | 0 |
--- | w3, then each step's next | 19 | not 0 and not a later step | record |
+-- and then the records, where record 1 may be absent, each in turn, and row 19. "A script keeps the form when none of 13, 14, 10
+-- and 15 to 19 applies".
 abbrev pub formTable : List ℕ → List ℕ → List Row
 formTable v s =
     row 13 0 (not (script.lengthFits s))
@@ -101,8 +115,8 @@ formTable v s =
     ∷ termRow v (queryOf s .b)
     ∷ row 17 1 (not (ltb 1 (entries s)))
     ∷ rowsInTurn (entryRows v s) 1 (entries s - 1)
-    ++ row 19 0 (not (script.linkFits s 0 (firstStep s)))
-    ∷ rowsInTurn (λ i. row 19 i (not (script.nextFits s i)) ∷ []) 1 (entries s - 1)
+    ++ firstStepRow s
+    ∷ rowsInTurn (nextStepRows s) 1 (entries s - 1)
 
 -- Along the chain of a script: the steps are read, and the frames kept, as specs/Run of scripts says.
 module _ (v s : List ℕ) where
