@@ -16,7 +16,7 @@ use lib.ListN.{getD, drop}
 use lib.Seq.{getD-take, getD-drop}
 use lib.Dec.{ltb}
 use borrow.Author.Tests.{ltb-true}
-use Rattle.records.specs.Outcome.{Outcome, Check, accepted, refused, pass, _then_, require}
+use Rattle.records.specs.Outcome.{Outcome, Check, accepted, refused, _then_, require}
 use Rattle.records.specs.Format.{recordSize, recordLimit, count}
 use Rattle.records.specs.Check.{lengthFits, vocabularyCheck}
 use Rattle.records.specs.Call.{recordCall}
@@ -41,8 +41,8 @@ use Rattle.scripts.proofs.Walking.{chain-few}
 use Rattle.demands.specs.Table.{Row, row, rowsInTurn, recordRows, nextRows, vocabularyTable, recordTable, termRow}
 use Rattle.demands.specs.Table.{comparisonTable, entryRows, firstStepRow, nextStepRows, formTable, OpenFrames, framesAfter}
 use Rattle.demands.specs.Table.{stepRows, laterRows, chainTable, NoneApplies, Refuses, Follows}
-use Rattle.demands.proofs.Rows.{first, none-passed, refuses-first}
-use Rattle.demands.proofs.Tables.{form-is, vocabulary-follows, record-follows, comparison-follows, script-follows}
+use Rattle.demands.proofs.Rows.{first, row-passed, refuses-first}
+use Rattle.demands.proofs.Tables.{form-passed, vocabulary-follows, record-follows, comparison-follows, script-follows}
 
 -- A refusal's number is not 0 and fits a byte, and its place is at most m.
 abbrev pub Near : ℕ → ℕ → ℕ → Type 0
@@ -67,18 +67,13 @@ abbrev Bounded : ℕ → List Row → Type 0
 Bounded m [] = Unit {0}
 Bounded m (r ∷ rows) = Near m (r .number) (r .place) × (r .applies ≡ false → Bounded m rows)
 
--- what was not refused
-fits : (b : Bool) (n p : ℕ) → not b ≡ false → require b n p ≡ pass
-fits true n p e = refl
-fits false n p e = absurd (clash (cc))
-
 -- row 1
 measured : (v : List ℕ) → not (lengthFits v) ≡ false → Sized v
-measured v q = length-passed v (fits (lengthFits v) 1 0 q)
+measured v q = length-passed v (row-passed (lengthFits v) 1 0 q)
 
 -- row 13
 few-entries : (s : List ℕ) → not (script.lengthFits s) ≡ false → entries s ≤ entryLimit
-few-entries s q = omega (arith, length-sized s (fits (script.lengthFits s) 13 0 q) .most)
+few-entries s q = omega (arith, length-sized s (row-passed (script.lengthFits s) 13 0 q) .most)
 
 none-right : (xs ys : List Row) → NoneApplies (xs ++ ys) → NoneApplies ys
 none-right [] ys h = h
@@ -180,7 +175,7 @@ record-small v n =
     small m (record-follows v n) (near-bounded m (recordTable v n) (omega arith))
     (λ none.
     let sized = measured v (none .0) in
-    let below = ltb-true n (count v) (require-passed (ltb n (count v)) 9 n (fits (ltb n (count v)) 9 n (none .1 .0))) in
+    let below = ltb-true n (count v) (require-passed (ltb n (count v)) 9 n (row-passed (ltb n (count v)) 9 n (none .1 .0))) in
     omega arith)
 
 members-types : (v : List ℕ) → members (survivors v) ≤ types v
@@ -233,8 +228,7 @@ chain-within m s (i ∷ is) h a = (omega (arith, a .0 .within), chain-within m s
 -- where no row of the form applies
 kept-form : (v s : List ℕ) → NoneApplies (vocabularyTable v ++ formTable v s) → Formed v s
 kept-form v s none =
-    formed v s
-    (sym (form-is v s .same) ∙ none-passed (formTable v s) (none-right (vocabularyTable v) (formTable v s) none))
+    formed v s (form-passed v s (none-right (vocabularyTable v) (formTable v s) none))
 
 pub script-small : (v s : List ℕ) → Small (mostPlace s) (scriptCheck v s)
 script-small v s =

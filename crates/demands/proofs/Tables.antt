@@ -1,6 +1,7 @@
 -- Each call is its table: it tries the rows in their order and then has a value.
---   records-are, form-is, chain-is                        rows 1 to 8; 13 to 19; 20 to 25
---   vocabulary-follows, record-follows, comparison-follows, script-follows    the four calls
+--   records-are, form-is, chain-is    rows 1 to 8; 13 to 19; 20 to 25
+--   term-passed, form-passed          what row 10, and what the form, lets through
+--   vocabulary-follows, record-follows, comparison-follows, script-follows   the four calls
 -- Assumes nothing.
 use Prim.Native.Nat.{ℕ, _*_, _-_}
 use mathlib.Core.Path.{_≡_, refl, sym, _∙_}
@@ -8,7 +9,7 @@ use mathlib.Core.Bool.{_&&_}
 use mathlib.Core.List.{List, [], _∷_}
 use lib.ListN.{length}
 use lib.Dec.{ltb, leb}
-use Rattle.records.specs.Outcome.{Outcome, Check, accepted, refused, _then_, require}
+use Rattle.records.specs.Outcome.{Outcome, Check, accepted, refused, pass, _then_, require}
 use Rattle.records.specs.Format.{recordAt, count, firstStatement}
 use Rattle.records.specs.Kinds.{sortsOf, isTerm}
 use Rattle.records.specs.Check.{lengthFits, lengthCheck, headerFits, kindFits, rowFits, recordCheck, linkFits, nextFits}
@@ -22,8 +23,9 @@ use Rattle.scripts.specs.Run.{isNil, isStart, connects, reduces, hasRoom, stepC
 use Rattle.scripts.specs.Run.{scriptCheck}
 use Rattle.demands.specs.Table.{Row, Follows, recordRows, nextRows, vocabularyTable, recordTable, termRow}
 use Rattle.demands.specs.Table.{comparisonTable, entryRows, nextStepRows, formTable, OpenFrames, framesAfter, stepRows}
-use Rattle.demands.specs.Table.{laterRows, chainTable, scriptTable}
-use Rattle.demands.proofs.Rows.{then-assoc, Tries, follows, append-is, row-is, plain-is, last-is, turns-are}
+use Rattle.demands.specs.Table.{laterRows, chainTable, scriptTable, TermOf, KeepsForm}
+use Rattle.demands.proofs.Rows.{then-assoc, none-passed, row-passed, Tries, follows}
+use Rattle.demands.proofs.Rows.{append-is, row-is, plain-is, last-is, turns-are}
 
 -- what comes after the vocabulary check comes after its rows
 after-count : {B C : Type 0} (v : List ℕ) (b : Outcome B) (c : Outcome C)
@@ -68,6 +70,9 @@ module _ (v : List ℕ) where
   term-is : (x : ℕ) {rows : List Row} {c : Check} → Tries rows c → Tries (termRow v x ∷ rows) (termCheck v x then c)
   term-is x = row-is (ltb x (count v) && isTerm (recordAt v x .kind)) 10 x
 
+  pub term-passed : (x : ℕ) → TermOf v x → termCheck v x ≡ pass
+  term-passed x h = row-passed (ltb x (count v) && isTerm (recordAt v x .kind)) 10 x (h .0)
+
   pub comparison-follows : (a b lent : ℕ) → Follows (comparisonTable v a b lent) (verdict v a b) (comparison v a b lent)
   unfolding comparison
   comparison-follows a b lent =
@@ -83,7 +88,7 @@ module _ (v s : List ℕ) where
       (row-is (script.unusedFits e) 16 i
       (row-is (script.termFits v s i (lineOf e)) 17 i (last-is (script.lineFits v s i (lineOf e)) 18 i)))
 
-  pub form-is : Tries (formTable v s) (script.formCheck v s)
+  form-is : Tries (formTable v s) (script.formCheck v s)
   unfolding script.formCheck script.linkCheck
   form-is =
       let entered = turns-are (entryRows v s) (script.entryCheck v s) (entries s - 1) 1 entry-rows-are in
@@ -94,6 +99,9 @@ module _ (v s : List ℕ) where
       (row-is (script.headerFits (entryAt s 0)) 14 0
       (append-is asked
       (append-is (row-is (ltb 1 (entries s)) 17 1 entered) (row-is (script.linkFits s 0 (firstStep s)) 19 0 linked))))
+
+  pub form-passed : KeepsForm v s → script.formCheck v s ≡ pass
+  form-passed kept = sym (form-is .same) ∙ none-passed (formTable v s) kept
 
   step-rows-are : (frames : OpenFrames v s) (i : ℕ)
       → Tries (stepRows v s frames i) (stepCheck (writtenOut v (queryOf s)) i frames (stepAt s i))

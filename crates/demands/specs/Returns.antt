@@ -17,12 +17,13 @@ use Rattle.types.specs.declared.answers.Compared.the-variants as compared
 use Rattle.scripts.specs.Format.{queryOf, chain}
 use Rattle.scripts.specs.declared.answers.Judged.{Judged}
 use Rattle.scripts.specs.declared.answers.Judged.the-variants as judged
-use Rattle.demands.specs.Table.{vocabularyTable, recordTable, comparisonTable, scriptTable, NoneApplies, Refuses}
+use Rattle.demands.specs.Table.{vocabularyTable, recordTable, comparisonTable, scriptTable, NoneApplies, AcceptedVocabulary}
+use Rattle.demands.specs.Table.{Refuses}
 use Rattle.demands.specs.Demands.{ChainDerives, Shown}
 
 -- The vocabulary check "answers the number of records, header included".
 abbrev pub VocabularyReturns : List ℕ → Counted → Type 0
-VocabularyReturns v (counted.Records n) = NoneApplies (vocabularyTable v) × (n ≡ count v)
+VocabularyReturns v (counted.Records n) = AcceptedVocabulary v × (n ≡ count v)
 VocabularyReturns v (counted.Refused n p) = Refuses (vocabularyTable v) n p
 
 -- The offset of a record.

@@ -157,7 +157,7 @@ vocabularyTable v =
 abbrev pub recordTable : List ℕ → ℕ → List Row
 recordTable v number = lengthRow v ∷ numberRow v number ∷ []
 
--- "The order for a comparison is 1 to 8, 10, 11, 12;
+-- "The order for a comparison is 1 to 8, 10, 11, 12":
 abbrev pub comparisonTable : List ℕ → ℕ → ℕ → ℕ → List Row
 comparisonTable v a b lent =
     vocabularyTable v
@@ -167,7 +167,7 @@ comparisonTable v a b lent =
     ∷ lentRow lent
     ∷ []
 
--- for a script check 1 to 8, 13, 14, 10, then 15 on."
+-- "for a script check 1 to 8, 13, 14, 10, then 15 on", of which 13 to 19 are the form:
 abbrev pub formTable : List ℕ → List ℕ → List Row
 formTable v s =
     scriptLengthRow s
@@ -186,6 +186,18 @@ scriptTable v s = vocabularyTable v ++ formTable v s ++ chainTable v s (chain s)
 abbrev pub NoneApplies : List Row → Type 0
 NoneApplies [] = Unit {0}
 NoneApplies (r ∷ rows) = (r .applies ≡ false) × NoneApplies rows
+
+-- "A vocabulary is accepted when no refusal of the vocabulary check applies to it (here 1 to 8)"
+abbrev pub AcceptedVocabulary : List ℕ → Type 0
+AcceptedVocabulary v = NoneApplies (vocabularyTable v)
+
+-- "its terms are its records of kinds 1 to 8": row 10 does not apply.
+abbrev pub TermOf : List ℕ → ℕ → Type 0
+TermOf v x = NoneApplies (termRow v x ∷ [])
+
+-- "A script keeps the form when none of 13, 14, 10 and 15 to 19 applies"
+abbrev pub KeepsForm : List ℕ → List ℕ → Type 0
+KeepsForm v s = NoneApplies (formTable v s)
 
 -- "The first that applies in table order is given": a row with number n and place p applies, and none before it does.
 pub record Refuses (rows : List Row) (n p : ℕ) : Type 0 where
