@@ -7,7 +7,7 @@
 set -eu
 bench=$(CDPATH='' cd -- "$(dirname -- "$0")" && pwd)
 
-for part in run compare script; do
+for part in vocabulary comparison script; do
     printf '## %s\n\n' "$part"
     "$bench/$part.sh" "$@"
     "$bench/$part.sh" --instructions "$@"

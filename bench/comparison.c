@@ -1,15 +1,15 @@
-/* Benchmark of the comparison: the library beside C by the same algorithm (fast.c) and by the
- * definitions' words (literal.c).
+/* Benchmark of the comparison: the library beside C by the same algorithm (comparison_fast.c) and by
+ * the definitions' words (comparison_literal.c).
  *
  *   comparison DATA            compare the answers and bytes, then print a table of times
- *   comparison DATA --agree    compare them only, without the slowest calls of literal.c
+ *   comparison DATA --agree    compare them only, without the slowest calls of comparison_literal.c
  *   comparison DATA --count    make each call once, in `counted`, for counting instructions;
  *                              a line for each call tells which it was
  *
  * DATA: the directory with the stored vocabularies.
  * Exit status: 0 done, 1 the answers differ, 2 bad usage or a file is missing. */
+#include "comparison_questions.h"
 #include "judge.h"
-#include "questions.h"
 
 #include <inttypes.h>
 #include <stdio.h>
@@ -202,7 +202,7 @@ static int benchmark(const struct question *questions)
 
 /* --- instructions --- */
 
-/* bench/compare.sh counts what happens in here, call by call. */
+/* bench/comparison.sh counts what happens in here, call by call. */
 static __attribute__((noinline)) uint64_t counted(const struct question *question, int version,
                                                   uint8_t *buffer)
 {

@@ -12,7 +12,7 @@ set -eu
 # shellcheck source-path=SCRIPTDIR
 . "$(dirname -- "$0")/common.sh"
 
-compile scripts shapes proofs judged plain support
+compile script script_shapes script_proofs script_plain vocabulary_plain support
 
 case $mode in
 time) "$program"; exit ;;

@@ -2,7 +2,7 @@
 #ifndef SUPPORT_H
 #define SUPPORT_H
 
-#include "plain.h"
+#include "vocabulary_plain.h"
 
 #include <stdbool.h>
 

@@ -27,7 +27,7 @@ static int refused(const char *name, uint64_t answer)
 {
     printf("%s: refused, %u, place %u: %s\n", name, judge_refusal(answer), judge_place(answer),
            judge_sentence(judge_refusal(answer)));
-    return judge_refusal(answer) < 20 ? 2 : 1; /* from 20 on the input is fit, and its chain is no derivation */
+    return judge_refusal(answer) < 20 ? 2 : 1; /* from 20 on the input is fit, and its chain refused */
 }
 
 static int check(const char *name, const uint8_t *vocabulary, size_t length)

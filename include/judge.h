@@ -1,6 +1,7 @@
-/* The duty vocabulary judge: settles lines such as "term 4 equals term 3" of customs vocabularies in the description
- * logic ALC, for all consignments that could ever exist. Link target/staticlib/libjudge.a (`rt staticlib judge` builds
- * it; it needs nothing but memcpy and memset). examples/settle.c is a program that uses all of this.
+/* The duty vocabulary judge: settles whether terms of a customs vocabulary, in the description logic ALC, are equal or
+ * lie one within the other in every finite interpretation that satisfies the vocabulary's statements. Link
+ * target/staticlib/libjudge.a (`rt staticlib judge` builds it; it needs nothing but memcpy and memset).
+ * examples/settle.c is a program that uses all of this.
  *
  * A VOCABULARY is 8-byte records, at most 512: a header, then terms and statements. A term is a name, or made of
  * earlier terms by not, and, or, some, all. A statement says that one term lies within another. A SCRIPT is 16-byte
@@ -16,15 +17,18 @@
  *     else if (judge_different(answer)) tell_apart(judge_element(answer));
  *     else                              equal();
  *
- * PROVED, of the code that runs, for every input: each call ends, reads and writes only what it is lent, keeps no
- * state, and answers what docs/FORMATS.md says (defined in specs/ of each crate). A refusal is the first in the table's
- * order, has the table's number and place, and alters no lent byte. Equal is answered exactly when the terms are equal
- * in every finite interpretation that satisfies the statements; with Different, the bytes written are such an
- * interpretation, in which the element belongs to just one of the terms. A script is accepted exactly when its chain of
- * steps is a derivation, and then its first term lies within its second in every such interpretation. The packing of
- * the answers is proved too.
+ * PROVED, of the Rattle source of the calls, for every input: each call ends, reads and writes only what it is lent,
+ * keeps no state, and answers what specs/ of the crates defines, which docs/FORMATS.md says in words. A refusal is the
+ * first in the table's order, has the table's number and place, and alters no lent byte. Of two terms of an accepted
+ * vocabulary of at most 12 atoms, with at least 512 bytes lent, Equal is answered exactly when they are equal in every
+ * finite interpretation that satisfies the statements; with Different, the bytes written, read back, are such an
+ * interpretation, in which the element belongs to just one of the terms. Over an accepted vocabulary, a script is
+ * accepted exactly when it keeps the form and its chain of steps is a derivation of at most 64 open frames; then its
+ * first term lies within its second in every finite interpretation that satisfies the statements. The packing of the
+ * answers is proved too. crates/demands/specs/Demands.antt states the demands.
  *
- * TRUSTED: the Rattle kit (its logic, its prover, the compiler's back end); this header, which is tested; the caller:
+ * TRUSTED: the Rattle kit (its logic and its prover), and that its back end and the linker make of the source what it
+ * says; this header, which is tested; the caller:
  *   - a pointer has as many readable bytes as the length beside it says, and is not null, even where the length is 0;
  *   - the buffer of a comparison is writable and overlaps no other input; no other thread writes to what is lent;
  *   - a call has JUDGE_STACK_BYTES of stack. There is no recursion and no heap. */
@@ -50,9 +54,9 @@ enum {
     JUDGE_FRAMES = 64              /* the most frames that may be open together while a script is checked */
 };
 
-/* Stack that is enough for any call. Measured (tests/stack.c; the kit's compiler, x86-64): the vocabulary check needs
- * 104 bytes, the record call 8, the comparison 46,184, the script check 2,440, and at most 3,100 more where the
- * program binds memset or memcpy only at the first call. */
+/* Stack that is enough for any call; measured, not proved (tests/stack.c, over the stored cases; the kit's compiler,
+ * x86-64): the vocabulary check needs 104 bytes, the record call 8, the comparison 46,184, the script check 2,440, and
+ * at most 3,100 more where the program binds memset or memcpy only at the first call. */
 enum { JUDGE_STACK_BYTES = 131072 };
 
 /* ---- The calls ---- */
@@ -74,7 +78,8 @@ uint64_t judge_compare(const uint8_t *vocabulary, size_t vocabulary_len, uint32_
 
 /* The script check: does this script prove that its header's A lies within its B, over this vocabulary? Accepted:
  * judge_steps. Nothing is written. Refusals 1 to 8, 13, 14, 10, 15 to 25; with 20 to 25 the script keeps the form, and
- * its chain is no derivation. */
+ * its chain is no derivation of at most 64 open frames; after 23 it may well be one of more. No refusal says that A
+ * does not lie within B. */
 uint64_t judge_check_script(const uint8_t *vocabulary, size_t vocabulary_len, const uint8_t *script, size_t script_len);
 
 /* ---- Answers, taken apart; unused bits are 0 ---- */
@@ -122,8 +127,8 @@ static inline uint32_t judge_element(uint64_t answer)
     return (uint32_t)(answer >> 9 & 0xffff);
 }
 
-/* Bits 25-41 of a comparison: the number of survivors. With none, no interpretation satisfies the statements, and all
- * terms are equal. */
+/* Bits 25-41 of a comparison: the number of survivors. With none, no finite interpretation satisfies the statements,
+ * and all terms are equal. */
 static inline uint32_t judge_survivors(uint64_t answer)
 {
     return (uint32_t)(answer >> 25 & 0x1ffff);

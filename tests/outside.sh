@@ -2,7 +2,7 @@
 # The library through its C boundary beside the second program, on cases that are not stored: vocabularies with record
 # calls, comparisons and scripts, made by five seeds from SEED on, of which each that is new counts once. Answers, all
 # lent bytes, guard bytes and guard pages are compared from C and from C++, and once more for some of the cases under
-# valgrind. Fails where a kind of answer does not come up, or a kind of cases has fewer than 20,000.
+# valgrind. Fails where a kind of answer does not come up, or a subject has fewer than 20,000 cases.
 # usage: tests/outside.sh [SEED]   (target/staticlib/libjudge.a must be built)
 set -eu
 cd "$(dirname "$0")/.."
@@ -11,41 +11,30 @@ second=target/cargo/release/second
 work=$(mktemp -d)
 trap 'rm -rf "$work"' EXIT
 
-# A test, the subcommand that makes its cases, where the stored ones are, and the subcommand for the output expected.
-kinds="boundary:vectors:vectors:expect comparison:comparisons:comparisons:expect-comparisons
-       script:scripts:verdicts:expect-scripts"
-
-# Sets the four names of a kind.
-split() {
-    IFS=: read -r test made stored expect <<end
-$1
-end
-}
-
-# Makes the cases of a kind that are not stored, every so many of them for valgrind, and what is expected.
+# Makes the cases of a subject that are not stored, every so many of them for valgrind, and what is expected.
 make_cases() {
     seed=$first
     while [ "$seed" -lt $((first + seeds)) ]; do
-        "$second" "$made" "$seed" 2> "$work/log" || { cat "$work/log"; exit 1; }
+        "$second" "$subject" "$seed" 2> "$work/log" || { cat "$work/log"; exit 1; }
         seed=$((seed + 1))
     done > "$work/all"
-    "$second" new "$made" "crates/$stored/stdin" < "$work/all" > "$work/$test.cases"
-    "$second" every "$made" $step < "$work/$test.cases" > "$work/$test.few"
+    "$second" new "$subject" "crates/${subject}_cases/stdin" < "$work/all" > "$work/$subject.cases"
+    "$second" every "$subject" $step < "$work/$subject.cases" > "$work/$subject.few"
     for cases in cases few; do
-        "$second" "$expect" < "$work/$test.$cases" > "$work/$test.$cases.expected"
+        "$second" "expect-$subject" < "$work/$subject.$cases" > "$work/$subject.$cases.expected"
     done
 }
 
-# Runs a test from C, from C++, and, of every so many cases, under valgrind; says how many cases agree.
+# Runs a subject's test from C, from C++, and, of every so many cases, under valgrind; says how many cases agree.
 run_test() {
     for compiler in gcc "g++ -x c++"; do
-        $compiler -O2 -Wall -Wextra -Werror -Iinclude -c -o "$work/$test.o" "tests/$test.c"
-        g++ -o "$work/$test" "$work/$test.o" target/staticlib/libjudge.a
-        "$work/$test" "$work/$test.cases" "$work/$test.cases.expected" > "$work/said"
+        $compiler -O2 -Wall -Wextra -Werror -Iinclude -c -o "$work/$subject.o" "tests/$subject.c"
+        g++ -o "$work/$subject" "$work/$subject.o" target/staticlib/libjudge.a
+        "$work/$subject" "$work/$subject.cases" "$work/$subject.cases.expected" > "$work/said"
     done
     few="not under valgrind, which is missing"
     if command -v valgrind > "$work/log"; then
-        few=$(valgrind -q --error-exitcode=1 "$work/$test" "$work/$test.few" "$work/$test.few.expected")
+        few=$(valgrind -q --error-exitcode=1 "$work/$subject" "$work/$subject.few" "$work/$subject.few.expected")
         few="${few#*: } under valgrind"
     fi
     echo "$(cat "$work/said"); $few"
@@ -53,9 +42,9 @@ run_test() {
 
 # The answers expected, a line for each: the call, and the refusal's number or what else it is.
 answers() {
-    awk '{ print "vocabulary", $1; print "record", $3 }' "$work/boundary.cases.expected"
-    for test in comparison script; do
-        awk -v call=$test '{ print call, $1 == "refused" ? $2 : $1 }' "$work/$test.cases.expected"
+    awk '{ print "vocabulary", $1; print "record", $3 }' "$work/vocabulary.cases.expected"
+    for subject in comparison script; do
+        awk -v call=$subject '{ print call, $1 == "refused" ? $2 : $1 }' "$work/$subject.cases.expected"
     done
 }
 
@@ -74,12 +63,11 @@ record 9"
 
 cargo build --release --quiet -p second
 total=0
-for kind in $kinds; do
-    split "$kind"
+for subject in vocabulary comparison script; do
     make_cases
     run_test
-    count=$(wc -l < "$work/$test.cases.expected")
-    [ "$count" -ge $least ] || { echo "outside: $count cases of $test are too few"; exit 1; }
+    count=$(wc -l < "$work/$subject.cases.expected")
+    [ "$count" -ge $least ] || { echo "outside: $count cases of $subject are too few"; exit 1; }
     total=$((total + count))
 done
 answers | sort | uniq -c > "$work/counted"

@@ -3,7 +3,7 @@
  * below the frame that makes the call; where the paint is gone, the call has been. Fails where a call needs more than
  * judge.h says, or where judge.h says more than four times what is needed.
  * Link with -z now: the first call of a function in a shared library may else need stack to find it.
- * usage: stack VECTORS COMPARISONS SCRIPTS */
+ * usage: stack VOCABULARY_CASES COMPARISON_CASES SCRIPT_CASES */
 #define _DEFAULT_SOURCE
 #include <inttypes.h>
 #include <pthread.h>
@@ -148,7 +148,7 @@ int main(int count, char **arguments)
     size_t greatest = 0;
 
     if (count != 4)
-        stop("usage: stack VECTORS COMPARISONS SCRIPTS");
+        stop("usage: stack VOCABULARY_CASES COMPARISON_CASES SCRIPT_CASES");
     on_own_stack(arguments);
     for (int call = 0; call < CALLS; call++) {
         if (made[call] == 0)

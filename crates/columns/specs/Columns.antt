@@ -4,8 +4,8 @@ use mathlib.Core.Bool.{Bool, true, false, cond, not, _||_}
 use mathlib.Core.List.{List, [], _∷_, map}
 use lib.ListN.{getD}
 use Rattle.records.specs.Format.{recordAt}
-use Rattle.records.specs.Kinds.{Construct, none, top, bottom, name, negation, conjunction, disjunction, existential}
-use Rattle.records.specs.Kinds.{universal, inclusion, constructOf, isStatement}
+use Rattle.records.specs.Kinds.{Construct, none, top, bottom, name, negation, conjunction, disjunction, existential, universal}
+use Rattle.records.specs.Kinds.{inclusion, constructOf, isStatement}
 use Rattle.records.specs.Chain.{chained}
 use Rattle.columns.specs.Literals.{SkolemTerm, constant, apply, Literal, concept, role, substitute}
 

@@ -14,9 +14,9 @@ literalHolds I v (concept s i d) = Bool·beq s (belongs I v i d)
 literalHolds I v (role s r d e) = Bool·beq s (I .roles r d e)
 
 -- "read as their conjunction"
-unfoldable pub holds : Interpretation → List ℕ → List (Literal ℕ) → Bool
-holds I v [] = true
-holds I v (l ∷ c) = literalHolds I v l && holds I v c
+unfoldable pub literalsHold : Interpretation → List ℕ → List (Literal ℕ) → Bool
+literalsHold I v [] = true
+literalsHold I v (l ∷ c) = literalHolds I v l && literalsHold I v c
 
 -- "the functions and a", each an element at each element.
 pub record Choice (I : Interpretation) : Type 0 where
@@ -27,7 +27,7 @@ pub record Choice (I : Interpretation) : Type 0 where
 
 -- The column of an owner where x and y are the elements d and e.
 abbrev pub columnHolds : (I : Interpretation) → Choice I → List ℕ → ℕ → ℕ → ℕ → Column → Bool
-columnHolds I k v owner d e c = holds I v (map (substitute (arguments d e (k .function owner d) (k .chosen))) c)
+columnHolds I k v owner d e c = literalsHold I v (map (substitute (arguments d e (k .function owner d) (k .chosen))) c)
 
 -- "no column holds anywhere"
 abbrev pub NoneHolds : (I : Interpretation) → Choice I → List ℕ → Query → Type 0

@@ -1,7 +1,6 @@
 -- Paper 01, "Columns": Literals (literals, written-out terms), Columns (the columns of each owner), Holding (when a column holds
--- in an interpretation).
+-- in an interpretation). Code has what only the code computes with.
 pub mod Literals
 pub mod Columns
 pub mod Holding
--- what the code computes with
-pub mod Packed
+pub mod Code

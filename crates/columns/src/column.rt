@@ -1,7 +1,7 @@
 // A column with its terms put in, and the terms; the shape of a column.
 ghost use mathlib.Core.Path.{_≡_};
 ghost use mathlib.Core.List.{[]};
-ghost use Rattle.columns.specs.Packed.{literals};
+ghost use Rattle.columns.specs.Code.Packed.{literals};
 
 // Up to three literals; 0 stands for none.
 pub struct Column {

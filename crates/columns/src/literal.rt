@@ -2,9 +2,9 @@
 ghost use mathlib.Core.Path.{_≡_};
 ghost use mathlib.Core.Bool.{not};
 ghost use Prim.Native.Nat.{_<_};
-ghost use Rattle.records.specs.Atoms.{digit};
+ghost use Rattle.records.specs.Finite.{digit};
 ghost use Rattle.columns.specs.Literals.{concept, role};
-ghost use Rattle.columns.specs.Packed.{packed, termLimit};
+ghost use Rattle.columns.specs.Code.Packed.{packed, termLimit};
 
 fn digit(b: bool) -> u64
     ensures { λ r. ⌜ r ≡ digit b ⌝ }

@@ -17,7 +17,7 @@ ghost use lib.ListN.{getD};
 ghost use Rattle.records.specs.Format.{recordAt};
 ghost use Rattle.records.specs.Chain.{chained};
 ghost use Rattle.columns.specs.Columns.{Query, within, queryColumns, states, columnAt};
-ghost use Rattle.columns.specs.Packed.{Marked, Fitting, HasShape, packedAt, packedBy, literals};
+ghost use Rattle.columns.specs.Code.Packed.{Marked, Fitting, HasShape, packedAt, packedBy, literals};
 
 // Column n of the query "a within b": it speaks of the constant, whatever x and y are.
 pub fn query_column(a: u16, b: u16, n: u16) -> Column

@@ -21,23 +21,21 @@ use Rattle.records.specs.Format.{recordSize, recordLimit, count}
 use Rattle.records.specs.Check.{lengthFits, vocabularyCheck}
 use Rattle.records.specs.Call.{recordCall}
 use Rattle.records.specs.Atoms.{atoms}
-use Rattle.records.proofs.Passed.{clash, Sized, require-passed, length-passed}
-use Rattle.records.proofs.Accepted.{All}
-use Rattle.records.proofs.Ranks.{rank-bound}
-use Rattle.types.specs.Below.{members}
+use Rattle.records.proofs.Laws.Passed.{clash, Sized, require-passed, length-passed}
+use Rattle.records.proofs.Theorems.Accepted.{All}
+use Rattle.records.proofs.Theorems.Ranks.{rank-bound}
+use Rattle.records.specs.Finite.{members}
 use Rattle.types.specs.Types.{types}
 use Rattle.types.specs.Survivors.{rounds, survivors}
-use Rattle.types.specs.Compare.{Verdict, equal, different, typeLimit, comparison}
-use Rattle.types.proofs.Sets.{members-bound}
-use Rattle.types.proofs.Turns.{types-bound}
-use Rattle.types.proofs.Largest.{stage-length, survivors-serving}
-use Rattle.types.proofs.Verdicts.{answered}
-use Rattle.types.proofs.Comparison.{counts, different-first}
+use Rattle.types.specs.Comparison.{Verdict, equal, different, typeLimit, comparison}
+use Rattle.records.proofs.Laws.Sets.{members-bound}
+use Rattle.types.proofs.Theorems.Survivors.{types-bound, stage-length, survivors-serving}
+use Rattle.types.proofs.Theorems.Verdicts.{answered}
+use Rattle.types.proofs.Theorems.Comparison.{counts, different-first}
 use Rattle.scripts.specs.Format.{entrySize, entryLimit, partAt, entryAt, entries, queryOf, firstStep, chain}
 use Rattle.scripts.specs.Form as script
 use Rattle.scripts.specs.Run.{scriptCheck}
-use Rattle.scripts.proofs.Formed.{OnChain, Formed, length-sized, formed, chain-ahead}
-use Rattle.scripts.proofs.Walking.{chain-few}
+use Rattle.scripts.proofs.Theorems.Form.{OnChain, KeepsForm, length-sized, keeps-form, chain-ahead, chain-few}
 use Rattle.demands.specs.Table.{Row, row, rowsInTurn, recordRows, nextRows, vocabularyTable, recordTable, termRow}
 use Rattle.demands.specs.Table.{comparisonTable, entryRows, firstStepRow, nextStepRows, formTable, OpenFrames, framesAfter}
 use Rattle.demands.specs.Table.{stepRows, laterRows, chainTable, NoneApplies, Refuses, Follows}
@@ -220,15 +218,15 @@ module _ (v : List ℕ) (a b lent : ℕ) where
 abbrev pub mostPlace : List ℕ → ℕ
 mostPlace s = max entryLimit (max (queryOf s .a) (queryOf s .b))
 
--- numbers of the chain of a formed script
+-- numbers of the chain of a script that keeps the form
 chain-within : (m : ℕ) (s : List ℕ) (is : List ℕ) → entries s ≤ m → All (OnChain s) is → All (λ i. i ≤ m) is
 chain-within m s [] h a = tt
 chain-within m s (i ∷ is) h a = (omega (arith, a .0 .within), chain-within m s is h (a .1))
 
 -- where no row of the form applies
-kept-form : (v s : List ℕ) → NoneApplies (vocabularyTable v ++ formTable v s) → Formed v s
+kept-form : (v s : List ℕ) → NoneApplies (vocabularyTable v ++ formTable v s) → KeepsForm v s
 kept-form v s none =
-    formed v s (form-passed v s (none-right (vocabularyTable v) (formTable v s) none))
+    keeps-form v s (form-passed v s (none-right (vocabularyTable v) (formTable v s) none))
 
 pub script-small : (v s : List ℕ) → Small (mostPlace s) (scriptCheck v s)
 script-small v s =

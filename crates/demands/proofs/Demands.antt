@@ -2,9 +2,9 @@
 -- Assumes nothing.
 use lib.ListN.{length}
 use Rattle.records.specs.Format.{count}
-use Rattle.types.specs.Compare.{verdict}
-use Rattle.types.proofs.Verdicts.{answers-always}
-use Rattle.scripts.proofs.Scripts.{checked-parts, accepted-derives, derives-accepted, accepted-within}
+use Rattle.types.specs.Comparison.{verdict}
+use Rattle.types.proofs.Theorems.Verdicts.{answers-always}
+use Rattle.scripts.proofs.Theorems.Scripts.{checked-parts, accepted-derives, derives-accepted, accepted-within}
 use Rattle.demands.specs.Demands.{Demand1, Demand2, Demand3}
 use Rattle.demands.proofs.Tables.{form-passed, term-passed, vocabulary-follows, record-follows}
 use Rattle.demands.proofs.Tables.{comparison-follows, script-follows}

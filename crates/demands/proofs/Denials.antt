@@ -9,14 +9,14 @@ use mathlib.Core.Bool.{Bool, true, false, not}
 use mathlib.Core.List.{List}
 use lib.ListN.{length}
 use Rattle.records.specs.Outcome.{accepted}
-use Rattle.records.proofs.Passed.{clash}
+use Rattle.records.proofs.Laws.Passed.{clash}
 use Rattle.types.specs.Meaning.{Interpretation, Element, belongs, Model, AlwaysWithin}
-use Rattle.types.specs.Compare.{Verdict, equal, different, comparison}
-use Rattle.types.specs.Form.{written, readBack}
-use Rattle.types.proofs.Comparison.{equal-exactly, different-shown}
+use Rattle.types.specs.Comparison.{Verdict, equal, different, comparison}
+use Rattle.types.specs.Bitmap.{written, readBack}
+use Rattle.types.proofs.Theorems.Comparison.{equal-exactly, different-shown}
 use Rattle.scripts.specs.Format.{queryOf}
 use Rattle.scripts.specs.Run.{scriptCheck}
-use Rattle.scripts.proofs.Scripts.{accepted-within}
+use Rattle.scripts.proofs.Theorems.Scripts.{accepted-within}
 use Rattle.demands.specs.Demands.{Unproved, Shown, Right}
 
 denied : (I : Interpretation) (v : List ℕ) (a b t : ℕ) → Model I v → Element I t → belongs I v a t ≡ true

@@ -14,20 +14,20 @@ use Rattle.records.specs.declared.answers.Counted.{Counted}
 use Rattle.records.specs.declared.answers.Counted.the-variants as counted
 use Rattle.records.specs.declared.answers.Located.{Located}
 use Rattle.records.specs.declared.answers.Located.the-variants as located
-use Rattle.records.proofs.Bounds.{record-within}
-use Rattle.types.specs.Below.{members}
+use Rattle.records.proofs.Theorems.Bounds.{record-within}
+use Rattle.records.specs.Finite.{members}
 use Rattle.types.specs.Survivors.{survivors, rounds}
-use Rattle.types.specs.Compare.{Verdict, equal, different, comparison}
-use Rattle.types.specs.Form.{written}
+use Rattle.types.specs.Comparison.{Verdict, equal, different, comparison}
+use Rattle.types.specs.Bitmap.{written}
 use Rattle.types.specs.Answers as types
 use Rattle.types.specs.declared.answers.Compared.{Compared}
 use Rattle.types.specs.declared.answers.Compared.the-variants as compared
-use Rattle.types.proofs.Comparison.{counts}
+use Rattle.types.proofs.Theorems.Comparison.{counts}
 use Rattle.scripts.specs.Run.{scriptCheck}
 use Rattle.scripts.specs.Answers as scripts
 use Rattle.scripts.specs.declared.answers.Judged.{Judged}
 use Rattle.scripts.specs.declared.answers.Judged.the-variants as judged
-use Rattle.scripts.proofs.Scripts.{checked-parts, accepted-derives, accepted-within}
+use Rattle.scripts.proofs.Theorems.Scripts.{checked-parts, accepted-derives, accepted-within}
 use Rattle.demands.specs.Returns.{VocabularyReturns, OffsetReturns, RecordReturns, handed, empty, EitherAnswer}
 use Rattle.demands.specs.Returns.{ComparisonReturns, ScriptReturns}
 use Rattle.demands.proofs.Tables.{vocabulary-follows, record-follows, comparison-follows, script-follows}

@@ -16,14 +16,14 @@ use Rattle.records.specs.Check.{lengthFits, lengthCheck, headerFits, kindFits, 
 use Rattle.records.specs.Check.{linkCheck, recordsCheck, vocabularyCheck}
 use Rattle.records.specs.Call.{recordCall}
 use Rattle.records.specs.Atoms.{atoms}
-use Rattle.types.specs.Compare.{verdict, termCheck, queryCheck, comparison}
+use Rattle.types.specs.Comparison.{verdict, termCheck, queryCheck, comparison}
 use Rattle.scripts.specs.Format.{entryAt, entries, queryOf, firstStep, lineOf, chain}
 use Rattle.scripts.specs.Form as script
-use Rattle.scripts.specs.Run.{isNil, isStart, connects, reduces, hasRoom, stepCheck, run, chainCheck, writtenOut, stepAt}
-use Rattle.scripts.specs.Run.{scriptCheck}
+use Rattle.records.specs.Finite.{isNil}
+use Rattle.scripts.specs.Run.{isStart, connects, reduces, hasRoom, stepCheck, run, chainCheck, writtenOut, stepAt, scriptCheck}
 use Rattle.demands.specs.Table.{Row, Follows, recordRows, nextRows, vocabularyTable, recordTable, termRow}
 use Rattle.demands.specs.Table.{comparisonTable, entryRows, nextStepRows, formTable, OpenFrames, framesAfter, stepRows}
-use Rattle.demands.specs.Table.{laterRows, chainTable, scriptTable, TermOf, KeepsForm}
+use Rattle.demands.specs.Table.{laterRows, chainTable, scriptTable, TermOf, InForm}
 use Rattle.demands.proofs.Rows.{then-assoc, none-passed, row-passed, Tries, follows}
 use Rattle.demands.proofs.Rows.{append-is, row-is, plain-is, last-is, turns-are}
 
@@ -100,7 +100,7 @@ module _ (v s : List ℕ) where
       (append-is asked
       (append-is (row-is (ltb 1 (entries s)) 17 1 entered) (row-is (script.linkFits s 0 (firstStep s)) 19 0 linked))))
 
-  pub form-passed : KeepsForm v s → script.formCheck v s ≡ pass
+  pub form-passed : InForm v s → script.formCheck v s ≡ pass
   form-passed kept = sym (form-is .same) ∙ none-passed (formTable v s) kept
 
   step-rows-are : (frames : OpenFrames v s) (i : ℕ)

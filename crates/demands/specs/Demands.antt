@@ -11,13 +11,13 @@ use Rattle.records.specs.Check.{vocabularyCheck}
 use Rattle.records.specs.Call.{recordCall, recordPart}
 use Rattle.records.specs.Atoms.{atoms}
 use Rattle.types.specs.Meaning.{Interpretation, Element, belongs, Model, AlwaysEqual, AlwaysWithin}
-use Rattle.types.specs.Compare.{Verdict, equal, different, verdict, comparison}
-use Rattle.types.specs.Form.{written, readBack}
+use Rattle.types.specs.Comparison.{Verdict, equal, different, verdict, comparison}
+use Rattle.types.specs.Bitmap.{written, readBack}
 use Rattle.scripts.specs.Format.{queryOf, chain}
 use Rattle.scripts.specs.Calculus.{Derives}
 use Rattle.scripts.specs.Run.{stepAt, scriptCheck}
 use Rattle.demands.specs.Table.{vocabularyTable, recordTable, comparisonTable, scriptTable, Follows}
-use Rattle.demands.specs.Table.{AcceptedVocabulary, TermOf, KeepsForm}
+use Rattle.demands.specs.Table.{AcceptedVocabulary, TermOf, InForm}
 
 -- Demand 1: "Every call ends on every input, refuses unfit input itself by a fixed number and place, and a refusal alters no
 -- lent byte." Each call follows its table; otherwise it answers the number of records, the record's offset, the verdict, the
@@ -45,7 +45,7 @@ pub record Exact (v s : List ℕ) : Type 0 where
 -- Demand 2: that, and "acceptance means that the first term lies within the second in every finite interpretation satisfying the
 -- statements", whoever proposed the script and whatever the bytes are.
 pub record Demand2 : Type 0 where
-  pub exact : (v s : List ℕ) → AcceptedVocabulary v → KeepsForm v s → Exact v s
+  pub exact : (v s : List ℕ) → AcceptedVocabulary v → InForm v s → Exact v s
   pub means : (v s : List ℕ) (n : ℕ) → scriptCheck v s ≡ accepted n → AlwaysWithin v (queryOf s .a) (queryOf s .b)
 
 -- No script that asks whether a lies within b is accepted.

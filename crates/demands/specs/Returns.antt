@@ -8,10 +8,10 @@ use Rattle.records.specs.declared.answers.Counted.{Counted}
 use Rattle.records.specs.declared.answers.Counted.the-variants as counted
 use Rattle.records.specs.declared.answers.Located.{Located}
 use Rattle.records.specs.declared.answers.Located.the-variants as located
-use Rattle.types.specs.Below.{members}
+use Rattle.records.specs.Finite.{members}
 use Rattle.types.specs.Meaning.{AlwaysEqual, AlwaysWithin}
 use Rattle.types.specs.Survivors.{survivors, rounds}
-use Rattle.types.specs.Form.{form, readBack}
+use Rattle.types.specs.Bitmap.{bitmap, readBack}
 use Rattle.types.specs.declared.answers.Compared.{Compared}
 use Rattle.types.specs.declared.answers.Compared.the-variants as compared
 use Rattle.scripts.specs.Format.{queryOf, chain}
@@ -43,7 +43,7 @@ pub record EitherAnswer (v : List ℕ) (a b : ℕ) (before after : List ℕ) (al
   pub none : NoneApplies (comparisonTable v a b (length before))
   pub counted : alive ≡ members (survivors v)
   pub elapsed : done ≡ rounds v
-  pub wrote : after ≡ form v ++ drop 512 before
+  pub wrote : after ≡ bitmap v ++ drop 512 before
 
 -- Equal: in every finite interpretation satisfying the statements. Different: not so, and the bytes after the call, read back,
 -- show it by the element. Refused: the bytes are as they were.

@@ -5,8 +5,8 @@ use mathlib.Core.Path.{_≡_}
 use mathlib.Core.List.{List, [], _∷_, map}
 use lib.ListN.{take}
 use Rattle.records.specs.Outcome.{Outcome, accepted, refused}
-use Rattle.types.specs.Compare.{Verdict, equal, different, comparison}
-use Rattle.types.specs.Form.{form}
+use Rattle.types.specs.Comparison.{Verdict, equal, different, comparison}
+use Rattle.types.specs.Bitmap.{bitmap}
 use Rattle.scripts.specs.Run.{scriptCheck}
 
 -- the eight bytes of a vocabulary record, and the sixteen of a script record in two halves, whose numbers are under 256
@@ -67,7 +67,7 @@ pub data Answer : Type 0 where
   judgments : Outcome ℕ → Answer
 
 abbrev pub answer : Question → Answer
-answer (compares v a b) = verdicts (comparison v a b 512) (take 2 (form v))
+answer (compares v a b) = verdicts (comparison v a b 512) (take 2 (bitmap v))
 answer (checks v s) = judgments (scriptCheck v s)
 
 abbrev pub says : Verdict → ℕ → ℕ → Answer

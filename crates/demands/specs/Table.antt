@@ -14,7 +14,8 @@ use Rattle.records.specs.Atoms.{atoms}
 use Rattle.columns.specs.Literals.{SkolemTerm, Literal}
 use Rattle.scripts.specs.Format.{entryAt, entries, queryOf, firstStep, lineOf, chain}
 use Rattle.scripts.specs.Form as script
-use Rattle.scripts.specs.Run.{Frames, isNil, isStart, connects, reduces, hasRoom, stepped, writtenOut, stepAt}
+use Rattle.scripts.specs.Run.{Frames, isStart, connects, reduces, hasRoom, stepped, writtenOut, stepAt}
+use Rattle.records.specs.Finite.{isNil}
 
 pub record Row : Type 0 where
   pub number : ℕ
@@ -196,8 +197,8 @@ abbrev pub TermOf : List ℕ → ℕ → Type 0
 TermOf v x = NoneApplies (termRow v x ∷ [])
 
 -- "A script keeps the form when none of 13, 14, 10 and 15 to 19 applies"
-abbrev pub KeepsForm : List ℕ → List ℕ → Type 0
-KeepsForm v s = NoneApplies (formTable v s)
+abbrev pub InForm : List ℕ → List ℕ → Type 0
+InForm v s = NoneApplies (formTable v s)
 
 -- "The first that applies in table order is given": a row with number n and place p applies, and none before it does.
 pub record Refuses (rows : List Row) (n p : ℕ) : Type 0 where

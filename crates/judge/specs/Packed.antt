@@ -2,14 +2,14 @@
 use Prim.Native.Nat.{ℕ, _+_, _*_, _^_}
 use mathlib.Core.Bool.{Bool, true, false}
 use Rattle.records.specs.Outcome.{Outcome, accepted, refused}
-use Rattle.types.specs.Compare.{Verdict, equal, different}
+use Rattle.types.specs.Comparison.{Verdict, equal, different}
 
--- "Bits 0-7: the refusal number, 0 where there is none."
+-- Bits 0 to 7 are the refusal's number, 0 where there is none.
 abbrev pub numberOf : Outcome ℕ → ℕ
 numberOf (accepted value) = 0
 numberOf (refused number place) = number
 
--- "Bits 8-39 the place", or the value answered.
+-- Bits 8 to 39 are the place, or the value answered.
 abbrev pub valueOf : Outcome ℕ → ℕ
 valueOf (accepted value) = value
 valueOf (refused number place) = place
@@ -22,7 +22,7 @@ abbrev pub flag : Bool → ℕ
 flag true = 1
 flag false = 0
 
--- "Bit 8: 0 Equal, 1 Different; bits 9-24 the element, bits 25-41 the survivors, bits 42-58 the rounds."
+-- Bit 8 is 0 for Equal and 1 for Different; bits 9 to 24 the element, 25 to 41 the survivors, 42 to 58 the rounds.
 abbrev pub packedParts : Bool → ℕ → ℕ → ℕ → ℕ
 packedParts differs element survivors rounds = 2 ^ 8 * flag differs + 2 ^ 9 * element + 2 ^ 25 * survivors + 2 ^ 42 * rounds
 

@@ -9,8 +9,8 @@ ghost use Prim.Native.Nat.{_+_, _*_, _<_, _^_};
 ghost use lib.ListN.{length};
 ghost use Rattle.records.specs.Check.{vocabularyCheck};
 ghost use Rattle.records.specs.Call.{recordCall};
-ghost use Rattle.types.specs.Compare.{comparison};
-ghost use Rattle.types.specs.Form.{written};
+ghost use Rattle.types.specs.Comparison.{comparison};
+ghost use Rattle.types.specs.Bitmap.{written};
 ghost use Rattle.scripts.specs.Run.{scriptCheck};
 ghost use Rattle.judge.specs.Packed.{packed, flag, packedParts, packedVerdict};
 

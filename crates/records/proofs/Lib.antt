@@ -1,12 +1,4 @@
--- Laws about the definitions of specs/ that more than one proof cites.
-pub mod Order
-pub mod Ranges
-pub mod Rows
-pub mod Passed
-pub mod Search
-pub mod Bounds
-pub mod Accepted
-pub mod Constructs
-pub mod Following
-pub mod Chains
-pub mod Ranks
+-- Proofs that belong to no one function; those of a function stand in the folder of its module.
+pub mod Laws
+pub mod Theorems
+mod Refinement

@@ -2,13 +2,9 @@
 use Prim.Native.Nat.{ℕ, zero, suc, _+_}
 use mathlib.Core.Bool.{Bool, true, false}
 use mathlib.Core.List.{List}
+use Rattle.records.specs.Finite.{digit}
 use Rattle.records.specs.Format.{recordAt, count}
 use Rattle.records.specs.Kinds.{isAtom}
-
--- 1 for true, 0 for false.
-abbrev pub digit : Bool → ℕ
-digit true = 1
-digit false = 0
 
 -- "Atoms are the records of kinds 3, 7 and 8, numbered from 0 in record order": an atom's number, the atoms before record i.
 unfoldable pub rank : List ℕ → ℕ → ℕ

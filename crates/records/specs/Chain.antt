@@ -3,6 +3,7 @@ use Prim.Native.Nat.{ℕ, zero, suc}
 use mathlib.Core.Bool.{Bool, false, _||_}
 use mathlib.Core.List.{List, [], _∷_}
 use lib.Dec.{eqb}
+use Rattle.records.specs.Finite.{occurs}
 use Rattle.records.specs.Format.{recordAt, count, firstStatement}
 
 -- "Chains run by next, and zero ends the chain.": the records from i on, at most n of them.
@@ -21,10 +22,6 @@ chainFrom v i = follow (nextStatement v) (count v) i
 -- "A the first statement or 0"
 abbrev pub chain : List ℕ → List ℕ
 chain v = chainFrom v (firstStatement v)
-
-unfoldable pub occurs : ℕ → List ℕ → Bool
-occurs i [] = false
-occurs i (x ∷ xs) = eqb i x || occurs i xs
 
 -- Record i is a statement on the chain. "A statement off the chain is checked but states nothing."
 abbrev pub chained : List ℕ → ℕ → Bool

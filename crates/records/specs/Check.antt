@@ -5,6 +5,7 @@ use mathlib.Core.Bool.{Bool, false, not, _&&_, _||_}
 use mathlib.Core.List.{List}
 use lib.ListN.{length}
 use lib.Dec.{ltb, leb, eqb}
+use Rattle.records.specs.Finite.{anyBelow}
 use Rattle.records.specs.Outcome.{Outcome, Check, accepted, pass, _then_, require, inTurn}
 use Rattle.records.specs.Format.{recordSize, recordLimit, roleLimit, recordAt, count, firstStatement, roleCount}
 use Rattle.records.specs.Kinds.{Sorts, isTerm, isStatement, sortsOf, kinds}
@@ -35,11 +36,6 @@ kindFits r = leb 1 (r .kind) && (ltb (r .kind) (length kinds) && eqb (r .second)
 abbrev pub kindCheck : Record → ℕ → Check
 kindCheck r i = require (kindFits r) 3 i
 
--- Whether a test holds at a number below n.
-unfoldable pub anyBelow : (ℕ → Bool) → ℕ → Bool
-anyBelow test zero = false
-anyBelow test (suc n) = anyBelow test n || test n
-
 -- record j is a name with this label
 abbrev pub named : List ℕ → ℕ → ℕ → Bool
 named v label j = eqb (recordAt v j .kind) 3 && eqb (recordAt v j .a) label
@@ -57,12 +53,12 @@ abbrev pub linkFits : List ℕ → ℕ → ℕ → Bool
 linkFits v i x = eqb x 0 || (ltb i x && (ltb x (count v) && isStatement (recordAt v x .kind)))
 
 -- Whether x may stand in a field of record i that holds this sort.
-abbrev pub fits : List ℕ → ℕ → Sort → ℕ → Bool
-fits v i Spare x = eqb x 0
-fits v i Term x = termFits v i x
-fits v i Role x = ltb x (roleCount v)
-fits v i Label x = not (labelled v i x)
-fits v i Link x = linkFits v i x
+abbrev pub sortFits : List ℕ → ℕ → Sort → ℕ → Bool
+sortFits v i Spare x = eqb x 0
+sortFits v i Term x = termFits v i x
+sortFits v i Role x = ltb x (roleCount v)
+sortFits v i Label x = not (labelled v i x)
+sortFits v i Link x = linkFits v i x
 
 -- The row that speaks of a field of this sort: 4 "unused field not zero", 5 "term number", 6 "role not below the count",
 -- 7 "label of an earlier name", 8 "not 0 and not a later statement".
@@ -75,7 +71,7 @@ row Link = 8
 
 -- Row n has nothing against x in a field of record i that holds this sort.
 abbrev pub clear : List ℕ → ℕ → ℕ → Sort → ℕ → Bool
-clear v i n sort x = not (eqb (row sort) n) || fits v i sort x
+clear v i n sort x = not (eqb (row sort) n) || sortFits v i sort x
 
 abbrev pub rowFits : List ℕ → ℕ → ℕ → Sorts → Record → Bool
 rowFits v i n s r = clear v i n (s .a) (r .a) && (clear v i n (s .b) (r .b) && clear v i n (s .next) (r .next))

@@ -21,26 +21,26 @@ pub record Sorts : Type 0 where
   pub b : Sort
   pub next : Sort
 
-abbrev pub holds : Sort → Sort → Sort → Sorts
-holds a b next = record { a = a; b = b; next = next }
+abbrev pub sorts : Sort → Sort → Sort → Sorts
+sorts a b next = record { a = a; b = b; next = next }
 
 abbrev pub constantFields : Sorts
-constantFields = holds Spare Spare Spare
+constantFields = sorts Spare Spare Spare
 
 abbrev pub nameFields : Sorts
-nameFields = holds Label Spare Spare
+nameFields = sorts Label Spare Spare
 
 abbrev pub negationFields : Sorts
-negationFields = holds Term Spare Spare
+negationFields = sorts Term Spare Spare
 
 abbrev pub junctionFields : Sorts
-junctionFields = holds Term Term Spare
+junctionFields = sorts Term Term Spare
 
 abbrev pub restrictionFields : Sorts
-restrictionFields = holds Role Term Spare
+restrictionFields = sorts Role Term Spare
 
 abbrev pub inclusionFields : Sorts
-inclusionFields = holds Term Term Link
+inclusionFields = sorts Term Term Link
 
 -- What the records of a kind are: terms by top, bottom, not, and, or; names; restrictions (a role to a term); statements; or
 -- none of these, and then they say nothing of an element.

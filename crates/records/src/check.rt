@@ -14,13 +14,13 @@ ghost use mathlib.Core.Bool.{cond, _&&_};
 ghost use lib.ListN.{length};
 ghost use Rattle.records.specs.Outcome.{inTurn};
 ghost use Rattle.records.specs.Answers.{checked, counted};
-ghost use Rattle.records.specs.Format.{recordSize, recordAt, recordOf, roleCount, count};
+ghost use Rattle.records.specs.Format.{recordSize, recordOf, roleCount, count};
 ghost use Rattle.records.specs.Kinds as kinds;
 ghost use Rattle.records.specs.Kinds.{sortsOf};
 ghost use Rattle.records.specs.Check.{lengthFits, lengthCheck, headerFits, headerCheck, kindFits, kindCheck, named};
-ghost use Rattle.records.specs.Check.{labelled, termFits, linkFits, row, rowsCheck, fieldsCheck, recordCheck};
-ghost use Rattle.records.specs.Check.{linkCheck, linksCheck, recordsCheck, vocabularyCheck};
-ghost use Rattle.records.specs.Fields.{fieldFits, allFit, noFault, firstOf, AtRecord};
+ghost use Rattle.records.specs.Check.{labelled, termFits, linkFits, row, rowsCheck, fieldsCheck, recordCheck, linkCheck};
+ghost use Rattle.records.specs.Check.{linksCheck, recordsCheck, vocabularyCheck};
+ghost use Rattle.records.specs.Code.Fields.{fieldFits, allFit, noFault, firstOf, AtRecord};
 
 // Row 1: the length.
 fn length_fits(v: &[u8]) -> bool
@@ -190,7 +190,7 @@ fn smaller(x: u8, y: u8) -> u8
 
 // The first row that refuses one of three fields of these sorts, where it is told which fit.
 fn first_fault(a: Sort, b: Sort, next: Sort, first: bool, second: bool, third: bool) -> u8
-    ensures { λ r. ⌜ r ≡ firstOf (kinds.holds a b next) first second third ⌝ }
+    ensures { λ r. ⌜ r ≡ firstOf (kinds.sorts a b next) first second third ⌝ }
 {
     let rest = smaller(
         fault_unless(second, row_of(b)),
@@ -202,7 +202,7 @@ fn first_fault(a: Sort, b: Sort, next: Sort, first: bool, second: bool, third: b
 // Whether all three fields f of record i fit these sorts.
 fn fields_fit(v: &[u8], i: usize, roles: u16, f: Record, a: Sort, b: Sort, next: Sort) -> bool
     requires { ⌜ AtRecord (now v) i roles ⌝ }
-    ensures { λ r. ⌜ r ≡ allFit (now (v .entry)) i (kinds.holds a b next) f ⌝ }
+    ensures { λ r. ⌜ r ≡ allFit (now (v .entry)) i (kinds.sorts a b next) f ⌝ }
 {
     if !field_fits(v, i, roles, a, f.a) {
         return false;
@@ -216,7 +216,7 @@ fn fields_fit(v: &[u8], i: usize, roles: u16, f: Record, a: Sort, b: Sort, next:
 // Rows 4 to 7 at a record whose fields f hold these sorts. Only where not all fit, each is asked again for its row.
 fn check_sorts(v: &[u8], i: usize, roles: u16, f: Record, a: Sort, b: Sort, next: Sort) -> Checked
     requires { ⌜ AtRecord (now v) i roles ⌝ }
-    ensures { λ r. ⌜ checked r ≡ rowsCheck (now (v .entry)) i (kinds.holds a b next) f ⌝ }
+    ensures { λ r. ⌜ checked r ≡ rowsCheck (now (v .entry)) i (kinds.sorts a b next) f ⌝ }
 {
     if fields_fit(v, i, roles, f, a, b, next) {
         return Checked::Fine;

@@ -3,35 +3,30 @@ use Prim.Native.Nat.{ℕ, zero, suc, _-_, _≤_, _<_, max}
 use mathlib.Core.Path.{_≡_}
 use mathlib.Core.List.{List, [], _∷_, _++_}
 use lib.ListN.{length, getD}
+use Rattle.records.specs.Finite.{without}
 use Rattle.columns.specs.Literals.{SkolemTerm, constant, Literal, complement, noLiteral}
 use Rattle.columns.specs.Columns.{Query, columnAt, instanceAt}
 use Rattle.scripts.specs.Steps.{Extension, Step, start, extension, reduction}
 
--- A list without the entry at a position.
-unfoldable pub without : {A : Type 0} → ℕ → List A → List A
-without p [] = []
-without zero (x ∷ l) = l
-without (suc p) (x ∷ l) = x ∷ without p l
-
 -- The column that is used, C₂ of Definition 10; its literal at the position, L₂; and the others, C₂ \ {L₂}.
-abbrev pub used : List ℕ → Query → Extension SkolemTerm → List (Literal SkolemTerm)
-used v q e = instanceAt (e .owner) (e .first) (e .second) (columnAt v q (e .owner) (e .column))
+abbrev pub usedColumn : List ℕ → Query → Extension SkolemTerm → List (Literal SkolemTerm)
+usedColumn v q e = instanceAt (e .owner) (e .first) (e .second) (columnAt v q (e .owner) (e .column))
 
-abbrev pub connected : List ℕ → Query → Extension SkolemTerm → Literal SkolemTerm
-connected v q e = getD (used v q e) (e .position) noLiteral
+abbrev pub connectedLiteral : List ℕ → Query → Extension SkolemTerm → Literal SkolemTerm
+connectedLiteral v q e = getD (usedColumn v q e) (e .position) noLiteral
 
-abbrev pub others : List ℕ → Query → Extension SkolemTerm → List (Literal SkolemTerm)
-others v q e = without (e .position) (used v q e)
+abbrev pub remainder : List ℕ → Query → Extension SkolemTerm → List (Literal SkolemTerm)
+remainder v q e = without (e .position) (usedColumn v q e)
 
 -- The position exists in a listed column.
-abbrev pub Listed : List ℕ → Query → Extension SkolemTerm → Type 0
-Listed v q e = e .position < length (columnAt v q (e .owner) (e .column))
+abbrev pub PositionExists : List ℕ → Query → Extension SkolemTerm → Type 0
+PositionExists v q e = e .position < length (columnAt v q (e .owner) (e .column))
 
 -- The path's literal in frame f, frames counted from the start; the path has the last frame's first.
 abbrev pub onPath : List (Literal SkolemTerm) → ℕ → Literal SkolemTerm
 onPath path f = getD path (length path - suc f) noLiteral
 
--- "C, M, Path" of Definition 10, where C is the column's open literals, in their order, and M the listed columns. Axiom: {} is
+-- C, M, Path of Definition 10, where C is the column's open literals, in their order, and M the listed columns. Axiom: {} is
 -- derived. Reduction: C ∪ {L₁}, where the complement of L₁ is on the path, from C. Extension: C ∪ {L₁}, where a column has
 -- the complement L₂ of L₁, from C₂ \ {L₂} with L₁ on the path, and from C.
 pub data Derivation (v : List ℕ) (q : Query) : List (Literal SkolemTerm) → List (Literal SkolemTerm) → Type 0 where
@@ -40,8 +35,8 @@ pub data Derivation (v : List ℕ) (q : Query) : List (Literal SkolemTerm) → L
       → f < length path → onPath path f ≡ complement l
       → Derivation v q c path → Derivation v q (l ∷ c) path
   extended : {l : Literal SkolemTerm} {c path : List (Literal SkolemTerm)} (e : Extension SkolemTerm)
-      → Listed v q e → connected v q e ≡ complement l
-      → Derivation v q (others v q e) (l ∷ path) → Derivation v q c path → Derivation v q (l ∷ c) path
+      → PositionExists v q e → connectedLiteral v q e ≡ complement l
+      → Derivation v q (remainder v q e) (l ∷ path) → Derivation v q c path → Derivation v q (l ∷ c) path
 
 -- Its steps, in the order in which they close goals: "The goal is always the first open literal of the last frame."
 unfoldable pub steps : {v : List ℕ} {q : Query} {c path : List (Literal SkolemTerm)} → Derivation v q c path

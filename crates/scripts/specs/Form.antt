@@ -4,15 +4,15 @@ use mathlib.Core.Bool.{Bool, true, false, Bool·beq, not, _&&_, _||_}
 use mathlib.Core.List.{List, [], _∷_}
 use lib.ListN.{length}
 use lib.Dec.{ltb, leb, eqb}
+use Rattle.records.specs.Finite.{allZero, anyBelow}
 use Rattle.records.specs.Outcome.{Check, _then_, require, inTurn}
 use Rattle.records.specs.Format.{recordAt, count}
 use Rattle.records.specs.Kinds.{isRestriction}
-use Rattle.records.specs.Check.{anyBelow}
-use Rattle.types.specs.Compare.{termCheck}
+use Rattle.types.specs.Comparison.{termCheck}
 use Rattle.columns.specs.Columns.{Query, Column, columnAt, takesY}
 use Rattle.scripts.specs.Steps.{Extension, Step, start, extension, reduction}
-use Rattle.scripts.specs.Format.{entrySize, entryLimit, entryAt, entries, queryOf, firstStep, Line, blank, named}
-use Rattle.scripts.specs.Format.{applied, step, kindOf, lineOf, isTerm, isStep, nextStep}
+use Rattle.scripts.specs.Format.{entrySize, entryLimit, entryAt, entries, queryOf, firstStep, Line, blank, named, applied}
+use Rattle.scripts.specs.Format.{step, kindOf, lineOf, isTerm, isStep, nextStep}
 use Rattle.scripts.specs.declared.entry.Entry.{Entry}
 
 -- Row 13: "under 16, over 32,768 or no multiple of 16"; "at most 2,048 records"
@@ -22,10 +22,6 @@ lengthFits s =
 
 abbrev pub lengthCheck : List ℕ → Check
 lengthCheck s = require (lengthFits s) 13 0
-
-unfoldable pub allZero : List ℕ → Bool
-allZero [] = true
-allZero (w ∷ ws) = eqb w 0 && allZero ws
 
 -- Row 14: "w0, or w4 to w7"; "Record 0: w0 = 32"
 abbrev pub headerFits : Entry → Bool

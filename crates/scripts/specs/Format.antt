@@ -6,7 +6,7 @@ use lib.ListN.{length, getD, take, drop}
 use lib.Dec.{leb, eqb}
 use Rattle.records.specs.Format.{wordAt}
 use Rattle.records.specs.Chain.{follow}
-use Rattle.types.specs.Below.{inRecordOrder}
+use Rattle.records.specs.Finite.{inRecordOrder}
 use Rattle.columns.specs.Literals.{SkolemTerm, constant, apply}
 use Rattle.columns.specs.Columns.{Query, within}
 use Rattle.scripts.specs.Steps.{Extension, Step, start, extension, reduction}

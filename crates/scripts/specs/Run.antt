@@ -4,6 +4,7 @@ use mathlib.Core.Bool.{Bool, true, false, not, _&&_, _||_}
 use mathlib.Core.List.{List, [], _∷_}
 use lib.ListN.{length, getD}
 use lib.Dec.{ltb}
+use Rattle.records.specs.Finite.{isNil, without}
 use Rattle.records.specs.Outcome.{Outcome, Check, accepted, refused, _then_, require}
 use Rattle.records.specs.Check.{vocabularyCheck}
 use Rattle.columns.specs.Literals.{SkolemTerm, Literal, complementary, noLiteral}
@@ -11,11 +12,7 @@ use Rattle.columns.specs.Columns.{Query}
 use Rattle.scripts.specs.Steps.{Extension, Step, start, extension, reduction, stepBy}
 use Rattle.scripts.specs.Format.{queryOf, termAt, recordStep, chain}
 use Rattle.scripts.specs.Form.{formCheck}
-use Rattle.scripts.specs.Calculus.{without, used, startColumn, frameLimit}
-
-abbrev pub isNil : {A : Type 0} → List A → Bool
-isNil [] = true
-isNil (x ∷ l) = false
+use Rattle.scripts.specs.Calculus.{usedColumn, startColumn, frameLimit}
 
 abbrev pub isStart : {A : Type 0} → Step A → Bool
 isStart (start n) = true
@@ -58,7 +55,7 @@ module _ {A L : Type 0} (g : Setting A L) where
   abbrev pub goal : Frames L → L
   goal frames = goalOf (getD frames 0 [])
 
-  -- The literal at an extension's position, and its column's others: Calculus' `connected` and `others`, over any literals.
+  -- The literal at an extension's position, and the others of its column: Calculus' `connectedLiteral` and `remainder`, over any literals.
   abbrev pub meets : Extension A → L
   meets e = getD (g .uses e) (e .position) (g .nothing)
 
@@ -113,7 +110,7 @@ module _ {A L : Type 0} (g : Setting A L) where
 -- The paper's run: "terms are written out".
 abbrev pub writtenOut : List ℕ → Query → Setting SkolemTerm (Literal SkolemTerm)
 writtenOut v q =
-    record { uses = used v q; starts = startColumn v q; opposed = complementary; nothing = noLiteral }
+    record { uses = usedColumn v q; starts = startColumn v q; opposed = complementary; nothing = noLiteral }
 
 abbrev pub stepAt : List ℕ → ℕ → Step SkolemTerm
 stepAt s i = stepBy (termAt s) (recordStep s i)

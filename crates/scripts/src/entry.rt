@@ -4,7 +4,7 @@ ghost use mathlib.Core.Path.{_≡_};
 ghost use mathlib.Core.Bool.{_&&_, _||_};
 ghost use lib.ListN.{length};
 ghost use Rattle.scripts.specs.Format.{entrySize, entryOf, entryAt, isTerm, isStep};
-ghost use Rattle.scripts.specs.Ready.{HasEntry};
+ghost use Rattle.scripts.specs.Code.Ready.{HasEntry};
 
 pub struct Entry {
     pub w0: u16,

@@ -16,13 +16,13 @@ ghost use Prim.Native.Nat.{_+_, _*_, _^_};
 ghost use lib.ListN.{length};
 ghost use Rattle.records.specs.Answers.{checked};
 ghost use Rattle.columns.specs.Columns.{Query};
-ghost use Rattle.columns.specs.Packed.{Marked};
+ghost use Rattle.columns.specs.Code.Packed.{Marked};
 ghost use Rattle.scripts.specs.Format.{entrySize, entryOf, queryIn, firstStep, extensionOf, lineOf};
-ghost use Rattle.scripts.specs.Form.{lengthFits, allZero, headerFits, queryCheck, kindFits};
-ghost use Rattle.scripts.specs.Form.{unusedFits, earlierTerm, isFunction, repeats, repeated, termFits, functionFits};
-ghost use Rattle.scripts.specs.Form.{xFits, yFits, extensionFits, lineFits, rowsCheck, entryCheck, entriesCheck};
-ghost use Rattle.scripts.specs.Form.{linkFits, linkCheck, linksCheck, formCheck};
-ghost use Rattle.scripts.specs.Ready.{HasEntry, HasBefore, Begun};
+ghost use Rattle.scripts.specs.Form.{lengthFits, headerFits, queryCheck, kindFits, unusedFits, earlierTerm, isFunction};
+ghost use Rattle.scripts.specs.Form.{repeats, repeated, termFits, functionFits, xFits, yFits, extensionFits, lineFits};
+ghost use Rattle.scripts.specs.Form.{rowsCheck, entryCheck, entriesCheck, linkFits, linkCheck, linksCheck, formCheck};
+ghost use Rattle.records.specs.Finite.{allZero};
+ghost use Rattle.scripts.specs.Code.Ready.{HasEntry, HasBefore, Begun};
 
 // Row 13: the length.
 pub fn length_fits(s: &[u8]) -> bool

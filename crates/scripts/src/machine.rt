@@ -5,11 +5,12 @@ ghost use mathlib.Core.Bool.{not};
 ghost use mathlib.Core.List.{[], _∷_};
 ghost use Prim.Native.Nat.{suc, _<_};
 ghost use lib.ListN.{length, getD, drop};
-ghost use Rattle.columns.specs.Packed.{literals};
-ghost use Rattle.scripts.specs.Calculus.{without, frameLimit};
-ghost use Rattle.scripts.specs.Run.{isNil, close, extendBy};
-ghost use Rattle.scripts.specs.Numbered.{noNumber};
-ghost use Rattle.scripts.specs.Machine.{places, opened, framesOf, Standing, Shows};
+ghost use Rattle.columns.specs.Code.Packed.{literals};
+ghost use Rattle.records.specs.Finite.{without, isNil};
+ghost use Rattle.scripts.specs.Calculus.{frameLimit};
+ghost use Rattle.scripts.specs.Run.{close, extendBy};
+ghost use Rattle.scripts.specs.Code.Numbered.{noNumber};
+ghost use Rattle.scripts.specs.Code.Machine.{places, opened, framesOf, Standing, Shows};
 
 // Frame f's literals stand in a table, which is lent (specs/Machine.antt); the first `closed[f]` of them are closed, and
 // the next is its goal. So handing the machine on copies few bytes.
@@ -140,15 +141,15 @@ impl Machine {
     }
 
     // The goal is connected with a column, whose other literals are the next frame; with none it is closed.
-    pub fn extend(self, table: &mut [u64; Machine::PLACES], others: Column) -> Self
+    pub fn extend(self, table: &mut [u64; Machine::PLACES], remainder: Column) -> Self
         requires { ⌜ Standing (now table) (self .closed) (self .depth) ⌝ }
-        requires { ⌜ (0 < others .first → self .depth < frameLimit) ⌝ }
-        ensures { λ r. ⌜ Shows (now (table .exit)) r (extendBy (literals others) (framesOf (now (table .entry)) self)) ⌝ }
+        requires { ⌜ (0 < remainder .first → self .depth < frameLimit) ⌝ }
+        ensures { λ r. ⌜ Shows (now (table .exit)) r (extendBy (literals remainder) (framesOf (now (table .entry)) self)) ⌝ }
     {
-        if others.first == 0 {
+        if remainder.first == 0 {
             return self.close(table);
         }
-        self.open_frame(table, others)
+        self.open_frame(table, remainder)
     }
 
     // The goal is connected with the goal of a lower frame.

@@ -20,32 +20,33 @@ ghost use mathlib.Core.List.{[], _∷_};
 ghost use Prim.Native.Nat.{_<_};
 ghost use lib.ListN.{length};
 ghost use lib.Dec.{ltb};
-ghost use Rattle.columns.specs.Packed.{literals};
+ghost use Rattle.columns.specs.Code.Packed.{literals};
 ghost use Rattle.scripts.specs.Format.{extensionOf};
 ghost use Rattle.scripts.specs.Calculus.{frameLimit};
-ghost use Rattle.scripts.specs.Run.{isNil, extendBy};
-ghost use Rattle.scripts.specs.Codes.{codeOf, codeAt, opposed};
-ghost use Rattle.scripts.specs.Machine.{places, framesFrom, framesOf, Standing, Shows};
-ghost use Rattle.scripts.specs.Numbered.{secondCode, usedNumbers};
-ghost use Rattle.scripts.specs.Tested.{reducesTo, ExtensionTested, TestedAt, runAfter, chainOutcome};
+ghost use Rattle.records.specs.Finite.{isNil};
+ghost use Rattle.scripts.specs.Run.{extendBy};
+ghost use Rattle.scripts.specs.Code.Codes.{codeOf, codeAt, opposed};
+ghost use Rattle.scripts.specs.Code.Machine.{places, framesFrom, framesOf, Standing, Shows};
+ghost use Rattle.scripts.specs.Code.Numbered.{secondCode, usedNumbers};
+ghost use Rattle.scripts.specs.Code.Tested.{reducesTo, ExtensionTested, TestedAt, runAfter, chainOutcome};
 ghost use Rattle.scripts.specs.Answers.{judged};
-ghost use Rattle.scripts.specs.Ready.{HasEntry, Ready, IsStep, IsExtension};
+ghost use Rattle.scripts.specs.Code.Ready.{HasEntry, Ready, IsStep, IsExtension};
 
 // A step's answer and, if it passed, the literals of the frame that it opens: the other literals of an extension's column.
 // A step that closes the goal has none.
 pub struct Tested {
     pub answer: Checked,
-    pub others: Column,
+    pub remainder: Column,
 }
 
 // The answer of a step that opens no frame.
 fn no_frame(answer: Checked) -> Tested
     ensures { λ r. ⌜ r .answer ≡ answer ⌝ }
-    ensures { λ r. ⌜ literals (r .others) ≡ [] ⌝ }
+    ensures { λ r. ⌜ literals (r .remainder) ≡ [] ⌝ }
 {
     Tested {
         answer,
-        others: Column::none(),
+        remainder: Column::none(),
     }
 }
 
@@ -113,10 +114,10 @@ fn is_opposed(l: u64, m: u64) -> bool
 }
 
 // Row 23: whether a column's other literals find room.
-fn has_room(others: Column, depth: usize) -> bool
-    ensures { λ r. ⌜ r ≡ (isNil (literals others) || ltb depth frameLimit) ⌝ }
+fn has_room(remainder: Column, depth: usize) -> bool
+    ensures { λ r. ⌜ r ≡ (isNil (literals remainder) || ltb depth frameLimit) ⌝ }
 {
-    if others.first == 0 {
+    if remainder.first == 0 {
         return true;
     }
     depth < Machine::FRAMES
@@ -143,9 +144,9 @@ fn test_extension(
     let Checked::Fine = answer else {
         return no_frame(answer);
     };
-    let others = leave_out(column, position);
-    let answer = pass_if(has_room(others, depth), 23, i);
-    Tested { answer, others }
+    let remainder = leave_out(column, position);
+    let answer = pass_if(has_room(remainder, depth), 23, i);
+    Tested { answer, remainder }
 }
 
 // Row 22: whether the goal, that of the last frame, has its complement as the goal of a frame below.
@@ -208,17 +209,17 @@ fn advance(
     machine: Machine,
     table: &mut [u64; Machine::PLACES],
     reduces: bool,
-    others: Column,
+    remainder: Column,
 ) -> Machine
     requires { ⌜ Standing (now table) (machine .closed) (machine .depth) ⌝ }
-    requires { ⌜ (0 < others .first → machine .depth < frameLimit) ⌝ }
-    requires { ⌜ (reduces ≡ true → others .first ≡ 0) ⌝ }
-    ensures { λ r. ⌜ Shows (now (table .exit)) r (extendBy (literals others) (framesOf (now (table .entry)) machine)) ⌝ }
+    requires { ⌜ (0 < remainder .first → machine .depth < frameLimit) ⌝ }
+    requires { ⌜ (reduces ≡ true → remainder .first ≡ 0) ⌝ }
+    ensures { λ r. ⌜ Shows (now (table .exit)) r (extendBy (literals remainder) (framesOf (now (table .entry)) machine)) ⌝ }
 {
     if reduces {
         return machine.reduce(table);
     }
-    machine.extend(table, others)
+    machine.extend(table, remainder)
 }
 
 // A table with no literals.
@@ -254,7 +255,7 @@ fn run_steps(
             return judge_after(answer, 0);
         };
         let e = read_entry(s, at);
-        state = advance(state, &mut table, e.w0 == 5, tested.others);
+        state = advance(state, &mut table, e.w0 == 5, tested.remainder);
         last = at;
         steps += 1;
         at = e.w7 as usize;

@@ -2,7 +2,7 @@
 use Rattle.records.specs.Outcome.{Outcome, accepted, refused}
 use Rattle.types.specs.declared.answers.Compared.{Compared}
 use Rattle.types.specs.declared.answers.Compared.the-variants as answer
-use Rattle.types.specs.Compare.{Verdict, equal, different}
+use Rattle.types.specs.Comparison.{Verdict, equal, different}
 
 abbrev pub compared : Compared → Outcome Verdict
 compared (answer.Equal survivors rounds) = accepted (equal survivors rounds)

@@ -4,11 +4,10 @@ use mathlib.Core.Path.{_≡_}
 use mathlib.Core.Bool.{Bool, true, false, not, _&&_, _||_}
 use mathlib.Core.List.{List}
 use Rattle.records.specs.Format.{recordAt}
-use Rattle.records.specs.Kinds.{Construct, none, top, bottom, name, negation, conjunction, disjunction, existential}
-use Rattle.records.specs.Kinds.{universal, inclusion, constructOf}
-use Rattle.records.specs.Check.{anyBelow}
+use Rattle.records.specs.Kinds.{Construct, none, top, bottom, name, negation, conjunction, disjunction, existential, universal}
+use Rattle.records.specs.Kinds.{inclusion, constructOf}
+use Rattle.records.specs.Finite.{anyBelow, allBelow, inRecordOrder}
 use Rattle.records.specs.Chain.{chained}
-use Rattle.types.specs.Below.{allBelow, inRecordOrder}
 
 -- "a set of elements for each name and a set of pairs for each role". The elements are the numbers below a bound that are
 -- in the domain; a name goes by its record ("Each name record is a name of its own"), a role by its number.
@@ -45,17 +44,17 @@ restrictionAt v i = restrictionOf (constructOf (recordAt v i))
 -- "top is all elements and bottom none; not, and, or are complement, intersection and union", at one element, or one type:
 -- what a record says there, from what its operands say there and, for an atom, from its own truth. A statement says
 -- that A is false or B true.
-abbrev pub connect : Construct → Bool → (ℕ → Bool) → Bool
-connect none atom operand = false
-connect top atom operand = true
-connect bottom atom operand = false
-connect name atom operand = atom
-connect (negation a) atom operand = not (operand a)
-connect (conjunction a b) atom operand = operand a && operand b
-connect (disjunction a b) atom operand = operand a || operand b
-connect (existential r b) atom operand = atom
-connect (universal r b) atom operand = atom
-connect (inclusion a b) atom operand = not (operand a) || operand b
+abbrev pub evaluate : Construct → Bool → (ℕ → Bool) → Bool
+evaluate none atom operand = false
+evaluate top atom operand = true
+evaluate bottom atom operand = false
+evaluate name atom operand = atom
+evaluate (negation a) atom operand = not (operand a)
+evaluate (conjunction a b) atom operand = operand a && operand b
+evaluate (disjunction a b) atom operand = operand a || operand b
+evaluate (existential r b) atom operand = atom
+evaluate (universal r b) atom operand = atom
+evaluate (inclusion a b) atom operand = not (operand a) || operand b
 
 -- "some-role holds at d if a pair (d, e) has e in B; all-role holds if every such e is in B": an atom's truth at d, where
 -- `extension` is what the earlier records mean.
@@ -66,7 +65,7 @@ atomAt I i (all r b) extension d = allBelow (λ e. not (I .domain e && I .roles 
 
 abbrev pub extensionRule : Interpretation → List ℕ → (ℕ → ℕ → Bool) → ℕ → ℕ → Bool
 extensionRule I v extension i d =
-    connect (constructOf (recordAt v i)) (atomAt I i (restrictionAt v i) extension d) (λ j. extension j d)
+    evaluate (constructOf (recordAt v i)) (atomAt I i (restrictionAt v i) extension d) (λ j. extension j d)
 
 -- Whether element d belongs to term i: what terms mean, by source document 004, section 2.1.
 unfoldable pub belongs : Interpretation → List ℕ → ℕ → ℕ → Bool

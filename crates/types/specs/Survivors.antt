@@ -3,14 +3,13 @@ use Prim.Native.Nat.{ℕ, zero, suc}
 use mathlib.Core.Bool.{Bool, not, _&&_, _||_}
 use mathlib.Core.List.{List}
 use Rattle.records.specs.Format.{count}
-use Rattle.records.specs.Check.{anyBelow}
+use Rattle.records.specs.Finite.{anyBelow, allBelow, least, table, has}
 use Rattle.records.specs.Chain.{chained}
-use Rattle.types.specs.Below.{allBelow, least, table, has}
 use Rattle.types.specs.Types.{types, truth, served}
 
 -- Every chained statement holds at t.
-unfoldable pub fits : List ℕ → ℕ → Bool
-fits v t = allBelow (λ i. not (chained v i) || truth v t i) (count v)
+unfoldable pub satisfies : List ℕ → ℕ → Bool
+satisfies v t = allBelow (λ i. not (chained v i) || truth v t i) (count v)
 
 -- "One round removes together all types not served by the set as the round began."
 abbrev pub round : List ℕ → List Bool → List Bool
@@ -22,7 +21,7 @@ removes v S = anyBelow (λ t. has S t && not (served v S t)) (types v)
 
 -- The set after n rounds: "Begin with the types at which every chained statement holds."
 unfoldable pub stage : List ℕ → ℕ → List Bool
-stage v zero = table (types v) (fits v)
+stage v zero = table (types v) (satisfies v)
 stage v (suc n) = round v (stage v n)
 
 -- "the number .. of rounds that removed something": those before the first that removes nothing; "never over 2^k".

@@ -5,10 +5,9 @@ use mathlib.Core.List.{List}
 use lib.Dec.{eqb}
 use Rattle.records.specs.Format.{recordAt, count}
 use Rattle.records.specs.Kinds.{constructOf}
-use Rattle.records.specs.Check.{anyBelow}
+use Rattle.records.specs.Finite.{anyBelow, allBelow, has, bit, inRecordOrder}
 use Rattle.records.specs.Atoms.{rank, atoms}
-use Rattle.types.specs.Below.{allBelow, has, bit, inRecordOrder}
-use Rattle.types.specs.Meaning.{Restriction, some, all, plain, restrictionAt, connect}
+use Rattle.types.specs.Meaning.{Restriction, some, all, plain, restrictionAt, evaluate}
 
 -- "A type is a number from 0 to 2^k − 1": how many there are.
 abbrev pub types : List ℕ → ℕ
@@ -16,7 +15,7 @@ types v = 2 ^ atoms v
 
 -- "whose bit j is the truth of atom j. Other terms have their truth at a type by top, bottom, not, and, or."
 abbrev pub truthRule : List ℕ → ℕ → (ℕ → Bool) → ℕ → Bool
-truthRule v t truth i = connect (constructOf (recordAt v i)) (bit t (rank v i)) truth
+truthRule v t truth i = evaluate (constructOf (recordAt v i)) (bit t (rank v i)) truth
 
 unfoldable pub truth : List ℕ → ℕ → ℕ → Bool
 truth v t i = inRecordOrder false (truthRule v t) i
@@ -36,13 +35,13 @@ allowed v r t s = allBelow (λ i. allows v r t s i (restrictionAt v i)) (count v
 abbrev pub witnessed : List ℕ → List Bool → ℕ → ℕ → (ℕ → Bool) → Bool
 witnessed v S t r wanted = anyBelow (λ s. has S s && (allowed v r t s && wanted s)) (types v)
 
--- What record i demands at t is met: "each kind-7 record true at it has, in the set, an s allowed for the record's role with B
+-- What record i needs at t is met: "each kind-7 record true at it has, in the set, an s allowed for the record's role with B
 -- true, and each kind-8 record false at it has, in the set, an s allowed for its role with B false".
 abbrev pub met : List ℕ → List Bool → ℕ → ℕ → Restriction → Bool
 met v S t i plain = true
 met v S t i (some r b) = not (truth v t i) || witnessed v S t r (λ s. truth v s b)
 met v S t i (all r b) = truth v t i || witnessed v S t r (λ s. not (truth v s b))
 
--- "A type is served by a set when" every demand is met.
+-- "A type is served by a set when" every need is met.
 unfoldable pub served : List ℕ → List Bool → ℕ → Bool
 served v S t = allBelow (λ i. met v S t i (restrictionAt v i)) (count v)

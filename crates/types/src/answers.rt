@@ -4,7 +4,7 @@ use records::answers::Counted;
 ghost use mathlib.Core.Path.{_≡_};
 ghost use Rattle.records.specs.Outcome.{_then_, accepted};
 ghost use Rattle.records.specs.Answers.{checked, counted};
-ghost use Rattle.types.specs.Compare.{different, verdictWith};
+ghost use Rattle.types.specs.Comparison.{different, verdictWith};
 ghost use Rattle.types.specs.Answers.{compared};
 
 pub enum Compared {

@@ -3,11 +3,11 @@ use crate::answers::Compared;
 use crate::answers::compare_after;
 use crate::answers::compare_after_count;
 use crate::answers::conclude;
-use crate::form::count_alive;
-use crate::form::find_first;
-use crate::form::write_form;
-use crate::profile::Profile;
+use crate::bitmap::count_alive;
+use crate::bitmap::find_first;
+use crate::bitmap::write_bitmap;
 use crate::settle::settle;
+use crate::type_data::TypeData;
 use records::answers::Checked;
 use records::answers::Counted;
 use records::answers::pass_if;
@@ -26,11 +26,10 @@ ghost use Rattle.records.specs.Answers.{checked};
 ghost use Rattle.records.specs.Format.{recordAt, count};
 ghost use Rattle.records.specs.Kinds.{isTerm};
 ghost use Rattle.records.specs.Atoms.{atoms};
-ghost use Rattle.types.specs.Compare.{termCheck, queryCheck, verdict, comparison};
-ghost use Rattle.types.specs.Form.{form, written};
+ghost use Rattle.types.specs.Comparison.{termCheck, queryCheck, verdict, comparison, bitmapBytes};
+ghost use Rattle.types.specs.Bitmap.{bitmap, written};
 ghost use Rattle.types.specs.Answers.{compared};
-ghost use Rattle.types.specs.Compare.{formBytes};
-ghost use Rattle.types.specs.Settling.{Comparable};
+ghost use Rattle.types.specs.Code.Settling.{Comparable};
 
 // Row 10: whether a number of the query names a term.
 fn names_term(v: &[u8], number: usize) -> bool
@@ -61,27 +60,27 @@ fn check_query(v: &[u8], a: usize, b: usize, k: usize, lent: usize) -> Checked
     let Checked::Fine = second else {
         return second;
     };
-    let few = pass_if(k <= Profile::ATOMS, 11, k);
+    let few = pass_if(k <= TypeData::ATOMS, 11, k);
     let Checked::Fine = few else {
         return few;
     };
-    pass_if(Profile::BYTES <= lent, 12, 0)
+    pass_if(TypeData::BYTES <= lent, 12, 0)
 }
 
 // The answer for two terms of an accepted vocabulary of few enough atoms; the survivors are written.
 fn decide(v: &[u8], a: usize, b: usize, k: usize, lent: &mut [u8]) -> Compared
     requires { ⌜ Comparable (now v) a b k ⌝ }
-    requires { ⌜ formBytes ≤ length (now lent) ⌝ }
+    requires { ⌜ bitmapBytes ≤ length (now lent) ⌝ }
     ensures { λ r. ⌜ compared r ≡ accepted (verdict (now (v .entry)) a b) ⌝ }
-    ensures { λ _. ⌜ now (lent .exit) ≡ form (now (v .entry)) ++ drop formBytes (now (lent .entry)) ⌝ }
+    ensures { λ _. ⌜ now (lent .exit) ≡ bitmap (now (v .entry)) ++ drop bitmapBytes (now (lent .entry)) ⌝ }
 {
-    let mut alive = [false; Profile::TYPES];
-    let mut differs = [false; Profile::TYPES];
+    let mut alive = [false; TypeData::TYPES];
+    let mut differs = [false; TypeData::TYPES];
     let rounds = settle(v, a, b, k, &mut alive, &mut differs);
     let size = 1 << k;
     let element = find_first(&alive, &differs, size);
     let survivors = count_alive(&alive, size);
-    write_form(&alive, size, lent);
+    write_bitmap(&alive, size, lent);
     conclude(element < size, element, survivors, rounds)
 }
 

@@ -1,11 +1,11 @@
 // Each record's truth rule and operands, read once for a call.
-use crate::profile::Profile;
+use crate::type_data::TypeData;
 use records::fields::Record;
 use records::fields::read_at;
 ghost use mathlib.Core.Path.{_≡_};
 ghost use lib.ListN.{length};
 ghost use Rattle.records.specs.Check.{IsAccepted};
-ghost use Rattle.types.specs.Rules.{ruleOf, firstOf, secondOf, codeLength, Decoded};
+ghost use Rattle.types.specs.Code.Rules.{ruleOf, firstOf, secondOf, codeLength, Decoded};
 
 // The truth rule of a kind, as a table of four bits: bit x + 2 y is the truth where the first operand is x and the second y.
 pub fn rule(kind: u8) -> u16
@@ -45,7 +45,7 @@ fn second_operand(kind: u8, b: u16) -> u16
 }
 
 // Each record's rule, then each one's first operand, then each one's second.
-pub fn decode(v: &[u8], code: &mut [u16; Profile::CODE])
+pub fn decode(v: &[u8], code: &mut [u16; TypeData::CODE])
     requires { ⌜ IsAccepted (now v) ⌝ }
     requires { ⌜ length (now code) ≡ codeLength ⌝ }
     ensures { λ _. ⌜ Decoded (now (v .entry)) (now (code .exit)) ⌝ }

@@ -1,6 +1,6 @@
 // The restrictions (kinds 7 and 8), and the words that hold a bit for each.
-use crate::profile::Profile;
 use crate::truth::push_bit;
+use crate::type_data::TypeData;
 use records::fields::Record;
 use records::fields::read_at;
 use records::kinds::is_restriction;
@@ -8,32 +8,32 @@ ghost use mathlib.Core.Path.{_≡_};
 ghost use Prim.Native.Nat.{_≤_};
 ghost use lib.ListN.{getD};
 ghost use Rattle.records.specs.Check.{IsAccepted};
-ghost use Rattle.types.specs.Below.{number};
-ghost use Rattle.types.specs.Words.{signed};
-ghost use Rattle.types.specs.Settling.{Listed, Bounded, wordAt};
-ghost use Rattle.types.specs.Elimination.{otherRole};
+ghost use Rattle.records.specs.Finite.{number};
+ghost use Rattle.types.specs.Code.Words.{signed};
+ghost use Rattle.types.specs.Code.Settling.{RestrictionsListed, Bounded, wordAt};
+ghost use Rattle.types.specs.Code.Elimination.{otherRole};
 ghost use Rattle.records.specs.Atoms.{atoms};
-ghost use Rattle.types.specs.Compare.{atomLimit};
+ghost use Rattle.types.specs.Comparison.{atomLimit};
 
 // The restrictions in record order: how many, and each one's place, filler, role, and whether it is of kind 8.
 pub struct Restrictions {
     pub count: usize,
-    pub places: [u16; Profile::ATOMS],
-    pub fillers: [u16; Profile::ATOMS],
-    pub roles: [u16; Profile::ATOMS],
-    pub signs: [bool; Profile::ATOMS],
+    pub places: [u16; TypeData::ATOMS],
+    pub fillers: [u16; TypeData::ATOMS],
+    pub roles: [u16; TypeData::ATOMS],
+    pub signs: [bool; TypeData::ATOMS],
 }
 
 pub fn list_restrictions(v: &[u8]) -> Restrictions
     requires { ⌜ IsAccepted (now v) ⌝ }
     requires { ⌜ atoms (now v) ≤ atomLimit ⌝ }
-    ensures { λ r. ⌜ Listed (now (v .entry)) r ⌝ }
+    ensures { λ r. ⌜ RestrictionsListed (now (v .entry)) r ⌝ }
 {
     let records = v.len() / Record::SIZE;
-    let mut places = [0; Profile::ATOMS];
-    let mut fillers = [0; Profile::ATOMS];
-    let mut roles = [0; Profile::ATOMS];
-    let mut signs = [false; Profile::ATOMS];
+    let mut places = [0; TypeData::ATOMS];
+    let mut fillers = [0; TypeData::ATOMS];
+    let mut roles = [0; TypeData::ATOMS];
+    let mut signs = [false; TypeData::ATOMS];
     let mut count = 0;
     let mut i = 0;
     while i < records {
@@ -63,34 +63,35 @@ fn apply_sign(sign: bool, x: bool) -> bool
     if sign { !x } else { x }
 }
 
-// What a type with these truths demands and offers: in both words bit m is that of restriction m, signed.
+// Which restrictions hold at a type with these truths, and which fillers: in both words bit m is that of restriction m,
+// negated for kind 8.
 pub struct Words {
-    pub demand: u16,
-    pub offer: u16,
+    pub held: u16,
+    pub filling: u16,
 }
 
 // The words, built from the top.
 pub fn words_of(done: &[bool; Record::LIMIT], listing: Restrictions) -> Words
     requires { ⌜ Bounded listing ⌝ }
-    ensures { λ r. ⌜ r .demand ≡ wordAt (now (done .entry)) (listing .places) (listing .signs) (listing .count) ⌝ }
-    ensures { λ r. ⌜ r .offer ≡ wordAt (now (done .entry)) (listing .fillers) (listing .signs) (listing .count) ⌝ }
+    ensures { λ r. ⌜ r .held ≡ wordAt (now (done .entry)) (listing .places) (listing .signs) (listing .count) ⌝ }
+    ensures { λ r. ⌜ r .filling ≡ wordAt (now (done .entry)) (listing .fillers) (listing .signs) (listing .count) ⌝ }
 {
-    let mut demand = 0;
-    let mut offer = 0;
+    let mut held = 0;
+    let mut filling = 0;
     let mut m = listing.count;
     while m > 0 {
         m -= 1;
         let sign = listing.signs[m];
         let place = listing.places[m] as usize;
         let filler = listing.fillers[m] as usize;
-        demand = push_bit(demand, apply_sign(sign, done[place]));
-        offer = push_bit(offer, apply_sign(sign, done[filler]));
+        held = push_bit(held, apply_sign(sign, done[place]));
+        filling = push_bit(filling, apply_sign(sign, done[filler]));
     }
-    Words { demand, offer }
+    Words { held, filling }
 }
 
 // The word of the restrictions of other roles than this.
-pub fn others_of(roles: &[u16; Profile::ATOMS], bits: usize, role: u16) -> u16
+pub fn other_roles(roles: &[u16; TypeData::ATOMS], bits: usize, role: u16) -> u16
     requires { ⌜ bits ≤ atomLimit ⌝ }
     ensures { λ r. ⌜ r ≡ number bits (otherRole (now (roles .entry)) role) ⌝ }
 {

@@ -1,14 +1,14 @@
 // The comparison up to its answer: which types survive, at which of them the two terms differ, and after how many rounds.
 use crate::decode::decode;
 use crate::eliminate::eliminate;
-use crate::profile::Plan;
-use crate::profile::Profile;
-use crate::profile::profile_types;
 use crate::restrict::list_restrictions;
 use crate::truth::list_atoms;
 use crate::truth::list_statements;
+use crate::type_data::Plan;
+use crate::type_data::TypeData;
+use crate::type_data::describe_types;
 use records::fields::Record;
-ghost use Rattle.types.specs.Settling.{Comparable, Vacant, Settled};
+ghost use Rattle.types.specs.Code.Settling.{Comparable, Vacant, Settled};
 
 // Settles the terms a and b of a vocabulary of k atoms, in empty tables; how many rounds removed something.
 pub fn settle(
@@ -16,18 +16,18 @@ pub fn settle(
     a: usize,
     b: usize,
     k: usize,
-    alive: &mut [bool; Profile::TYPES],
-    differs: &mut [bool; Profile::TYPES],
+    alive: &mut [bool; TypeData::TYPES],
+    differs: &mut [bool; TypeData::TYPES],
 ) -> usize
     requires { ⌜ Comparable (now v) a b k ⌝ }
     requires { ⌜ Vacant (now alive) (now differs) ⌝ }
     ensures { λ r. ⌜ Settled (now (v .entry)) a b (now (alive .exit)) (now (differs .exit)) r ⌝ }
 {
-    let mut code = [0; Profile::CODE];
+    let mut code = [0; TypeData::CODE];
     let mut statements = [0; Record::LIMIT];
     let mut done = [false; Record::LIMIT];
-    let mut demands = [0; Profile::TYPES];
-    let mut offers = [0; Profile::TYPES];
+    let mut held = [0; TypeData::TYPES];
+    let mut filling = [0; TypeData::TYPES];
     let restrictions = list_restrictions(v);
     let bits = restrictions.count;
     let roles = restrictions.roles;
@@ -42,7 +42,7 @@ pub fn settle(
         found,
         restrictions,
     };
-    profile_types(
+    describe_types(
         v,
         plan,
         &code,
@@ -50,8 +50,8 @@ pub fn settle(
         &mut done,
         alive,
         differs,
-        &mut demands,
-        &mut offers,
+        &mut held,
+        &mut filling,
     );
-    eliminate(v, &roles, bits, &demands, &offers, 1 << k, alive)
+    eliminate(v, &roles, bits, &held, &filling, 1 << k, alive)
 }

@@ -1,5 +1,5 @@
 // Truth at a type.
-use crate::profile::Profile;
+use crate::type_data::TypeData;
 use records::chain::mark_chain;
 use records::fields::Record;
 use records::fields::read_at;
@@ -8,11 +8,12 @@ ghost use mathlib.Core.Path.{_≡_};
 ghost use Prim.Native.Nat.{ℕ, _+_, _*_, _≤_, _<_};
 ghost use lib.ListN.{length, getD};
 ghost use Rattle.records.specs.Check.{IsAccepted};
-ghost use Rattle.types.specs.Compare.{atomLimit, typeLimit};
-ghost use Rattle.types.specs.Rules.{select, Decoded, holding, AtomsListed, AtomsSet, Truths};
-ghost use Rattle.types.specs.Settling.{Stating};
+ghost use Rattle.types.specs.Comparison.{atomLimit, typeLimit};
+ghost use Rattle.types.specs.Code.Rules.{select, Decoded, holding, AtomsListed, AtomsSet, Truths};
+ghost use Rattle.types.specs.Code.Settling.{Stating};
 ghost use Rattle.records.specs.Format.{recordLimit};
-ghost use Rattle.records.specs.Atoms.{atoms, digit};
+ghost use Rattle.records.specs.Atoms.{atoms};
+ghost use Rattle.records.specs.Finite.{digit};
 
 // 1 for true, 0 for false.
 pub fn digit(b: bool) -> u16
@@ -38,13 +39,13 @@ fn apply(rule: u16, x: bool, y: bool) -> bool
 }
 
 // The atoms' places, in record order.
-pub fn list_atoms(v: &[u8]) -> [u16; Profile::ATOMS]
+pub fn list_atoms(v: &[u8]) -> [u16; TypeData::ATOMS]
     requires { ⌜ IsAccepted (now v) ⌝ }
     requires { ⌜ atoms (now v) ≤ atomLimit ⌝ }
     ensures { λ r. ⌜ AtomsListed (now (v .entry)) r ⌝ }
 {
     let records = v.len() / Record::SIZE;
-    let mut places = [0; Profile::ATOMS];
+    let mut places = [0; TypeData::ATOMS];
     let mut found = 0;
     let mut i = 0;
     while i < records {
@@ -61,7 +62,7 @@ pub fn list_atoms(v: &[u8]) -> [u16; Profile::ATOMS]
 fn set_atoms(
     v: &[u8],
     k: usize,
-    places: &[u16; Profile::ATOMS],
+    places: &[u16; TypeData::ATOMS],
     t: usize,
     done: &mut [bool; Record::LIMIT],
 )
@@ -83,9 +84,9 @@ fn set_atoms(
 // Each record's truth at type t, filled in record order; the atoms' are set first.
 pub fn truths(
     v: &[u8],
-    code: &[u16; Profile::CODE],
+    code: &[u16; TypeData::CODE],
     k: usize,
-    places: &[u16; Profile::ATOMS],
+    places: &[u16; TypeData::ATOMS],
     t: usize,
     done: &mut [bool; Record::LIMIT],
 )

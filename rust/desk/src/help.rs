@@ -16,8 +16,8 @@ usage: desk COMMAND .. [--json] [--quiet] [--color[=WHEN]]
   check VOCABULARY ..           whether a vocabulary is accepted, and whether its statements contradict each other
   show FILE ..                  a vocabulary or a script as text
   record VOCABULARY N           one record, its fields and what it says
-  compare VOCABULARY A B        whether two terms are equal in all interpretations
-  within VOCABULARY A B         whether one term lies within another in all interpretations
+  compare VOCABULARY A B        whether two terms are equal in every finite interpretation that satisfies the statements
+  within VOCABULARY A B         whether one term lies within another in every such interpretation
   verify VOCABULARY SCRIPT      whether a script proves that one term lies within another
   columns VOCABULARY [OWNER]    the columns that a script may use
   assemble TEXT -o FILE         a vocabulary or a script from its text
@@ -57,8 +57,8 @@ const CHECK: &str = "\
 usage: desk check VOCABULARY .. [--json]
 
 Whether each vocabulary is accepted (refusals 1 to 8), with the number of its records, names, restrictions, statements
-and roles, and whether it can be compared (at most 12 atoms). If it can, and nothing satisfies its statements, that is
-said: the statements then contradict each other, and all terms are equal.
+and roles, and whether it can be compared (at most 12 atoms). If it can, and no finite interpretation satisfies its
+statements, that is said: they then contradict each other, and all terms are equal.
 
 exit status: 0 accepted, 2 refused; of several the greatest
 ";
@@ -87,10 +87,10 @@ exit status: 0 printed, 2 refused (1: length, 9: past the end)
 const COMPARE: &str = "\
 usage: desk compare VOCABULARY A B [--words TEXT] [--survivors FILE] [--json]
 
-Whether the terms of records A and B are equal in every finite interpretation that satisfies the statements. If they
-are different, an element tells them apart: the names and restrictions that hold at it are listed, and which of the
-two terms it belongs to. It is said where nothing can belong to A, to B or to either, and where nothing satisfies the
-statements.
+Whether the terms of records A and B, of a vocabulary of at most 12 atoms, are equal in every finite interpretation that
+satisfies the statements. If they are different, an element of such an interpretation tells them apart: the names and
+restrictions that hold at it are listed, and which of the two terms it belongs to. It is said where nothing can belong to
+A, to B or to either in such an interpretation, and where there is none.
 
   --words TEXT       the text of the vocabulary, whose comments say what each record is called
   --survivors FILE   writes the 512 bytes that describe the interpretation: bit t mod 8 of byte t div 8 is 1 for a
@@ -102,12 +102,14 @@ exit status: 0 equal, 1 different, 2 refused
 const WITHIN: &str = "\
 usage: desk within VOCABULARY A B [--words TEXT] [--json]
 
-Whether the term of record A lies within the term of record B in every finite interpretation that satisfies the
-statements. No script is needed. If it does not, an element of A outside B is named and explained as by 'compare'.
+Whether the term of record A lies within the term of record B, of a vocabulary of at most 12 atoms, in every finite
+interpretation that satisfies the statements. No script is needed. If it does not, an element of A outside B is named and
+explained as by 'compare'.
 
-It is decided by the proved comparison: A lies within B exactly if \"A and B\" is equal to A. A copy of the vocabulary with
-the record \"A and B\" at its end is compared, or a record that says it already (or \"A or B\", compared with B). A vocabulary
-of 512 records has no room for another: if none says it, and A and B are not equal, that is the answer, with status 2.
+It is asked of the proved comparison, as whether \"A and B\" is equal to A: of a copy of the vocabulary with the record
+\"A and B\" at its end, or of a record that says it already (or \"A or B\", compared with B). That this comes to the same is
+tested, not proved. A vocabulary of 512 records has no room for another: if none says it, and A and B are not equal, that
+is the answer, with status 2.
 
   --words TEXT   the text of the vocabulary, whose comments say what each record is called
 
@@ -118,7 +120,7 @@ const VERIFY: &str = "\
 usage: desk verify VOCABULARY SCRIPT [--trace] [--words TEXT] [--json]
 
 Whether the script proves that its first term lies within its second, over the vocabulary: accepted with the number of
-its steps, or the refusal, with what is wrong at the record.
+its steps, or the refusal, with what is wrong at the record. What a refused script claims may hold all the same.
 
   --trace   prints each step with the goal, the column that it uses with the terms put in, and the open frames after
             it: a frame's goal first, then its other open literals; '>' marks the last frame, whose goal is the next.
@@ -127,7 +129,8 @@ its steps, or the refusal, with what is wrong at the record.
   --words TEXT   the text of the vocabulary, whose comments say what each record is called; a trace says its goals in
                  words, too
 
-exit status: 0 accepted, 1 the script keeps the form but its chain is no derivation (20 to 25), 2 refused input
+exit status: 0 accepted, 1 the script keeps the form, but its chain is no derivation of at most 64 open frames (20 to 25;
+after 23 it may be one of more), 2 refused input
 ";
 
 const COLUMNS: &str = "\
@@ -228,10 +231,10 @@ A line is VOCABULARY A B CLAIM. A and B are record numbers. The claim is one of
 
   equal            the terms A and B are equal
   different        they are not
-  within           A lies within B, decided by the comparison (at most 12 atoms)
+  within           A lies within B, as the comparison tells
   within SCRIPT    A lies within B by a script, which is accepted and has the query \"A within B\"
 
-in every finite interpretation that satisfies the vocabulary's statements.
+in every finite interpretation that satisfies the vocabulary's statements. The first three take at most 12 atoms.
 
   -- filed in March
   v.vocabulary 4 3 different

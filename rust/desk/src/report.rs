@@ -71,7 +71,7 @@ impl Style {
     }
 }
 
-/// The status of a refusal: a chain that is no derivation does not hold; other input is unfit.
+/// The status of a refusal: a script that keeps the form and is refused by its chain does not hold; other input is unfit.
 pub fn refusal_status(refusal: Refusal) -> Status {
     if refusal.rule.is_of_chain() {
         Status::DoesNotHold

@@ -26,9 +26,9 @@ fn long(rest: &mut &[u8]) -> u32 {
     u32::from_le_bytes(take(rest, 4).try_into().unwrap())
 }
 
-/// The vocabulary of each case of crates/vectors/stdin, of whatever length.
-pub fn vectors() -> Vec<Vec<u8>> {
-    let bytes = bytes("vectors");
+/// The vocabulary of each case of crates/vocabulary_cases/stdin, of whatever length.
+pub fn vocabulary_cases() -> Vec<Vec<u8>> {
+    let bytes = bytes("vocabulary_cases");
     let (mut rest, mut cases) = (bytes.as_slice(), Vec::new());
     while !rest.is_empty() {
         let length = word(&mut rest);
@@ -39,9 +39,9 @@ pub fn vectors() -> Vec<Vec<u8>> {
     cases
 }
 
-/// The vocabulary, A and B of each case of crates/comparisons/stdin.
-pub fn comparisons() -> Vec<(Vec<u8>, u32, u32)> {
-    let bytes = bytes("comparisons");
+/// The vocabulary, A and B of each case of crates/comparison_cases/stdin.
+pub fn comparison_cases() -> Vec<(Vec<u8>, u32, u32)> {
+    let bytes = bytes("comparison_cases");
     let (mut rest, mut cases) = (bytes.as_slice(), Vec::new());
     while !rest.is_empty() {
         let (length, a, b) = (word(&mut rest), long(&mut rest), long(&mut rest));
@@ -52,9 +52,9 @@ pub fn comparisons() -> Vec<(Vec<u8>, u32, u32)> {
     cases
 }
 
-/// The vocabulary and the script of each case of crates/verdicts/stdin.
-pub fn scripts() -> Vec<(Vec<u8>, Vec<u8>)> {
-    let bytes = bytes("verdicts");
+/// The vocabulary and the script of each case of crates/script_cases/stdin.
+pub fn script_cases() -> Vec<(Vec<u8>, Vec<u8>)> {
+    let bytes = bytes("script_cases");
     let (mut rest, mut cases) = (bytes.as_slice(), Vec::new());
     while !rest.is_empty() {
         let (vocabulary, script) = (word(&mut rest), word(&mut rest));
@@ -65,8 +65,8 @@ pub fn scripts() -> Vec<(Vec<u8>, Vec<u8>)> {
     cases
 }
 
-/// The vocabularies of vectors and scripts, each once.
+/// The vocabularies of the vocabulary cases and of the script cases, each once.
 pub fn vocabularies() -> BTreeSet<Vec<u8>> {
-    let of_scripts = scripts().into_iter().map(|(vocabulary, _)| vocabulary);
-    of_scripts.chain(vectors()).collect()
+    let of_scripts = script_cases().into_iter().map(|(vocabulary, _)| vocabulary);
+    of_scripts.chain(vocabulary_cases()).collect()
 }

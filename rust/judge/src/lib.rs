@@ -1,10 +1,10 @@
 //! The duty vocabulary judge from Rust: a safe wrapper of the four calls of libjudge.a.
 //!
 //! Every call takes slices of any content and length, and answers or refuses: none panics, none needs a
-//! condition. What an answer means (docs/FORMATS.md) is proved of the library; this wrapper takes its
-//! numbers apart (tested, not proved). A borrowed buffer cannot overlap a vocabulary, so what
-//! include/judge.h asks of pointers holds by itself. A call runs on the caller's stack: [`STACK_BYTES`] are
-//! enough.
+//! condition. What an answer means (docs/FORMATS.md) is proved of the library's Rattle source; the compiler's
+//! back end and the linker are trusted, and this wrapper, which takes the numbers apart, is tested. A borrowed
+//! buffer cannot overlap a vocabulary, so what include/judge.h asks of pointers holds by itself. A call runs on
+//! the caller's stack: [`STACK_BYTES`] are enough.
 //!
 //! ```
 //! let vocabulary = [16, 1, 0, 0, 0, 0, 0, 0, 3, 0, 7, 0, 0, 0, 0, 0]; // a header and a name
@@ -100,8 +100,8 @@ pub fn record(vocabulary: &[u8], number: u32) -> Result<&[u8], Refusal> {
     Ok(vocabulary.get(offset..offset + RECORD_BYTES).unwrap_or_default())
 }
 
-/// The comparison of the terms numbered `a` and `b`. The survivors are written into the first [`SURVIVOR_BYTES`] of
-/// the buffer; a refusal writes nothing.
+/// The comparison of the terms numbered `a` and `b`, of an accepted vocabulary of at most [`ATOMS`] atoms. The survivors
+/// are written into the first [`SURVIVOR_BYTES`] of the buffer; a refusal writes nothing.
 pub fn compare(vocabulary: &[u8], a: u32, b: u32, buffer: &mut [u8]) -> Result<Comparison, Refusal> {
     // SAFETY: as above; the buffer is writable, and overlaps nothing, since it is borrowed for writing.
     let answer = taken(unsafe {
@@ -126,7 +126,9 @@ pub fn compare(vocabulary: &[u8], a: u32, b: u32, buffer: &mut [u8]) -> Result<C
     })
 }
 
-/// The script check: the number of steps of a script that proves what its header asks.
+/// The script check: the number of steps of a script that proves what its header asks. It is accepted exactly when it
+/// keeps the form and its chain is a derivation of at most [`FRAMES`] open frames. A refusal does not say that what it
+/// asks is false; after [`Rule::Frames`] its chain may well be a derivation of more frames.
 pub fn check_script(vocabulary: &[u8], script: &[u8]) -> Result<u32, Refusal> {
     // SAFETY: as above.
     value(unsafe { library::judge_check_script(vocabulary.as_ptr(), vocabulary.len(), script.as_ptr(), script.len()) })

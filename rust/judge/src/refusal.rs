@@ -197,8 +197,8 @@ impl Rule {
             .map_or("a refusal that the table does not have", |(_, row)| row.words)
     }
 
-    /// Whether the chain of a script that keeps the form decides it (20 to 25): the input is fit, and what it claims
-    /// is not shown.
+    /// Whether the chain of a script that keeps the form decides it (20 to 25): the input is fit, and its chain is no
+    /// derivation of at most 64 open frames. So what it claims is not shown; it may hold all the same.
     pub fn is_of_chain(self) -> bool {
         (20..=25).contains(&self.number())
     }

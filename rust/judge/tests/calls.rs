@@ -100,8 +100,8 @@ fn refused(refusal: Refusal) -> String {
 
 #[test]
 fn the_stored_vocabularies_are_answered_as_expected() {
-    let mut cases = Cases(include_bytes!("../../../crates/vectors/stdin"));
-    let expected = include_str!("../../../crates/vectors/stdout");
+    let mut cases = Cases(include_bytes!("../../../crates/vocabulary_cases/stdin"));
+    let expected = include_str!("../../../crates/vocabulary_cases/stdout");
     for line in expected.lines() {
         let (length, number) = (cases.number(2) as usize, cases.number(4));
         let vocabulary = cases.take(length);
@@ -118,8 +118,8 @@ fn the_stored_vocabularies_are_answered_as_expected() {
 
 #[test]
 fn the_stored_scripts_are_answered_as_expected() {
-    let mut cases = Cases(include_bytes!("../../../crates/verdicts/stdin"));
-    let expected = include_str!("../../../crates/verdicts/stdout");
+    let mut cases = Cases(include_bytes!("../../../crates/script_cases/stdin"));
+    let expected = include_str!("../../../crates/script_cases/stdout");
     for line in expected.lines() {
         let (length, script_length) = (cases.number(2) as usize, cases.number(2) as usize);
         let (vocabulary, script) = (cases.take(length), cases.take(script_length));
@@ -159,8 +159,8 @@ fn sums(buffer: &[u8]) -> String {
 
 #[test]
 fn the_stored_comparisons_are_answered_as_expected() {
-    let mut cases = Cases(include_bytes!("../../../crates/comparisons/stdin"));
-    let expected = include_str!("../../../crates/comparisons/stdout");
+    let mut cases = Cases(include_bytes!("../../../crates/comparison_cases/stdin"));
+    let expected = include_str!("../../../crates/comparison_cases/stdout");
     for line in expected.lines() {
         let (length, a, b, lent) = (cases.number(2), cases.number(4), cases.number(4), cases.number(2));
         let seed = cases.number(1);

@@ -1,5 +1,5 @@
 //! Generated customs vocabularies: goods with their properties, ingredients, countries and consignees, after the model
-//! of the two in bench/questions.c.
+//! of the two in bench/comparison_questions.c.
 
 use std::fmt::Write;
 use std::path::{Path, PathBuf};

@@ -1,20 +1,14 @@
-//! A second implementation of the paper (README.md says which), written from it alone, that makes test vectors and
-//! the output expected for them. See README.md.
+//! A second implementation of the paper (README.md says which), written from it and not from the library's code, that
+//! makes cases and the output expected for them. See README.md.
 
 mod cases;
 mod comparison;
-mod decode;
-mod draft;
-mod faults;
-mod generate;
-mod print;
 mod random;
 mod script;
 mod select;
 mod table;
 #[cfg(test)]
 mod tests;
-mod vectors;
 mod vocabulary;
 
 use random::Seed;
@@ -23,30 +17,30 @@ use std::process::ExitCode;
 
 /// The exit status where all went well.
 const DONE: u8 = 0;
-/// The exit status where the vectors are not what they are meant to be.
+/// The exit status where the cases are not what they are meant to be.
 const UNFIT: u8 = 1;
-/// The exit status where the command line or the vector file is malformed, or writing fails.
+/// The exit status where the command line or a file of cases is malformed, or writing fails.
 const MALFORMED: u8 = 2;
 
 /// How the program is called.
-const USAGE: &str = "usage: second vectors|comparisons|scripts [SEED] > CASES, \
-     or second expect|expect-comparisons|expect-scripts < CASES > EXPECTED, \
-     or second new vectors|comparisons|scripts STORED < CASES > NEW, \
-     or second every vectors|comparisons|scripts STEP < CASES > CHOSEN";
+const USAGE: &str = "usage: second vocabulary|comparison|script [SEED] > CASES, \
+     or second expect-vocabulary|expect-comparison|expect-script < CASES > EXPECTED, \
+     or second new vocabulary|comparison|script STORED < CASES > NEW, \
+     or second every vocabulary|comparison|script STEP < CASES > CHOSEN";
 
 /// Runs the subcommand that the command line names.
 fn main() -> ExitCode {
     let words: Vec<String> = std::env::args().skip(1).collect();
     let status = match words.iter().map(String::as_str).collect::<Vec<_>>()[..] {
-        ["vectors"] => make_vectors(None),
-        ["vectors", seed] => seeded(seed, make_vectors),
-        ["expect"] => filter(|bytes| Ok(print::lines(&vectors::decode(bytes)?))),
-        ["comparisons"] => make_comparisons(None),
-        ["comparisons", seed] => seeded(seed, make_comparisons),
-        ["expect-comparisons"] => filter(|bytes| Ok(comparison::lines(&comparison::decode(bytes)?))),
-        ["scripts"] => make_scripts(None),
-        ["scripts", seed] => seeded(seed, make_scripts),
-        ["expect-scripts"] => filter(|bytes| Ok(script::lines(&script::decode(bytes)?))),
+        ["vocabulary"] => make_vocabularies(None),
+        ["vocabulary", seed] => seeded(seed, make_vocabularies),
+        ["expect-vocabulary"] => filter(|bytes| Ok(vocabulary::lines(&vocabulary::decode(bytes)?))),
+        ["comparison"] => make_comparisons(None),
+        ["comparison", seed] => seeded(seed, make_comparisons),
+        ["expect-comparison"] => filter(|bytes| Ok(comparison::lines(&comparison::decode(bytes)?))),
+        ["script"] => make_scripts(None),
+        ["script", seed] => seeded(seed, make_scripts),
+        ["expect-script"] => filter(|bytes| Ok(script::lines(&script::decode(bytes)?))),
         ["new", name, stored] => filter(|bytes| select::new(name, &file(stored)?, bytes)),
         ["every", name, step] => filter(|bytes| select::every(name, step, bytes)),
         _ => complain(USAGE),
@@ -62,17 +56,17 @@ fn seeded(word: &str, make: fn(Seed) -> u8) -> u8 {
     }
 }
 
-/// Writes the vector file to standard output, and the table of refusals to standard error.
-fn make_vectors(seed: Seed) -> u8 {
-    let planned = generate::all(seed);
-    let faults = generate::misses(&planned);
-    let cases: Vec<vectors::Case> = planned.into_iter().map(|p| p.case).collect();
-    let table = print::Table::of(&cases);
+/// Writes the file of vocabulary cases to standard output, and the table of refusals to standard error.
+fn make_vocabularies(seed: Seed) -> u8 {
+    let planned = vocabulary::all(seed);
+    let faults = vocabulary::misses(&planned);
+    let cases: Vec<vocabulary::Case> = planned.into_iter().map(|p| p.case).collect();
+    let table = vocabulary::Table::of(&cases);
     eprint!("{}", table.text());
     for fault in &faults {
         eprintln!("second: {fault}");
     }
-    match vectors::encode(&cases) {
+    match vocabulary::encode(&cases) {
         Err(message) => return complain(&message),
         Ok(bytes) if !write_out(&bytes) => return complain("cannot write"),
         Ok(_) => {}

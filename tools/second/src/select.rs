@@ -16,9 +16,9 @@ struct Form {
 /// The form of the cases that a subcommand makes.
 fn form(name: &str) -> Result<Form, String> {
     let (head, lengths, filling): (usize, &[usize], _) = match name {
-        "vectors" => (6, &[0], None),
-        "comparisons" => (13, &[0], Some(12)),
-        "scripts" => (4, &[0, 2], None),
+        "vocabulary" => (6, &[0], None),
+        "comparison" => (13, &[0], Some(12)),
+        "script" => (4, &[0, 2], None),
         _ => return Err(format!("there are no cases by the name {name}")),
     };
     Ok(Form { head, lengths, filling })

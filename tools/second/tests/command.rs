@@ -42,31 +42,31 @@ fn written(words: &[&str], input: &[u8]) -> Vec<u8> {
 /// longer, and is left to .ci/run.
 #[test]
 fn stored_files() {
-    let vectors = stored("crates/vectors/stdin");
-    assert!(written(&["vectors"], &[]) == vectors);
-    assert!(written(&["expect"], &vectors) == stored("crates/vectors/stdout"));
-    let scripts = stored("crates/verdicts/stdin");
-    assert!(written(&["expect-scripts"], &scripts) == stored("crates/verdicts/stdout"));
+    let vocabularies = stored("crates/vocabulary_cases/stdin");
+    assert!(written(&["vocabulary"], &[]) == vocabularies);
+    assert!(written(&["expect-vocabulary"], &vocabularies) == stored("crates/vocabulary_cases/stdout"));
+    let scripts = stored("crates/script_cases/stdin");
+    assert!(written(&["expect-script"], &scripts) == stored("crates/script_cases/stdout"));
 }
 
 /// A seed makes the same cases in every run, and others than another seed.
 #[test]
 fn seeds() {
-    let seventh = written(&["vectors", "7"], &[]);
-    assert!(written(&["vectors", "7"], &[]) == seventh);
-    assert!(written(&["vectors", "8"], &[]) != seventh);
+    let seventh = written(&["vocabulary", "7"], &[]);
+    assert!(written(&["vocabulary", "7"], &[]) == seventh);
+    assert!(written(&["vocabulary", "8"], &[]) != seventh);
 }
 
 /// Of the stored scripts none is new; of every 65,535 the first is the only one.
 #[test]
 fn choices() {
-    let file = "crates/verdicts/stdin";
+    let file = "crates/script_cases/stdin";
     let scripts = stored(file);
     let name = path(file);
-    assert!(written(&["new", "scripts", name.to_str().unwrap()], &scripts).is_empty());
-    let first = written(&["every", "scripts", "65535"], &scripts);
+    assert!(written(&["new", "script", name.to_str().unwrap()], &scripts).is_empty());
+    let first = written(&["every", "script", "65535"], &scripts);
     assert!(!first.is_empty() && first.len() < scripts.len() && scripts.starts_with(&first));
-    let line = written(&["expect-scripts"], &first);
+    let line = written(&["expect-script"], &first);
     assert_eq!(line, b"accepted 3\n");
 }
 
@@ -76,14 +76,14 @@ fn choices() {
 fn refused_command_lines() {
     let calls: [(&[&str], &str); 9] = [
         (&[], "usage: "),
-        (&["vector"], "usage: "),
-        (&["vectors", "x"], "usage: "),
-        (&["scripts", "-1"], "usage: "),
-        (&["expect", "x"], "usage: "),
-        (&["expect"], "the file ends inside case 0"),
-        (&["expect-comparisons"], "the file ends inside case 0"),
-        (&["every", "scripts", "2"], "the file ends inside case 0"),
-        (&["new", "scripts", "/nowhere/stdin"], "/nowhere/stdin: "),
+        (&["vectors"], "usage: "),
+        (&["vocabulary", "x"], "usage: "),
+        (&["script", "-1"], "usage: "),
+        (&["expect-vocabulary", "x"], "usage: "),
+        (&["expect-vocabulary"], "the file ends inside case 0"),
+        (&["expect-comparison"], "the file ends inside case 0"),
+        (&["every", "script", "2"], "the file ends inside case 0"),
+        (&["new", "script", "/nowhere/stdin"], "/nowhere/stdin: "),
     ];
     for (words, wrong) in calls {
         let output = run(words, &[1, 0, 0]);

@@ -8,7 +8,7 @@ use borrow.Author.Needs.{needs}
 use denote.Ref.{now}
 use Rattle.demands.proofs.Bounds.{SmallVerdict, most, comparison-small}
 use Rattle.types.specs.Answers.{compared}
-use Rattle.types.specs.Compare.{comparison}
+use Rattle.types.specs.Comparison.{comparison}
 use Rattle.types.specs.declared.answers.Compared.{Compared}
 use Rattle.judge.specs.Packed.{packedVerdict}
 use Rattle.judge.proofs.judge_compare.Statement.{statement}

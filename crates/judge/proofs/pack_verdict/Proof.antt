@@ -30,13 +30,5 @@ returns c = omega (arith, c .flag .ensures)
 pub pack-verdict-spec : {M : Type 1} → statement M
 pack-verdict-spec =
     tie.close
-    (tie.spec
-    (λ c κs. search needs)
-    mul-result
-    (λ c. omega arith)
-    add-result
-    (λ c. omega arith)
-    add-result-2
-    (λ c. omega arith)
-    add-result-3
-    returns)
+    (tie.spec (λ c κs. search needs) mul-result (λ c. omega arith) add-result (λ c. omega arith) add-result-2
+    (λ c. omega arith) add-result-3 returns)

@@ -8,9 +8,9 @@ use judge::Verdict;
 /// A stored comparison: the vocabulary, A and B.
 type Case = (&'static [u8], u32, u32);
 
-/// The cases of crates/comparisons.
+/// The cases of crates/comparison_cases.
 fn cases() -> Vec<Case> {
-    let mut rest: &[u8] = include_bytes!("../../../../crates/comparisons/stdin");
+    let mut rest: &[u8] = include_bytes!("../../../../crates/comparison_cases/stdin");
     let mut cases = Vec::new();
     while let [l0, l1, a0, a1, a2, a3, b0, b1, b2, b3, _, _, _, after @ ..] = rest {
         let (vocabulary, after) = after.split_at(u16::from_le_bytes([*l0, *l1]).into());

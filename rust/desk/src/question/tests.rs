@@ -3,7 +3,7 @@
 #![allow(clippy::unwrap_used, clippy::indexing_slicing, clippy::panic)]
 
 use super::{Questions, Within};
-use crate::stored::comparisons;
+use crate::stored::comparison_cases;
 use base::vocabulary::{Saying, Vocabulary};
 use judge::Verdict;
 
@@ -22,7 +22,7 @@ fn survivors(vocabulary: &[u8], term: u32) -> Vec<(u16, Vec<bool>)> {
 #[test]
 fn within_empty_and_contradictory_are_what_the_survivors_say() {
     let (mut within, mut outside, mut empty, mut contradictory) = (0, 0, 0, 0);
-    for (vocabulary, a, b) in comparisons() {
+    for (vocabulary, a, b) in comparison_cases() {
         let vocabulary = vocabulary.as_slice();
         let mut questions = Questions::new(vocabulary);
         let answer = judge::compare(vocabulary, a, b, &mut [0; judge::SURVIVOR_BYTES]);

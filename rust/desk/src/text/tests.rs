@@ -6,7 +6,7 @@ mod faults;
 
 use super::{cursor::Fault, script, vocabulary, Kind};
 use crate::script::read as read_script;
-use crate::stored::{scripts, vectors};
+use crate::stored::{script_cases, vocabulary_cases};
 use base::vocabulary::Vocabulary;
 
 /// The bytes of a text, and whether they are a script's.
@@ -43,7 +43,10 @@ fn round_trip(bytes: &[u8], is_script: bool) -> String {
 #[test]
 fn stored_vocabularies_come_back_from_their_texts() {
     let (mut whole, mut accepted) = (0, 0);
-    for bytes in vectors().into_iter().filter(|bytes| is_whole_vocabulary(bytes)) {
+    for bytes in vocabulary_cases()
+        .into_iter()
+        .filter(|bytes| is_whole_vocabulary(bytes))
+    {
         let text = round_trip(&bytes, false);
         whole += 1;
         if judge::check_vocabulary(&bytes).is_ok() {
@@ -57,7 +60,7 @@ fn stored_vocabularies_come_back_from_their_texts() {
 #[test]
 fn stored_scripts_come_back_from_their_texts() {
     let (mut whole, mut accepted) = (0, 0);
-    for (vocabulary, bytes) in scripts().into_iter().filter(|(_, bytes)| is_whole_script(bytes)) {
+    for (vocabulary, bytes) in script_cases().into_iter().filter(|(_, bytes)| is_whole_script(bytes)) {
         let text = round_trip(&bytes, true);
         whole += 1;
         if judge::check_script(&vocabulary, &bytes).is_ok() {
@@ -199,8 +202,10 @@ fn mutated(random: &mut Random, text: &str, other: &str) -> String {
 /// The texts of the stored cases that are not long.
 fn short_texts() -> Vec<String> {
     let short = |bytes: &Vec<u8>| bytes.len() <= 400;
-    let vocabularies = vectors().into_iter().filter(|bytes| is_whole_vocabulary(bytes));
-    let scripts = scripts().into_iter().map(|(_, bytes)| bytes);
+    let vocabularies = vocabulary_cases()
+        .into_iter()
+        .filter(|bytes| is_whole_vocabulary(bytes));
+    let scripts = script_cases().into_iter().map(|(_, bytes)| bytes);
     let scripts = scripts.filter(|bytes| is_whole_script(bytes));
     let vocabularies = vocabularies.filter(short).map(|bytes| show(&bytes, false));
     vocabularies

@@ -4,7 +4,7 @@
 use super::{agreed, run, Shown};
 use crate::files::Name;
 use crate::input::Input;
-use crate::stored::scripts;
+use crate::stored::script_cases;
 use crate::text::vocabulary::Written;
 use crate::text::{Assembled, Kind, Line};
 use crate::{script, text};
@@ -70,7 +70,7 @@ const LOOP: &str = "vocabulary roles 0\nc1\nSubClassOf(c1 c1)\n";
 
 #[test]
 fn the_replay_agrees_with_the_library_on_every_case() {
-    let cases = scripts();
+    let cases = script_cases();
     let mut replayed: BTreeMap<u8, usize> = BTreeMap::new();
     for (i, (vocabulary, script)) in cases.iter().enumerate() {
         let verdict = check_script(vocabulary, script);
@@ -98,7 +98,7 @@ fn the_replay_agrees_with_the_library_on_every_case() {
 
 #[test]
 fn a_trace_has_every_step_and_a_reason_where_it_is_refused() {
-    for (i, (vocabulary, script)) in scripts().iter().enumerate() {
+    for (i, (vocabulary, script)) in script_cases().iter().enumerate() {
         let verdict = check_script(vocabulary, script);
         let Some(shown) = of(vocabulary, script, verdict).expect("agreement") else {
             continue;

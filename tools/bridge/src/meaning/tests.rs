@@ -50,9 +50,9 @@ impl Case {
     }
 }
 
-/// The cases of crates/comparisons with few atoms.
+/// The cases of crates/comparison_cases with few atoms.
 fn cases() -> Vec<Case> {
-    let mut rest: &[u8] = include_bytes!("../../../../crates/comparisons/stdin");
+    let mut rest: &[u8] = include_bytes!("../../../../crates/comparison_cases/stdin");
     let mut cases = Vec::new();
     while let [l0, l1, a0, a1, a2, a3, b0, b1, b2, b3, _, _, _, after @ ..] = rest {
         let (bytes, after) = after.split_at(u16::from_le_bytes([*l0, *l1]).into());

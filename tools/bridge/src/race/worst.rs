@@ -15,7 +15,7 @@ use crate::question::Question;
 use crate::reasoner::{write_query, Reasoner};
 use crate::report::milliseconds;
 
-/// The files of bench/data, whose question is their first and their last term, as in bench/questions.c.
+/// The files of bench/data, whose question is their first and their last term, as in bench/comparison_questions.c.
 const WORST: [&str; 7] = [
     "walk8",
     "walk10",

@@ -1,7 +1,7 @@
 //! The comparison: its refusals in table order, its answer, and what it writes.
 
 use crate::comparison::types::{atoms, Set, Types};
-use crate::decode::{records, Record};
+use crate::vocabulary::records::{records, Record};
 use crate::vocabulary::{check_vocabulary, refuse_if, Refusal};
 
 /// The most atoms that are compared.

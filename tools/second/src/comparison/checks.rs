@@ -6,7 +6,7 @@ use crate::comparison::meaning::{is_largest, objection};
 use crate::comparison::plan::Planned;
 use crate::comparison::print::{line, Outcome};
 use crate::comparison::types::Types;
-use crate::decode::records;
+use crate::vocabulary::records::records;
 
 /// Interpretations with more elements are not evaluated, for their time.
 const MOST_ELEMENTS: usize = 256;

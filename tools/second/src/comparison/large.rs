@@ -1,8 +1,8 @@
 //! Vocabularies with many atoms, many records or many rounds, and those of the benchmarks.
 
 use crate::comparison::plan::Plan;
-use crate::decode::{records, Record};
-use crate::draft::Draft;
+use crate::vocabulary::records::{records, Record};
+use crate::vocabulary::Draft;
 use crate::vocabulary::{chain, MOST_RECORDS};
 
 /// The vocabularies of the benchmarks on which pairs of terms are chosen.

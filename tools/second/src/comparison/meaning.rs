@@ -3,7 +3,7 @@
 
 use crate::comparison::call::Compared;
 use crate::comparison::types::{chained, Types};
-use crate::decode::{Record, A};
+use crate::vocabulary::records::{Record, A};
 
 /// The elements of an interpretation, and which of them belong to each record's term.
 struct Interpretation {

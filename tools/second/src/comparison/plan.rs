@@ -4,8 +4,8 @@
 use crate::comparison::call::first_difference;
 use crate::comparison::file::Case;
 use crate::comparison::types::Types;
-use crate::decode::{records, terms};
 use crate::random::{Random, Seed};
+use crate::vocabulary::records::{records, terms};
 
 /// The seed of all random choices in the stored cases.
 const SEED: u64 = 20_240_715;

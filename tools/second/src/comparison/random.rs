@@ -3,9 +3,9 @@
 
 use crate::comparison::plan::Plan;
 use crate::comparison::types::Types;
-use crate::decode::Record;
-use crate::draft::Draft;
 use crate::random::Random;
+use crate::vocabulary::records::Record;
+use crate::vocabulary::Draft;
 
 /// The most atoms of a random vocabulary.
 const MOST_ATOMS: usize = 8;

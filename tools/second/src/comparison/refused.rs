@@ -5,11 +5,11 @@ use crate::cases::{beginning, with_byte};
 use crate::comparison::plan::Plan;
 use crate::comparison::random::vocabulary;
 use crate::comparison::terms::Terms;
-use crate::decode::{records, Record, RECORD_BYTES};
-use crate::draft::Draft;
-use crate::generate;
 use crate::random::Seed;
+use crate::vocabulary;
 use crate::vocabulary::check_vocabulary;
+use crate::vocabulary::records::{records, Record, RECORD_BYTES};
+use crate::vocabulary::Draft;
 
 /// One in so many refused cases of the vocabulary check is compared too.
 const ONE_IN: usize = 9;
@@ -163,7 +163,7 @@ impl Plan {
 
     /// Some of the vocabularies that the vocabulary check refuses, with random queries.
     fn refused_vocabularies(&mut self, seed: Seed) {
-        for planned in generate::all(seed) {
+        for planned in vocabulary::all(seed) {
             let vocabulary = planned.case.vocabulary;
             let refusal = check_vocabulary(&vocabulary).err();
             let short = vocabulary.len() <= LONGEST;

@@ -6,8 +6,8 @@ use crate::comparison::errors::ERRORS;
 use crate::comparison::plan::Planned;
 use crate::comparison::print::{run, Outcome};
 use crate::comparison::types::Types;
-use crate::decode::records;
 use crate::table::Table;
+use crate::vocabulary::records::records;
 
 /// Vocabularies with more types do not have the errors tried on them, for their time.
 const MOST_TYPES: usize = 256;

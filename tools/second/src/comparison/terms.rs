@@ -1,7 +1,7 @@
 //! Vocabularies written out by hand: each call pushes a record and answers its number.
 
-use crate::decode::Record;
-use crate::draft::Draft;
+use crate::vocabulary::records::Record;
+use crate::vocabulary::Draft;
 
 /// A vocabulary in the making, and the statements that its chain is to have.
 #[derive(Clone)]

@@ -8,10 +8,10 @@ use crate::comparison::errors::ERRORS;
 use crate::comparison::plan::{Plan, Planned};
 use crate::comparison::print::run;
 use crate::comparison::{decode, encode, lines, Case, Types};
-use crate::decode::records;
 use crate::random::Random;
 use crate::tests::paper::{header, names, refusal, vocabularies};
 use crate::tests::stored;
+use crate::vocabulary::records::records;
 
 /// What the lent bytes hold before a call.
 const FILLING: u8 = 0xA5;
@@ -130,10 +130,10 @@ fn errors_are_told() {
 /// The stored file, read and written again, is the same; as many lines are expected as it has cases.
 #[test]
 fn round_trip() {
-    let file = stored("crates/comparisons/stdin");
+    let file = stored("crates/comparison_cases/stdin");
     let cases = decode(&file).unwrap();
     assert_eq!(encode(&cases).unwrap(), file);
-    let expected = stored("crates/comparisons/stdout");
+    let expected = stored("crates/comparison_cases/stdout");
     assert_eq!(expected.iter().filter(|byte| **byte == b'\n').count(), cases.len());
 }
 

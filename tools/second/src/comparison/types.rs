@@ -1,8 +1,8 @@
 //! The types of a vocabulary, the pairs allowed for a role, the types that a set serves, and the
 //! rounds: the section "Types and comparison" of the paper, sentence by sentence.
 
-use crate::decode::{at, Record, A, B};
 use crate::vocabulary::chain;
+use crate::vocabulary::records::{at, Record, A, B};
 
 /// The kind of a name.
 const NAME: u8 = 3;

@@ -2,11 +2,11 @@
 //! acceptance of nothing but inclusions.
 
 use crate::comparison::atoms;
-use crate::decode::records;
 use crate::script::families::inclusions;
 use crate::script::file::line;
 use crate::script::plan::Planned;
 use crate::script::records::{at, decode, QUERY_A, QUERY_B};
+use crate::vocabulary::records::records;
 use crate::vocabulary::Refusal;
 
 /// Vocabularies with more atoms do not have their types tried, for their time.

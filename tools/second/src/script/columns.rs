@@ -1,6 +1,6 @@
 //! The columns of a vocabulary and a query: the section "Columns" of the paper, line by line.
 
-use crate::decode::{Record, A, B};
+use crate::vocabulary::records::{Record, A, B};
 
 /// What a literal says of its arguments.
 #[derive(Clone, Copy, Debug, PartialEq, Eq)]

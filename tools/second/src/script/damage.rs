@@ -2,13 +2,13 @@
 //! others, of which the first in table order is given.
 
 use crate::cases::beginning;
-use crate::generate;
 use crate::random::Seed;
 use crate::script::faults::{ways, wrong_headers, wrong_nexts};
 use crate::script::plan::{refused, Base, Plan};
 use crate::script::records::{
     is_step, replace, set, with, Script, Words, FIRST, KIND, NEXT, QUERY_A, QUERY_B, RECORD_BYTES, REDUCTION, TERM,
 };
+use crate::vocabulary;
 use crate::vocabulary::{check_vocabulary, Refusal};
 
 /// The longest vocabularies, in bytes, that are taken from those that the vocabulary check refuses.
@@ -242,7 +242,7 @@ impl Plan {
     /// Some of the short vocabularies that each row of the vocabulary check refuses, with the
     /// beginnings of scripts.
     fn refused_vocabularies(&mut self, bases: &[Base], seed: Seed) {
-        let all = generate::all(seed).into_iter().map(|planned| planned.case.vocabulary);
+        let all = vocabulary::all(seed).into_iter().map(|planned| planned.case.vocabulary);
         let short = all.filter(|vocabulary| vocabulary.len() <= SHORT);
         let answered = short.map(|v| (check_vocabulary(&v).err(), v));
         let refused_ones: Vec<(Refusal, Vec<u8>)> = answered.filter_map(|(refusal, v)| Some((refusal?, v))).collect();

@@ -2,7 +2,6 @@
 //! from the right one. "Errors near at hand" of the paper and its imitations are among them.
 
 use crate::comparison::atoms;
-use crate::decode::Record;
 use crate::script::chain::{complements, run, run_steps, Frame, Goal, Machine};
 use crate::script::columns::{mentions, Argument, Predicate};
 use crate::script::form::{self, check_form, check_header, check_query, check_records, is_repeat, may_follow, unused};
@@ -11,6 +10,7 @@ use crate::script::records::{
     Y,
 };
 use crate::script::rules::{Paper, Rules};
+use crate::vocabulary::records::Record;
 use crate::vocabulary::{refuse_if, Refusal};
 
 /// Wrong checks: for each its name, what it is called, and the rule that it replaces.

@@ -2,8 +2,8 @@
 //! a query. The prover derives what holds in them.
 
 use crate::comparison::{Terms, Types};
-use crate::decode::{records, terms};
 use crate::script::plan::{matrix, Plan};
+use crate::vocabulary::records::{records, terms};
 
 /// How many derivations are kept of one vocabulary.
 const EACH: usize = 16;

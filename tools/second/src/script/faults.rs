@@ -1,12 +1,12 @@
 //! The ways in which a script meets each refusal of its form.
 
-use crate::decode::Record;
 use crate::script::columns::{mentions, Argument};
 use crate::script::form::unused;
 use crate::script::records::{
     is_step, step, with, Script, Words, COLUMN, CONSTANT, CONSTANT_PLACE, EXTENSION, FUNCTION, INNER, KIND, OWNER,
     POSITION, REDUCTION, START, START_COLUMN, TERM, X, Y,
 };
+use crate::vocabulary::records::Record;
 
 /// A record with a word changed to each value in turn.
 fn each(record: Words, word: usize, values: &[u16]) -> Vec<Words> {

@@ -1,12 +1,12 @@
 //! The form of a script: rows 13, 14, 10 and 15 to 19 of the table.
 
-use crate::decode::Record;
 use crate::script::columns::{mentions, Argument};
 use crate::script::records::{
     is_step, Script, COLUMN, CONSTANT, CONSTANT_PLACE, EXTENSION, FIRST, FUNCTION, HEADER, INNER, KIND, MOST_RECORDS,
     NEXT, OWNER, POSITION, RECORD_BYTES, REDUCTION, START, START_COLUMN, TERM, X, Y,
 };
 use crate::script::rules::Rules;
+use crate::vocabulary::records::Record;
 use crate::vocabulary::{refuse_if, Refusal};
 
 /// Row 13: the length of the script.

@@ -1,12 +1,12 @@
 //! Scripts with as many records as there may be, and vocabularies with as many.
 
-use crate::decode::RECORD_BYTES as VOCABULARY_RECORD;
 use crate::script::plan::{refused, Base, Plan};
 use crate::script::records::{
     replace, step, with, CONSTANT_PLACE, EXTENSION, KIND, MOST_RECORDS, NEXT, OWNER, REDUCTION, START, TERM,
 };
 use crate::script::towers::Tower;
 use crate::script::writer::Writer;
+use crate::vocabulary::records::RECORD_BYTES as VOCABULARY_RECORD;
 use crate::vocabulary::MOST_RECORDS as MOST_VOCABULARY_RECORDS;
 
 /// The most extensions of a script: header, constant and start are records too.

@@ -1,7 +1,6 @@
 //! The cases of the script check, in groups. A case carries its expected line, where the paper or
 //! its making says so.
 
-use crate::decode;
 use crate::random::{Random, Seed};
 use crate::script::columns::Matrix;
 use crate::script::file::Case;
@@ -9,6 +8,7 @@ use crate::script::prover::{Prover, Step};
 use crate::script::records::{encode, Script, Words};
 use crate::script::writer::{write, Writer};
 use crate::vocabulary::chain;
+use crate::vocabulary::records::records;
 
 /// The seed of all random choices in the stored cases.
 const SEED: u64 = 20_240_928;
@@ -66,7 +66,7 @@ pub fn all(seed: Seed) -> Vec<Planned> {
 
 /// The matrix of a vocabulary and a query.
 pub fn matrix(vocabulary: &[u8], query: [u16; 2]) -> Matrix {
-    let records = decode::records(vocabulary);
+    let records = records(vocabulary);
     Matrix {
         statements: chain(&records),
         records,

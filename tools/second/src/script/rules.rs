@@ -1,10 +1,10 @@
 //! The points of the script check in which a wrong check (`errors.rs`) may differ. Each default is
 //! the paper's.
 
-use crate::decode::Record;
 use crate::script::chain::{complements, run, Frame, Goal, Machine, MOST_FRAMES};
 use crate::script::form;
 use crate::script::records::{Script, Term};
+use crate::vocabulary::records::Record;
 use crate::vocabulary::{chain, Refusal};
 
 /// A script check.

@@ -2,7 +2,6 @@
 //! statement off the chain. Whatever stands before the step is as it was, so that its refusal is
 //! the first.
 
-use crate::decode::{at as vocabulary_record, Record};
 use crate::script::columns::{Argument, Column, Literal, Matrix};
 use crate::script::plan::{refused, Base, Plan};
 use crate::script::prover::opposed;
@@ -10,6 +9,7 @@ use crate::script::records::{
     replace, set, step, with, Script, Words, COLUMN, CONSTANT_PLACE, EXTENSION, FIRST, FRAME, KIND, NEXT, OWNER,
     POSITION, REDUCTION, START, TERM, X, Y,
 };
+use crate::vocabulary::records::{at as vocabulary_record, Record};
 
 impl Plan {
     /// Rows 20 to 22, 24 and 25 in a script, at random steps.

@@ -1,12 +1,12 @@
 //! How many cases of the script check there are of each sort, and how many tell each error.
 
-use crate::decode::{at as vocabulary_record, records};
 use crate::script::call::{check_by, check_script};
 use crate::script::checks::fault;
 use crate::script::errors::ERRORS;
 use crate::script::plan::Planned;
 use crate::script::records::{at, chain, decode, COLUMN, EXTENSION, KIND, MOST_RECORDS, OWNER, POSITION, RECORD_BYTES};
 use crate::table::Table;
+use crate::vocabulary::records::{at as vocabulary_record, records};
 use crate::vocabulary::Refusal;
 use std::collections::BTreeSet;
 

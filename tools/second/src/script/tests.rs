@@ -122,10 +122,10 @@ fn errors_are_told() {
 /// The stored file, read and written again, is the same; as many lines are expected as it has cases.
 #[test]
 fn round_trip() {
-    let file = stored("crates/verdicts/stdin");
+    let file = stored("crates/script_cases/stdin");
     let cases = decode(&file).unwrap();
     assert_eq!(encode(&cases).unwrap(), file);
-    let expected = stored("crates/verdicts/stdout");
+    let expected = stored("crates/script_cases/stdout");
     assert_eq!(expected.iter().filter(|byte| **byte == b'\n').count(), cases.len());
 }
 

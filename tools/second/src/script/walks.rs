@@ -3,12 +3,12 @@
 //! reduction that comes near: against a literal that is not its frame's goal, or a goal of one sign.
 
 use crate::comparison::Terms;
-use crate::decode::{self, records};
 use crate::script::columns::Literal;
 use crate::script::families;
 use crate::script::plan::{matrix, refused, Plan};
 use crate::script::prover::{opposed, Prover, Step, Term};
 use crate::script::records::{step, REDUCTION};
+use crate::vocabulary::records::{self, records};
 
 /// A literal of a frame.
 type Goal = Literal<Term>;
@@ -92,7 +92,7 @@ impl Plan {
     /// Walks over a vocabulary.
     fn walks_over(&mut self, terms: &Terms) {
         let vocabulary = terms.clone().bytes();
-        let all: Vec<u16> = decode::terms(&records(&vocabulary))
+        let all: Vec<u16> = records::terms(&records(&vocabulary))
             .into_iter()
             .map(|n| n as u16)
             .collect();

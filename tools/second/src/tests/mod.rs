@@ -1,5 +1,5 @@
-//! Tests of the vocabulary check, the record call, the choice of cases and the random source. Those of the comparison
-//! and of the script check stand beside them.
+//! Tests of the choice of cases and of the random source, and the samples of the paper. The tests of vocabularies, the
+//! comparison and scripts stand beside these.
 
 #![allow(clippy::unwrap_used, clippy::indexing_slicing)]
 
@@ -7,7 +7,6 @@ pub mod paper;
 
 mod random;
 mod select;
-mod vocabulary;
 
 /// The bytes of a stored file, by its path from the root of the repository.
 pub fn stored(path: &str) -> Vec<u8> {

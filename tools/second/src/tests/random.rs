@@ -1,8 +1,7 @@
 //! The source of random choices, and the cases that hang on it.
 
-use crate::generate;
 use crate::random::Random;
-use crate::vectors::Case;
+use crate::vocabulary::{all, Case};
 
 /// The first numbers below 2^32 of a seed.
 fn numbers(seed: u64) -> Vec<usize> {
@@ -12,7 +11,7 @@ fn numbers(seed: u64) -> Vec<usize> {
 
 /// The cases of a seed.
 fn cases(seed: Option<u64>) -> Vec<Case> {
-    generate::all(seed).into_iter().map(|planned| planned.case).collect()
+    all(seed).into_iter().map(|planned| planned.case).collect()
 }
 
 /// A seed gives the same numbers in every run, and another seed others.

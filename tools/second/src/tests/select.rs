@@ -2,24 +2,27 @@
 
 use crate::select::{every, new};
 use crate::tests::paper::{header, names};
-use crate::{comparison, script, vectors};
+use crate::{comparison, script, vocabulary};
 
-/// The vector file of some record numbers of a header alone.
+/// The file of vocabulary cases with some record numbers of a header alone.
 fn file(numbers: &[u32]) -> Vec<u8> {
-    let case = |number: &u32| vectors::Case {
+    let case = |number: &u32| vocabulary::Case {
         vocabulary: header(0),
         number: *number,
     };
-    vectors::encode(&numbers.iter().map(case).collect::<Vec<_>>()).unwrap()
+    vocabulary::encode(&numbers.iter().map(case).collect::<Vec<_>>()).unwrap()
 }
 
 /// Stored cases go, and of equal ones all but the first; the order stays.
 #[test]
 fn new_cases() {
     let made = file(&[3, 1, 4, 1, 5, 9, 2, 6, 5, 3]);
-    assert_eq!(new("vectors", &file(&[4, 2]), &made).unwrap(), file(&[3, 1, 5, 9, 6]));
-    assert_eq!(new("vectors", &[], &made).unwrap(), file(&[3, 1, 4, 5, 9, 2, 6]));
-    assert_eq!(new("vectors", &made, &made).unwrap(), []);
+    assert_eq!(
+        new("vocabulary", &file(&[4, 2]), &made).unwrap(),
+        file(&[3, 1, 5, 9, 6])
+    );
+    assert_eq!(new("vocabulary", &[], &made).unwrap(), file(&[3, 1, 4, 5, 9, 2, 6]));
+    assert_eq!(new("vocabulary", &made, &made).unwrap(), []);
 }
 
 /// Comparisons that differ in nothing but what the lent bytes hold are one case; other bytes lent are another.
@@ -35,11 +38,11 @@ fn new_comparisons() {
     let file = |cases: &[comparison::Case]| comparison::encode(cases).unwrap();
     let made = file(&[case(512, 1), case(512, 2), case(513, 1)]);
     assert_eq!(
-        new("comparisons", &[], &made).unwrap(),
+        new("comparison", &[], &made).unwrap(),
         file(&[case(512, 1), case(513, 1)])
     );
     assert_eq!(
-        new("comparisons", &file(&[case(512, 9)]), &made).unwrap(),
+        new("comparison", &file(&[case(512, 9)]), &made).unwrap(),
         file(&[case(513, 1)])
     );
 }
@@ -59,7 +62,7 @@ fn new_scripts() {
         case(names(1), 16),
     ]);
     assert_eq!(
-        new("scripts", &file(&[case(names(1), 17)]), &made).unwrap(),
+        new("script", &file(&[case(names(1), 17)]), &made).unwrap(),
         file(&[case(names(1), 16), case(names(2), 16)])
     );
 }
@@ -68,11 +71,11 @@ fn new_scripts() {
 #[test]
 fn every_case() {
     let made = file(&[0, 1, 2, 3, 4, 5, 6]);
-    assert_eq!(every("vectors", "3", &made).unwrap(), file(&[0, 3, 6]));
-    assert_eq!(every("vectors", "7", &made).unwrap(), file(&[0]));
-    assert_eq!(every("vectors", "1", &made).unwrap(), made);
-    assert_eq!(every("vectors", "0", &made).unwrap(), made);
-    assert_eq!(every("vectors", "3", &[]).unwrap(), []);
+    assert_eq!(every("vocabulary", "3", &made).unwrap(), file(&[0, 3, 6]));
+    assert_eq!(every("vocabulary", "7", &made).unwrap(), file(&[0]));
+    assert_eq!(every("vocabulary", "1", &made).unwrap(), made);
+    assert_eq!(every("vocabulary", "0", &made).unwrap(), made);
+    assert_eq!(every("vocabulary", "3", &[]).unwrap(), []);
 }
 
 /// What is wrong with a name, a step or a file is said.
@@ -80,11 +83,11 @@ fn every_case() {
 fn wrong_choices() {
     let made = file(&[0, 1]);
     let ends = "the file ends inside case 1";
-    assert_eq!(every("vectors", "1", &made[..made.len() - 1]).unwrap_err(), ends);
-    assert_eq!(new("vectors", &made[..made.len() - 1], &made).unwrap_err(), ends);
-    assert_eq!(every("vectors", "x", &made).unwrap_err(), "a step is a number");
+    assert_eq!(every("vocabulary", "1", &made[..made.len() - 1]).unwrap_err(), ends);
+    assert_eq!(new("vocabulary", &made[..made.len() - 1], &made).unwrap_err(), ends);
+    assert_eq!(every("vocabulary", "x", &made).unwrap_err(), "a step is a number");
     assert_eq!(
-        new("verdicts", &[], &made).unwrap_err(),
-        "there are no cases by the name verdicts"
+        new("vectors", &[], &made).unwrap_err(),
+        "there are no cases by the name vectors"
     );
 }

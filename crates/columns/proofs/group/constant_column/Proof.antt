@@ -4,9 +4,9 @@ use native.Mathlib.Omega.{arith}
 use mathlib.Core.Path.{_∙_}
 use borrow.Author.Needs.{needs}
 use Rattle.columns.specs.Literals.{concept}
-use Rattle.columns.specs.Packed.{constantGroup}
-use Rattle.columns.proofs.Packing.{lists-one}
-use Rattle.columns.proofs.Groups.{past-at}
+use Rattle.columns.specs.Code.Packed.{constantGroup}
+use Rattle.columns.proofs.Refinement.Packing.{lists-one}
+use Rattle.columns.proofs.Refinement.Groups.{past-at}
 use Rattle.columns.proofs.group.constant_column.Statement.{statement}
 use Rattle.columns.proofs.group.constant_column.Tie as tie
 

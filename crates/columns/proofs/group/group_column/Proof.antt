@@ -5,8 +5,8 @@ use native.Mathlib.Omega.{arith}
 use mathlib.Core.Path.{sym, _∙_}
 use mathlib.Core.Logic.{⊎-elim}
 use borrow.Author.Needs.{needs}
-use Rattle.columns.proofs.Groups.{none-at, same-at, group-constant, group-junction, group-restriction, group-negation}
-use Rattle.columns.proofs.Groups.{group-inclusion, group-low, group-name, group-high}
+use Rattle.columns.proofs.Refinement.Groups.{none-at, same-at, group-constant, group-junction, group-restriction}
+use Rattle.columns.proofs.Refinement.Groups.{group-negation, group-inclusion, group-low, group-name, group-high}
 use Rattle.columns.proofs.group.group_column.Statement.{statement}
 use Rattle.columns.proofs.group.group_column.Tie as tie
 
@@ -58,16 +58,5 @@ returns-6 c =
 pub group-column-spec : {M : Type 1} → statement M
 group-column-spec =
     tie.close
-    (tie.spec
-    (λ c κs. search needs)
-    (λ c κs. search needs)
-    (λ c κs. search needs)
-    (λ c κs. search needs)
-    (λ c κs. search needs)
-    (λ c κs. search needs)
-    returns
-    returns-2
-    returns-3
-    returns-4
-    returns-5
-    returns-6)
+    (tie.spec (λ c κs. search needs) (λ c κs. search needs) (λ c κs. search needs) (λ c κs. search needs)
+    (λ c κs. search needs) (λ c κs. search needs) returns returns-2 returns-3 returns-4 returns-5 returns-6)

@@ -4,8 +4,8 @@ use Prim.Native.Nat.{_≤_}
 use native.Mathlib.Omega.{arith}
 use mathlib.Core.Path.{_∙_}
 use borrow.Author.Needs.{needs}
-use Rattle.columns.proofs.Groups.{size-constant, size-negation, size-triple, size-inclusion, size-none}
-use Rattle.columns.proofs.Groups.{group-low, group-name, group-high}
+use Rattle.columns.proofs.Refinement.Groups.{size-constant, size-negation, size-triple, size-inclusion, size-none}
+use Rattle.columns.proofs.Refinement.Groups.{group-low, group-name, group-high}
 use Rattle.columns.proofs.group.group_size.Statement.{statement}
 use Rattle.columns.proofs.group.group_size.Tie as tie
 
@@ -55,15 +55,5 @@ returns-7 c =
 pub group-size-spec : {M : Type 1} → statement M
 group-size-spec =
     tie.close
-    (tie.spec
-    (λ c κs. search needs)
-    (λ c κs. search needs)
-    (λ c κs. search needs)
-    (λ c κs. search needs)
-    returns
-    returns-2
-    returns-3
-    returns-4
-    returns-5
-    returns-6
-    returns-7)
+    (tie.spec (λ c κs. search needs) (λ c κs. search needs) (λ c κs. search needs) (λ c κs. search needs) returns returns-2
+    returns-3 returns-4 returns-5 returns-6 returns-7)

@@ -1,7 +1,7 @@
 -- `columns::group::group_takes_y` meets its contract. A y stands in the third column of the kinds 7 and 8.
 -- Assumes nothing.
 use native.Mathlib.Omega.{arith}
-use Rattle.columns.proofs.Groups.{restriction-takes-y, plain-takes-none}
+use Rattle.columns.proofs.Refinement.Groups.{restriction-takes-y, plain-takes-none}
 use Rattle.columns.proofs.group.group_takes_y.Statement.{statement}
 use Rattle.columns.proofs.group.group_takes_y.Tie as tie
 

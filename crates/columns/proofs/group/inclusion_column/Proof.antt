@@ -7,8 +7,8 @@ use borrow.Author.Needs.{needs}
 use Rattle.records.specs.Kinds.{inclusion}
 use Rattle.columns.specs.Literals.{concept}
 use Rattle.columns.specs.Columns.{columnsOf}
-use Rattle.columns.proofs.Packing.{lists-two}
-use Rattle.columns.proofs.Groups.{past-at}
+use Rattle.columns.proofs.Refinement.Packing.{lists-two}
+use Rattle.columns.proofs.Refinement.Groups.{past-at}
 use Rattle.columns.proofs.group.inclusion_column.Statement.{statement}
 use Rattle.columns.proofs.group.inclusion_column.Tie as tie
 

@@ -5,9 +5,9 @@ use mathlib.Core.Path.{_∙_}
 use mathlib.Core.Bool.{not}
 use borrow.Author.Needs.{needs}
 use Rattle.columns.specs.Literals.{concept}
-use Rattle.columns.specs.Packed.{junctionGroup}
-use Rattle.columns.proofs.Packing.{lists-two, lists-three}
-use Rattle.columns.proofs.Groups.{past-at}
+use Rattle.columns.specs.Code.Packed.{junctionGroup}
+use Rattle.columns.proofs.Refinement.Packing.{lists-two, lists-three}
+use Rattle.columns.proofs.Refinement.Groups.{past-at}
 use Rattle.columns.proofs.group.junction_column.Statement.{statement}
 use Rattle.columns.proofs.group.junction_column.Tie as tie
 
@@ -45,16 +45,6 @@ returns-4 c =
 pub junction-column-spec : {M : Type 1} → statement M
 junction-column-spec =
     tie.close
-    (tie.spec
-    (λ c κs. search needs)
-    (λ c κs. search needs)
-    (λ c κs. search needs)
-    (λ c κs. search needs)
-    (λ c κs. search needs)
-    (λ c κs. search needs)
-    (λ c κs. search needs)
-    (λ c κs. search needs)
-    returns
-    returns-2
-    returns-3
+    (tie.spec (λ c κs. search needs) (λ c κs. search needs) (λ c κs. search needs) (λ c κs. search needs)
+    (λ c κs. search needs) (λ c κs. search needs) (λ c κs. search needs) (λ c κs. search needs) returns returns-2 returns-3
     returns-4)

@@ -2,7 +2,7 @@
 -- Assumes nothing.
 use native.Mathlib.Omega.{arith}
 use borrow.Author.Needs.{needs}
-use Rattle.columns.proofs.Groups.{size-past}
+use Rattle.columns.proofs.Refinement.Groups.{size-past}
 use Rattle.columns.proofs.group.size_at.Statement.{statement}
 use Rattle.columns.proofs.group.size_at.Tie as tie
 

@@ -4,7 +4,7 @@ use native.Mathlib.Omega.{arith}
 use borrow.Author.Needs.{needs}
 use Rattle.columns.proofs.literal.pack_role.Statement.{statement}
 use Rattle.columns.proofs.literal.pack_role.Tie as tie
-use Rattle.records.proofs.Ranks.{digit-small}
+use Rattle.records.proofs.Laws.Bits.{digit-small}
 
 add-result-2 : tie.Need-add-result-2
 add-result-2 c = omega (arith, digit-small (c .before .args .positive), c .digit .ensures)
@@ -18,14 +18,5 @@ add-result-4 c = omega (arith, digit-small (c .before .args .positive), c .digit
 pub pack-role-spec : {M : Type 1} → statement M
 pack-role-spec =
     tie.close
-    (tie.spec
-    (λ c κs. search needs)
-    (λ c. search needs)
-    (λ c. search needs)
-    (λ c. search needs)
-    add-result-2
-    (λ c. search needs)
-    add-result-3
-    (λ c. search needs)
-    add-result-4
-    (λ c. search needs))
+    (tie.spec (λ c κs. search needs) (λ c. search needs) (λ c. search needs) (λ c. search needs) add-result-2
+    (λ c. search needs) add-result-3 (λ c. search needs) add-result-4 (λ c. search needs))

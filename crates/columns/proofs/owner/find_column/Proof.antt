@@ -6,10 +6,10 @@ use mathlib.Core.Path.{_≡_, sym, _∙_}
 use denote.Ref.{now}
 use borrow.Author.Needs.{needs}
 use borrow.Author.Tests.{not-true, not-false}
-use Rattle.records.proofs.Accepted.{Accepted, accepted-vocabulary}
+use Rattle.records.proofs.Theorems.Accepted.{Accepted, accepted-vocabulary}
 use Rattle.columns.specs.Columns.{states, columnsAt}
-use Rattle.columns.proofs.Groups.{none-at, same-at}
-use Rattle.columns.proofs.Owners.{columns-record, columns-silent, columns-past}
+use Rattle.columns.proofs.Refinement.Groups.{none-at, same-at}
+use Rattle.columns.proofs.Theorems.Owners.{columns-record, columns-silent, columns-past}
 use Rattle.columns.proofs.owner.find_column.Statement.{statement}
 use Rattle.columns.proofs.owner.find_column.Tie as tie
 
@@ -69,15 +69,5 @@ returns-4 c =
 pub find-column-spec : {M : Type 1} → statement M
 find-column-spec =
     tie.close
-    (tie.spec
-    (λ c κs. search needs)
-    returns
-    (λ c κs. search needs)
-    returns-2
-    (λ c κs. search needs)
-    element-copy-out-has-columns
-    (λ c κs. search needs)
-    (λ c κs. search needs)
-    returns-3
-    (λ c κs. search needs)
-    returns-4)
+    (tie.spec (λ c κs. search needs) returns (λ c κs. search needs) returns-2 (λ c κs. search needs)
+    element-copy-out-has-columns (λ c κs. search needs) (λ c κs. search needs) returns-3 (λ c κs. search needs) returns-4)

@@ -2,7 +2,7 @@
 -- Assumes nothing.
 use mathlib.Core.Path.{sym, _∙_}
 use borrow.Author.Needs.{needs}
-use Rattle.columns.proofs.Owners.{states-marked, states-term}
+use Rattle.columns.proofs.Theorems.Owners.{states-marked, states-term}
 use Rattle.columns.proofs.owner.has_columns.Statement.{statement}
 use Rattle.columns.proofs.owner.has_columns.Tie as tie
 

@@ -6,8 +6,8 @@ use mathlib.Core.Bool.{true, false}
 use borrow.Author.Needs.{needs}
 use Rattle.columns.specs.Literals.{concept}
 use Rattle.columns.specs.Columns.{queryColumns}
-use Rattle.columns.proofs.Packing.{lists-one}
-use Rattle.columns.proofs.Groups.{past-at}
+use Rattle.columns.proofs.Refinement.Packing.{lists-one}
+use Rattle.columns.proofs.Refinement.Groups.{past-at}
 use Rattle.columns.proofs.owner.query_column.Statement.{statement}
 use Rattle.columns.proofs.owner.query_column.Tie as tie
 
@@ -31,10 +31,4 @@ returns-3 c =
 pub query-column-spec : {M : Type 1} → statement M
 query-column-spec =
     tie.close
-    (tie.spec
-    (λ c κs. search needs)
-    (λ c κs. search needs)
-    (λ c κs. search needs)
-    returns
-    returns-2
-    returns-3)
+    (tie.spec (λ c κs. search needs) (λ c κs. search needs) (λ c κs. search needs) returns returns-2 returns-3)

@@ -11,7 +11,7 @@ use Rattle.records.specs.Format.{count}
 use Rattle.records.specs.Kinds.{isAtom}
 use Rattle.records.specs.declared.fields.Record.{Record}
 use Rattle.records.specs.Atoms.{rank}
-use Rattle.records.proofs.Ranks.{rank-turn}
+use Rattle.records.proofs.Theorems.Ranks.{rank-turn}
 use Rattle.records.proofs.atoms.count_atoms.Statement.{statement}
 use Rattle.records.proofs.atoms.count_atoms.Tie as tie
 
@@ -49,14 +49,5 @@ returns c =
 pub count-atoms-spec : {M : Type 1} → statement M
 count-atoms-spec =
     tie.close
-    (tie.spec
-    Inv-loop
-    μ-loop
-    loop-holds
-    (λ c κs. omega arith)
-    (λ c κs. search needs)
-    (λ c. omega arith)
-    (λ c. omega arith)
-    (λ c. omega arith)
-    loop-again
-    returns)
+    (tie.spec Inv-loop μ-loop loop-holds (λ c κs. omega arith) (λ c κs. search needs) (λ c. omega arith) (λ c. omega arith)
+    (λ c. omega arith) loop-again returns)

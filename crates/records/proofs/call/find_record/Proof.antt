@@ -3,43 +3,33 @@
 use mathlib.Core.Path.{refl}
 use borrow.Author.Needs.{needs}
 use Rattle.records.specs.Call.{recordCall}
-use Rattle.records.proofs.Order.{stopped, goes}
+use Rattle.records.proofs.Laws.Order.{then-refused-as, then-fine}
 use Rattle.records.proofs.call.find_record.Statement.{statement}
 use Rattle.records.proofs.call.find_record.Tie as tie
 
 returns : tie.Need-returns
 unfolding recordCall
 returns c =
-    stopped _ _ _ _ _ _ _ (c .locate-after .ensures) (c .before .before .before .check-length .ensures)
+    then-refused-as _ _ _ _ _ _ _ (c .locate-after .ensures) (c .before .before .before .check-length .ensures)
     (c .before .enum-told2 .given .1)
 
 returns-2 : tie.Need-returns-2
 unfolding recordCall
 returns-2 c =
-    goes _ _ _ _ (c .before .before .before .before .before .before .check-length .ensures)
+    then-fine _ _ _ _ (c .before .before .before .before .before .before .check-length .ensures)
     (c .before .before .before .before .enum-told .given .1)
-    (stopped _ _ _ _ _ _ _ (c .locate-after2 .ensures) (c .before .before .before .pass-if .ensures) (c .before .enum-told4 .given .1))
+    (then-refused-as _ _ _ _ _ _ _ (c .locate-after2 .ensures) (c .before .before .before .pass-if .ensures) (c .before .enum-told4 .given .1))
 
 returns-3 : tie.Need-returns-3
 unfolding recordCall
 returns-3 c =
-    goes _ _ _ _ (c .before .before .before .before .before .check-length .ensures)
+    then-fine _ _ _ _ (c .before .before .before .before .before .check-length .ensures)
     (c .before .before .before .enum-told .given .1)
-    (goes _ _ _ _ (c .before .before .pass-if .ensures) (c .enum-told3 .given .1) refl)
+    (then-fine _ _ _ _ (c .before .before .pass-if .ensures) (c .enum-told3 .given .1) refl)
 
 pub find-record-spec : {M : Type 1} → statement M
 find-record-spec =
     tie.close
-    (tie.spec
-    (λ c κs. search needs)
-    (λ c. search needs)
-    (λ c. search needs)
-    (λ c κs. search needs)
-    returns
-    (λ c κs. search needs)
-    (λ c. search needs)
-    (λ c. search needs)
-    (λ c κs. search needs)
-    returns-2
-    (λ c. search needs)
+    (tie.spec (λ c κs. search needs) (λ c. search needs) (λ c. search needs) (λ c κs. search needs) returns
+    (λ c κs. search needs) (λ c. search needs) (λ c. search needs) (λ c κs. search needs) returns-2 (λ c. search needs)
     returns-3)

@@ -5,7 +5,7 @@ use native.Mathlib.Omega.{arith}
 use mathlib.Core.Path.{_∙_, sym, ap}
 use borrow.Author.Needs.{needs}
 use Rattle.records.specs.Answers.{located}
-use Rattle.records.proofs.Bounds.{record-within}
+use Rattle.records.proofs.Theorems.Bounds.{record-within}
 use Rattle.records.proofs.call.record.Statement.{statement}
 use Rattle.records.proofs.call.record.Tie as tie
 
@@ -34,14 +34,5 @@ returns-2 c = (
 pub record-spec : {M : Type 1} → statement M
 record-spec =
     tie.close
-    (tie.spec
-    (λ c κs. search needs)
-    (λ c. search needs)
-    (λ c. search needs)
-    (λ c. search needs)
-    returns
-    add-end
-    (λ c. search needs)
-    (λ c. search needs)
-    part-result-end
-    returns-2)
+    (tie.spec (λ c κs. search needs) (λ c. search needs) (λ c. search needs) (λ c. search needs) returns add-end
+    (λ c. search needs) (λ c. search needs) part-result-end returns-2)

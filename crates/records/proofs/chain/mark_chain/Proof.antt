@@ -7,8 +7,8 @@ use mathlib.Core.Path.{ap, subst}
 use denote.Ref.{now}
 use Rattle.records.specs.Format.{count}
 use Rattle.records.specs.declared.fields.Record.{Record}
-use Rattle.records.proofs.Accepted.{Accepted, Later, well-formed-vocabulary}
-use Rattle.records.proofs.Following.{left}
+use Rattle.records.proofs.Theorems.Accepted.{Accepted, Later, well-formed-vocabulary}
+use Rattle.records.proofs.Theorems.Following.{left}
 use Rattle.records.proofs.chain.mark_chain.Proof.Marks.{Marking, start, standing, next, done, falls}
 use Rattle.records.proofs.chain.mark_chain.Statement.{statement}
 use Rattle.records.proofs.chain.mark_chain.Tie as tie
@@ -57,15 +57,5 @@ returns c =
 pub mark-chain-spec : {M : Type 1} → statement M
 mark-chain-spec =
     tie.close
-    (tie.spec
-    Inv-loop
-    μ-loop
-    read-at-requires
-    (λ c. omega arith)
-    loop-holds
-    array-write-marks
-    read-at-requires-2
-    (λ c. omega arith)
-    loop-less
-    loop-again
-    returns)
+    (tie.spec Inv-loop μ-loop read-at-requires (λ c. omega arith) loop-holds array-write-marks read-at-requires-2
+    (λ c. omega arith) loop-less loop-again returns)

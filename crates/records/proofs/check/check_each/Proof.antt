@@ -8,7 +8,7 @@ use Rattle.records.specs.Check.{recordCheck}
 use Rattle.records.specs.Format.{roleCount}
 use Rattle.records.specs.Outcome.{inTurn}
 use Rattle.records.specs.declared.fields.Record.{Record}
-use Rattle.records.proofs.Order.{turn-refused, turn-passed, turns-end}
+use Rattle.records.proofs.Laws.Order.{turn-refused, turn-passed, turns-end}
 use Rattle.records.proofs.check.check_each.Statement.{statement}
 use Rattle.records.proofs.check.check_each.Tie as tie
 
@@ -40,16 +40,5 @@ returns-2 c = sym (c .before .loop .inv .0 ∙ turns-end _ _ _ (c .loop-test .le
 pub check-each-spec : {M : Type 1} → statement M
 check-each-spec =
     tie.close
-    (tie.spec
-    Inv-loop
-    μ-loop
-    (λ c κs. omega arith)
-    loop-holds
-    check-record-requires
-    (λ c. search needs)
-    (λ c. search needs)
-    returns
-    (λ c. omega arith)
-    (λ c. omega arith)
-    loop-again
-    returns-2)
+    (tie.spec Inv-loop μ-loop (λ c κs. omega arith) loop-holds check-record-requires (λ c. search needs) (λ c. search needs)
+    returns (λ c. omega arith) (λ c. omega arith) loop-again returns-2)

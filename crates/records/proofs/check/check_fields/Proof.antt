@@ -5,30 +5,24 @@ use denote.Ref.{now}
 use borrow.Author.Needs.{needs}
 use Rattle.records.specs.Check.{fieldsCheck}
 use Rattle.records.specs.declared.fields.Record.{Record}
-use Rattle.records.proofs.Order.{stops, goes}
+use Rattle.records.proofs.Laws.Order.{then-refused, then-fine}
 use Rattle.records.proofs.check.check_fields.Statement.{statement}
 use Rattle.records.proofs.check.check_fields.Tie as tie
 
 returns : tie.Need-returns
 returns c =
     let a = c .before .before .before .before .before .before .args in
-    stops _ _ _ _ _ (c .before .before .check-kind .ensures) (c .enum-told2 .given .1)
+    then-refused _ _ _ _ _ (c .before .before .check-kind .ensures) (c .enum-told2 .given .1)
     ∙ ap (λ (r : Record). fieldsCheck (now (a .v)) (a .i) r) (c .before .before .before .read .ensures)
 
 returns-2 : tie.Need-returns-2
 returns-2 c =
     let a = c .before .before .before .before .before .before .before .args in
-    goes _ _ _ _ (c .before .before .before .check-kind .ensures) (c .before .enum-told .given .1) (c .check-rows .ensures)
+    then-fine _ _ _ _ (c .before .before .before .check-kind .ensures) (c .before .enum-told .given .1) (c .check-rows .ensures)
     ∙ ap (λ (r : Record). fieldsCheck (now (a .v)) (a .i) r) (c .before .before .before .before .read .ensures)
 
 pub check-fields-spec : {M : Type 1} → statement M
 check-fields-spec =
     tie.close
-    (tie.spec
-    (λ c κs. search needs)
-    (λ c κs. search needs)
-    (λ c. search needs)
-    (λ c. search needs)
-    returns
-    (λ c κs. search needs)
-    returns-2)
+    (tie.spec (λ c κs. search needs) (λ c κs. search needs) (λ c. search needs) (λ c. search needs) returns
+    (λ c κs. search needs) returns-2)

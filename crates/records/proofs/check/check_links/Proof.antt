@@ -8,8 +8,8 @@ use borrow.Author.Needs.{needs}
 use Rattle.records.specs.Answers.{checked}
 use Rattle.records.specs.Check.{linkCheck, headCheck}
 use Rattle.records.specs.Outcome.{inTurn}
-use Rattle.records.proofs.Order.{turn-refused, turn-passed, turns-end, stops, goes}
-use Rattle.records.proofs.Rows.{head-at}
+use Rattle.records.proofs.Laws.Order.{turn-refused, turn-passed, turns-end, then-refused, then-fine}
+use Rattle.records.proofs.Refinement.Rows.{head-at}
 use Rattle.records.proofs.check.check_links.Statement.{statement}
 use Rattle.records.proofs.check.check_links.Tie as tie
 
@@ -32,14 +32,14 @@ head c = head-at _ _ _ _ (c .before .before .read-at .ensures) (c .before .link-
 
 returns : tie.Need-returns Inv-loop μ-loop
 returns c =
-    stops _ _ _ _ _ (head (c .before .before)) (c .enum-told2 .given .1)
+    then-refused _ _ _ _ _ (head (c .before .before)) (c .enum-told2 .given .1)
 
 loop-holds : tie.Need-loop-holds Inv-loop μ-loop
 loop-holds c = refl
 
 returns-2 : tie.Need-returns-2 Inv-loop μ-loop
 returns-2 c =
-    goes _ _ _ _ (head (c .before .before .before .before .before .before .before))
+    then-fine _ _ _ _ (head (c .before .before .before .before .before .before .before))
     (c .before .before .before .before .before .enum-told .given .1)
     (turn-refused _ _ _ _ _ _ (c .before .before .before .loop-test .taken) (c .before .before .check-link .ensures) (c .enum-told4 .given .1)
     ∙ sym (c .before .before .before .before .loop .inv))
@@ -51,28 +51,13 @@ loop-again c =
 
 returns-3 : tie.Need-returns-3 Inv-loop μ-loop
 returns-3 c =
-    goes _ _ _ _ (head (c .before .before .before .before))
+    then-fine _ _ _ _ (head (c .before .before .before .before))
     (c .before .before .enum-told .given .1)
     (sym (c .before .loop .inv ∙ turns-end _ _ _ (c .loop-test .left)))
 
 pub check-links-spec : {M : Type 1} → statement M
 check-links-spec =
     tie.close
-    (tie.spec
-    Inv-loop
-    μ-loop
-    (λ c κs. omega arith)
-    link-fits-requires
-    pass-if-requires
-    (λ c. search needs)
-    (λ c. search needs)
-    returns
-    loop-holds
-    (λ c κs. omega arith)
-    (λ c. search needs)
-    (λ c. search needs)
-    returns-2
-    (λ c. omega arith)
-    (λ c. omega arith)
-    loop-again
-    returns-3)
+    (tie.spec Inv-loop μ-loop (λ c κs. omega arith) link-fits-requires pass-if-requires (λ c. search needs)
+    (λ c. search needs) returns loop-holds (λ c κs. omega arith) (λ c. search needs) (λ c. search needs) returns-2
+    (λ c. omega arith) (λ c. omega arith) loop-again returns-3)

@@ -3,20 +3,19 @@
 use mathlib.Core.Path.{_≡_}
 use denote.Ref.{now}
 use borrow.Author.Needs.{needs}
-use Rattle.records.specs.Outcome.{pass}
-use Rattle.records.specs.Check.{lengthCheck, recordsCheck}
-use Rattle.records.proofs.Order.{stops, goes, passed}
-use Rattle.records.proofs.Passed.{Sized, length-passed}
+use Rattle.records.specs.Check.{recordsCheck}
+use Rattle.records.proofs.Laws.Order.{then-refused, then-fine, checked-fine}
+use Rattle.records.proofs.Laws.Passed.{Sized, length-passed}
 use Rattle.records.proofs.check.check_records.Statement.{statement}
 use Rattle.records.proofs.check.check_records.Tie as tie
 
 -- the length has passed
 sized : (c : tie.After-enum-told) → Sized (now (c .before .before .before .before .args .v))
-sized c = length-passed _ (passed _ _ (c .before .before .check-length .ensures) (c .enum-told .given .1))
+sized c = length-passed _ (checked-fine _ _ (c .before .before .check-length .ensures) (c .enum-told .given .1))
 
 returns : tie.Need-returns
 unfolding recordsCheck
-returns c = stops _ _ _ _ _ (c .before .before .check-length .ensures) (c .enum-told2 .given .1)
+returns c = then-refused _ _ _ _ _ (c .before .before .check-length .ensures) (c .enum-told2 .given .1)
 
 check-header-requires : tie.Need-check-header-requires
 check-header-requires c κs = sized c .least
@@ -26,8 +25,8 @@ unfolding recordsCheck
 returns-2 c =
     let header = c .before .before in
     let length = header .before in
-    goes _ _ _ _ (length .before .before .check-length .ensures) (length .enum-told .given .1)
-    (stops _ _ _ _ _ (header .check-header .ensures) (c .enum-told4 .given .1))
+    then-fine _ _ _ _ (length .before .before .check-length .ensures) (length .enum-told .given .1)
+    (then-refused _ _ _ _ _ (header .check-header .ensures) (c .enum-told4 .given .1))
 
 check-each-requires : tie.Need-check-each-requires
 check-each-requires c κs = sized (c .before .before .before) .least
@@ -38,9 +37,9 @@ returns-3 c =
     let each = c .before .before in
     let header = each .before in
     let length = header .before .before .before in
-    goes _ _ _ _ (length .before .before .check-length .ensures) (length .enum-told .given .1)
-    (goes _ _ _ _ (header .before .before .check-header .ensures) (header .enum-told3 .given .1)
-    (stops _ _ _ _ _ (each .check-each .ensures) (c .enum-told6 .given .1)))
+    then-fine _ _ _ _ (length .before .before .check-length .ensures) (length .enum-told .given .1)
+    (then-fine _ _ _ _ (header .before .before .check-header .ensures) (header .enum-told3 .given .1)
+    (then-refused _ _ _ _ _ (each .check-each .ensures) (c .enum-told6 .given .1)))
 
 check-links-requires : tie.Need-check-links-requires
 check-links-requires c κs = sized (c .before .before .before .before .before .before) .least
@@ -51,25 +50,13 @@ returns-4 c =
     let each = c .before in
     let header = each .before .before .before in
     let length = header .before .before .before in
-    goes _ _ _ _ (length .before .before .check-length .ensures) (length .enum-told .given .1)
-    (goes _ _ _ _ (header .before .before .check-header .ensures) (header .enum-told3 .given .1)
-    (goes _ _ _ _ (each .before .before .check-each .ensures) (each .enum-told5 .given .1) (c .check-links .ensures)))
+    then-fine _ _ _ _ (length .before .before .check-length .ensures) (length .enum-told .given .1)
+    (then-fine _ _ _ _ (header .before .before .check-header .ensures) (header .enum-told3 .given .1)
+    (then-fine _ _ _ _ (each .before .before .check-each .ensures) (each .enum-told5 .given .1) (c .check-links .ensures)))
 
 pub check-records-spec : {M : Type 1} → statement M
 check-records-spec =
     tie.close
-    (tie.spec
-    (λ c κs. search needs)
-    (λ c. search needs)
-    (λ c. search needs)
-    returns
-    check-header-requires
-    (λ c. search needs)
-    (λ c. search needs)
-    returns-2
-    check-each-requires
-    (λ c. search needs)
-    (λ c. search needs)
-    returns-3
-    check-links-requires
+    (tie.spec (λ c κs. search needs) (λ c. search needs) (λ c. search needs) returns check-header-requires (λ c. search needs)
+    (λ c. search needs) returns-2 check-each-requires (λ c. search needs) (λ c. search needs) returns-3 check-links-requires
     returns-4)

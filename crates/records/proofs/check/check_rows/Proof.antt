@@ -6,8 +6,8 @@ use mathlib.Core.Path.{_≡_, refl, sym, ap, _∙_}
 use denote.Ref.{now}
 use borrow.Author.Needs.{needs}
 use Rattle.records.specs.Kinds.{Kind, kindOf, sortsOf, constantFields, junctionFields, restrictionFields}
-use Rattle.records.proofs.Ranges.{between, kind-past}
-use Rattle.records.proofs.Rows.{rows-at}
+use Rattle.records.proofs.Laws.Ranges.{between, kind-past}
+use Rattle.records.proofs.Refinement.Rows.{rows-at}
 use Rattle.records.proofs.check.check_rows.Statement.{statement}
 use Rattle.records.proofs.check.check_rows.Tie as tie
 
@@ -59,16 +59,5 @@ returns-6 c =
 pub check-rows-spec : {M : Type 1} → statement M
 check-rows-spec =
     tie.close
-    (tie.spec
-    (λ c κs. search needs)
-    (λ c κs. search needs)
-    (λ c κs. search needs)
-    (λ c κs. search needs)
-    (λ c κs. search needs)
-    (λ c κs. search needs)
-    returns
-    returns-2
-    returns-3
-    returns-4
-    returns-5
-    returns-6)
+    (tie.spec (λ c κs. search needs) (λ c κs. search needs) (λ c κs. search needs) (λ c κs. search needs)
+    (λ c κs. search needs) (λ c κs. search needs) returns returns-2 returns-3 returns-4 returns-5 returns-6)

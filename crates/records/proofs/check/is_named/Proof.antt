@@ -6,7 +6,7 @@ use mathlib.Core.Path.{_∙_, ap}
 use lib.Dec.{eqb}
 use borrow.Author.Needs.{needs}
 use Rattle.records.specs.declared.fields.Record.{Record}
-use Rattle.records.proofs.Ranges.{key-same}
+use Rattle.records.proofs.Laws.Ranges.{key-same}
 use Rattle.records.proofs.check.is_named.Statement.{statement}
 use Rattle.records.proofs.check.is_named.Tie as tie
 

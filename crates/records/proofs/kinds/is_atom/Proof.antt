@@ -3,7 +3,7 @@
 use native.Mathlib.Omega.{arith}
 use mathlib.Core.Path.{sym, _∙_}
 use borrow.Author.Tests.{ne-eqb, le-leb, lt-leb}
-use Rattle.records.proofs.Ranges.{atom-range}
+use Rattle.records.proofs.Laws.Ranges.{atom-range}
 use Rattle.records.proofs.kinds.is_atom.Statement.{statement}
 use Rattle.records.proofs.kinds.is_atom.Tie as tie
 

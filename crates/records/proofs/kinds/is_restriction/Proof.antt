@@ -2,7 +2,7 @@
 -- Assumes nothing.
 use native.Mathlib.Omega.{arith}
 use borrow.Author.Tests.{le-leb, lt-leb}
-use Rattle.records.proofs.Ranges.{restriction-range}
+use Rattle.records.proofs.Laws.Ranges.{restriction-range}
 use Rattle.records.proofs.kinds.is_restriction.Statement.{statement}
 use Rattle.records.proofs.kinds.is_restriction.Tie as tie
 

@@ -1,7 +1,7 @@
 -- `records::kinds::is_statement` meets its contract.
 -- Assumes nothing.
 use mathlib.Core.Path.{sym}
-use Rattle.records.proofs.Ranges.{statement-range}
+use Rattle.records.proofs.Laws.Ranges.{statement-range}
 use Rattle.records.proofs.kinds.is_statement.Statement.{statement}
 use Rattle.records.proofs.kinds.is_statement.Tie as tie
 

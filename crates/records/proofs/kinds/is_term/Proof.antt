@@ -2,7 +2,7 @@
 -- Assumes nothing.
 use native.Mathlib.Omega.{arith}
 use borrow.Author.Tests.{le-leb, lt-leb}
-use Rattle.records.proofs.Ranges.{term-range}
+use Rattle.records.proofs.Laws.Ranges.{term-range}
 use Rattle.records.proofs.kinds.is_term.Statement.{statement}
 use Rattle.records.proofs.kinds.is_term.Tie as tie
 

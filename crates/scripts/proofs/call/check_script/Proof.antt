@@ -7,11 +7,11 @@ use borrow.Author.Needs.{needs}
 use Rattle.records.specs.Outcome.{pass}
 use Rattle.records.specs.Check.{IsAccepted}
 use Rattle.records.specs.Answers.{checked}
-use Rattle.records.proofs.Accepted.{accepted-well-formed}
-use Rattle.records.proofs.Order.{asked, passed}
+use Rattle.records.proofs.Theorems.Accepted.{accepted-well-formed}
+use Rattle.records.proofs.Laws.Order.{require-test, checked-fine}
 use Rattle.scripts.specs.Form.{lengthCheck, formCheck}
-use Rattle.scripts.proofs.Formed.{length-sized}
-use Rattle.scripts.proofs.Outcomes.{vocabulary-at, refused-vocabulary, refused-length, refused-form, decided}
+use Rattle.scripts.proofs.Theorems.Form.{length-sized}
+use Rattle.scripts.proofs.Refinement.Outcomes.{vocabulary-at, refused-vocabulary, refused-length, refused-form, decided}
 use Rattle.scripts.proofs.call.check_script.Statement.{statement}
 use Rattle.scripts.proofs.call.check_script.Tie as tie
 
@@ -28,8 +28,8 @@ long c = c .before .before
 abbrev begun : tie.After-check-form → tie.After-enum-told3
 begun c = c .before .before .before .before
 
-abbrev formed : tie.After-enum-told5 → tie.After-check-form
-formed c = c .before .before
+abbrev keeps-form : tie.After-enum-told5 → tie.After-check-form
+keeps-form c = c .before .before
 
 check-vocabulary-requires : tie.Need-check-vocabulary-requires
 check-vocabulary-requires c κs = tt
@@ -56,7 +56,7 @@ pass-if-requires c κs = tt
 
 -- row 13
 measured : (c : tie.After-pass-if) → checked (c .pass-if .result) ≡ lengthCheck (now (start (taken c) .args .s))
-measured c = asked _ _ _ _ _ (c .pass-if .ensures) (c .before .length-fits .ensures)
+measured c = require-test _ _ _ _ _ (c .pass-if .ensures) (c .before .length-fits .ensures)
 
 judge-after-requires : tie.Need-judge-after-requires
 judge-after-requires c κs = tt
@@ -70,7 +70,7 @@ returns-2 c =
 
 -- it passed
 sized : (c : tie.After-enum-told3) → lengthCheck (now (start (taken (long c)) .args .s)) ≡ pass
-sized c = passed _ _ (measured (long c)) (c .enum-told3 .given .1)
+sized c = checked-fine _ _ (measured (long c)) (c .enum-told3 .given .1)
 
 mark-chain-requires : tie.Need-mark-chain-requires
 mark-chain-requires c κs = accepted-well-formed _ _ (accepts (taken (long c)))
@@ -102,12 +102,12 @@ returns-3 c =
 
 -- the form passed
 fits : (c : tie.After-enum-told5)
-    → let a = start (taken (long (begun (formed c)))) .args in formCheck (now (a .v)) (now (a .s)) ≡ pass
-fits c = passed _ _ (formed c .check-form .ensures) (c .enum-told5 .given .1)
+    → let a = start (taken (long (begun (keeps-form c)))) .args in formCheck (now (a .v)) (now (a .s)) ≡ pass
+fits c = checked-fine _ _ (keeps-form c .check-form .ensures) (c .enum-told5 .given .1)
 
 check-chain-requires : tie.Need-check-chain-requires
 check-chain-requires c κs =
-    let r = formed (c .before) .before .before in
+    let r = keeps-form (c .before) .before .before in
     let m = r .before in
     record {
       begun = record {
@@ -121,31 +121,14 @@ check-chain-requires c κs =
 returns-4 : tie.Need-returns-4
 returns-4 c =
     let f = c .before .before in
-    let t = taken (long (begun (formed f))) in
+    let t = taken (long (begun (keeps-form f))) in
     let a = start t .args in
     decided (now (a .v)) (now (a .s)) _ (accepts t) (fits f) (c .check-chain .ensures)
 
 pub check-script-spec : {M : Type 1} → statement M
 check-script-spec =
     tie.close
-    (tie.spec
-    check-vocabulary-requires
-    (λ c. search needs)
-    (λ c. search needs)
-    judge-after-count-requires
-    returns
-    length-fits-requires
-    pass-if-requires
-    (λ c. search needs)
-    (λ c. search needs)
-    judge-after-requires
-    returns-2
-    mark-chain-requires
-    read-entry-requires
-    check-form-requires
-    (λ c. search needs)
-    (λ c. search needs)
-    judge-after-requires-2
-    returns-3
-    check-chain-requires
-    returns-4)
+    (tie.spec check-vocabulary-requires (λ c. search needs) (λ c. search needs) judge-after-count-requires returns
+    length-fits-requires pass-if-requires (λ c. search needs) (λ c. search needs) judge-after-requires returns-2
+    mark-chain-requires read-entry-requires check-form-requires (λ c. search needs) (λ c. search needs) judge-after-requires-2
+    returns-3 check-chain-requires returns-4)

@@ -5,7 +5,7 @@ use native.Mathlib.Omega.{arith}
 use mathlib.Core.Path.{_≡_, refl}
 use mathlib.Core.Bool.{true, false}
 use borrow.Author.Tests.{ne-eqb}
-use Rattle.records.proofs.Ranges.{between}
+use Rattle.records.proofs.Laws.Ranges.{between}
 use Rattle.scripts.specs.Format.{isTerm}
 use Rattle.scripts.proofs.entry.is_term_entry.Statement.{statement}
 use Rattle.scripts.proofs.entry.is_term_entry.Tie as tie

@@ -1,7 +1,7 @@
 -- `scripts::form::are_zero` meets its contract. A sum is zero where each of its words is.
 -- Assumes nothing.
 use borrow.Author.Needs.{needs}
-use Rattle.scripts.proofs.Lines.{words-zero}
+use Rattle.scripts.proofs.Refinement.Lines.{words-zero}
 use Rattle.scripts.proofs.form.are_zero.Statement.{statement}
 use Rattle.scripts.proofs.form.are_zero.Tie as tie
 

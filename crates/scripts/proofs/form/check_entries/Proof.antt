@@ -5,7 +5,7 @@ use native.Mathlib.Omega.{arith}
 use mathlib.Core.Path.{_≡_, refl, sym, _∙_}
 use borrow.Author.Needs.{needs}
 use Rattle.records.specs.Outcome.{inTurn}
-use Rattle.records.proofs.Order.{stops, goes, turn-refused, turn-passed, turns-end}
+use Rattle.records.proofs.Laws.Order.{then-refused, then-fine, turn-refused, turn-passed, turns-end}
 use Rattle.scripts.specs.Form.{entryCheck}
 use Rattle.scripts.proofs.form.check_entries.Statement.{statement}
 use Rattle.scripts.proofs.form.check_entries.Tie as tie
@@ -20,7 +20,7 @@ pass-if-requires : tie.Need-pass-if-requires Inv-loop μ-loop
 pass-if-requires c κs = tt
 
 returns : tie.Need-returns Inv-loop μ-loop
-returns c = stops _ _ _ _ _ (c .before .before .pass-if .ensures) (c .enum-told2 .given .1)
+returns c = then-refused _ _ _ _ _ (c .before .before .pass-if .ensures) (c .enum-told2 .given .1)
 
 loop-holds : tie.Need-loop-holds Inv-loop μ-loop
 loop-holds c = refl
@@ -33,7 +33,7 @@ returns-2 : tie.Need-returns-2 Inv-loop μ-loop
 returns-2 c =
     let w = c .before .before .before in
     let t = w .before .before in
-    goes _ _ _ _ (t .before .before .pass-if .ensures) (t .enum-told .given .1)
+    then-fine _ _ _ _ (t .before .before .pass-if .ensures) (t .enum-told .given .1)
     (turn-refused _ _ _ _ _ _ (w .loop-test .taken) (c .before .before .check-entry .ensures) (c .enum-told4 .given .1)
     ∙ sym (w .before .loop .inv))
 
@@ -46,25 +46,11 @@ loop-again c =
 returns-3 : tie.Need-returns-3 Inv-loop μ-loop
 returns-3 c =
     let t = c .before .before in
-    goes _ _ _ _ (t .before .before .pass-if .ensures) (t .enum-told .given .1)
+    then-fine _ _ _ _ (t .before .before .pass-if .ensures) (t .enum-told .given .1)
     (sym (c .before .loop .inv ∙ turns-end _ _ _ (c .loop-test .left)))
 
 pub check-entries-spec : {M : Type 1} → statement M
 check-entries-spec =
     tie.close
-    (tie.spec
-    Inv-loop
-    μ-loop
-    pass-if-requires
-    (λ c. search needs)
-    (λ c. search needs)
-    returns
-    loop-holds
-    check-entry-requires
-    (λ c. search needs)
-    (λ c. search needs)
-    returns-2
-    (λ c. omega arith)
-    (λ c. omega arith)
-    loop-again
-    returns-3)
+    (tie.spec Inv-loop μ-loop pass-if-requires (λ c. search needs) (λ c. search needs) returns loop-holds check-entry-requires
+    (λ c. search needs) (λ c. search needs) returns-2 (λ c. omega arith) (λ c. omega arith) loop-again returns-3)

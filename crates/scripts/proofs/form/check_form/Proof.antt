@@ -7,7 +7,7 @@ use denote.Ref.{now}
 use borrow.Author.Needs.{needs}
 use Rattle.records.specs.Outcome.{Check, pass, _then_, require}
 use Rattle.records.specs.Answers.{checked}
-use Rattle.records.proofs.Order.{stops, goes, asked}
+use Rattle.records.proofs.Laws.Order.{then-refused, then-fine, require-test}
 use Rattle.scripts.specs.Format.{entryAt, queryIn}
 use Rattle.scripts.specs.Form.{lengthCheck, headerFits, queryCheck, entriesCheck, linksCheck, formCheck}
 use Rattle.scripts.specs.declared.entry.Entry.{Entry}
@@ -38,7 +38,7 @@ queried c = headed (c .before .before .before)
 
 -- row 14
 head : (c : tie.After-pass-if) → checked (c .pass-if .result) ≡ require (headerFits (start c .args .header)) 14 0
-head c = asked _ _ _ _ _ (c .pass-if .ensures) (c .before .header-fits .ensures)
+head c = require-test _ _ _ _ _ (c .pass-if .ensures) (c .before .header-fits .ensures)
 
 decides : (b : tie.Start) → let a = b .args in
     (require (headerFits (a .header)) 14 0 then asking (now (a .v)) (now (a .s)) (a .header))
@@ -48,23 +48,23 @@ decides b = form-left (now (b .args .v)) (now (b .args .s)) (b .args .header) (b
 past-header : (c : tie.After-enum-told) (o : Check)
     → let a = headed c .args in
     o ≡ asking (now (a .v)) (now (a .s)) (a .header) → o ≡ formCheck (now (a .v)) (now (a .s))
-past-header c o h = goes _ _ _ _ (head (c .before .before)) (c .enum-told .given .1) h ∙ decides (headed c)
+past-header c o h = then-fine _ _ _ _ (head (c .before .before)) (c .enum-told .given .1) h ∙ decides (headed c)
 
 past-query : (c : tie.After-enum-told3) (o : Check)
     → let a = queried c .args in o ≡ entered (now (a .v)) (now (a .s)) → o ≡ formCheck (now (a .v)) (now (a .s))
 past-query c o h =
     past-header (c .before .before .before) o
-    (goes _ _ _ _ (c .before .before .check-query .ensures) (c .enum-told3 .given .1) h)
+    (then-fine _ _ _ _ (c .before .before .check-query .ensures) (c .enum-told3 .given .1) h)
 
 returns : tie.Need-returns
 returns c =
     let p = c .before .before in
-    stops _ _ _ _ _ (head p) (c .enum-told2 .given .1) ∙ decides (start p)
+    then-refused _ _ _ _ _ (head p) (c .enum-told2 .given .1) ∙ decides (start p)
 
 returns-2 : tie.Need-returns-2
 returns-2 c =
     past-header (c .before .before .before) _
-    (stops _ _ _ _ _ (c .before .before .check-query .ensures) (c .enum-told4 .given .1))
+    (then-refused _ _ _ _ _ (c .before .before .check-query .ensures) (c .enum-told4 .given .1))
 
 check-entries-requires : tie.Need-check-entries-requires
 check-entries-requires c κs = queried c .pre .marked
@@ -72,7 +72,7 @@ check-entries-requires c κs = queried c .pre .marked
 returns-3 : tie.Need-returns-3
 returns-3 c =
     past-query (c .before .before .before) _
-    (stops _ _ _ _ _ (c .before .before .check-entries .ensures) (c .enum-told6 .given .1))
+    (then-refused _ _ _ _ _ (c .before .before .check-entries .ensures) (c .enum-told6 .given .1))
 
 check-links-requires : tie.Need-check-links-requires
 check-links-requires c κs = ap (λ (e : Entry). e .w3) (queried (c .before .before .before) .pre .read)
@@ -80,24 +80,11 @@ check-links-requires c κs = ap (λ (e : Entry). e .w3) (queried (c .before .bef
 returns-4 : tie.Need-returns-4
 returns-4 c =
     past-query (c .before .before .before .before) _
-    (goes _ _ _ _ (c .before .before .before .check-entries .ensures) (c .before .enum-told5 .given .1) (c .check-links .ensures))
+    (then-fine _ _ _ _ (c .before .before .before .check-entries .ensures) (c .before .enum-told5 .given .1) (c .check-links .ensures))
 
 pub check-form-spec : {M : Type 1} → statement M
 check-form-spec =
     tie.close
-    (tie.spec
-    (λ c κs. search needs)
-    (λ c κs. search needs)
-    (λ c. search needs)
-    (λ c. search needs)
-    returns
-    (λ c κs. search needs)
-    (λ c. search needs)
-    (λ c. search needs)
-    returns-2
-    check-entries-requires
-    (λ c. search needs)
-    (λ c. search needs)
-    returns-3
-    check-links-requires
-    returns-4)
+    (tie.spec (λ c κs. search needs) (λ c κs. search needs) (λ c. search needs) (λ c. search needs) returns
+    (λ c κs. search needs) (λ c. search needs) (λ c. search needs) returns-2 check-entries-requires (λ c. search needs)
+    (λ c. search needs) returns-3 check-links-requires returns-4)

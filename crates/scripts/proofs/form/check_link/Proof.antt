@@ -4,7 +4,7 @@ use mathlib.Core.Path.{_∙_}
 use denote.Ref.{now}
 use borrow.Author.Needs.{needs}
 use Rattle.scripts.specs.Form.{linkCheck}
-use Rattle.scripts.proofs.Lines.{link-made, link-none}
+use Rattle.scripts.proofs.Refinement.Lines.{link-made, link-none}
 use Rattle.scripts.proofs.form.check_link.Statement.{statement}
 use Rattle.scripts.proofs.form.check_link.Tie as tie
 
@@ -28,10 +28,4 @@ returns-2 c =
 pub check-link-spec : {M : Type 1} → statement M
 check-link-spec =
     tie.close
-    (tie.spec
-    (λ c κs. search needs)
-    (λ c κs. search needs)
-    (λ c κs. search needs)
-    (λ c κs. search needs)
-    returns
-    returns-2)
+    (tie.spec (λ c κs. search needs) (λ c κs. search needs) (λ c κs. search needs) (λ c κs. search needs) returns returns-2)

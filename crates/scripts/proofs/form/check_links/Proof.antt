@@ -8,7 +8,7 @@ use denote.Ref.{now}
 use borrow.Author.Needs.{needs}
 use Rattle.records.specs.Outcome.{require, inTurn}
 use Rattle.records.specs.Answers.{checked}
-use Rattle.records.proofs.Order.{stops, goes, asked, turn-refused, turn-passed, turns-end}
+use Rattle.records.proofs.Laws.Order.{then-refused, then-fine, require-test, turn-refused, turn-passed, turns-end}
 use Rattle.scripts.specs.Format.{firstStep}
 use Rattle.scripts.specs.Form.{linkFits, linkCheck}
 use Rattle.scripts.proofs.form.check_links.Statement.{statement}
@@ -32,11 +32,11 @@ first : (c : tie.After-pass-if Inv-loop μ-loop)
     checked (c .pass-if .result) ≡ require (linkFits s 0 (firstStep s)) 19 0
 first c =
     let b = c .before .before .before in
-    asked _ _ _ _ _ (c .pass-if .ensures)
+    require-test _ _ _ _ _ (c .pass-if .ensures)
     (c .before .link-fits .ensures ∙ ap (λ (x : ℕ). linkFits (now (b .args .s)) 0 x) (b .pre))
 
 returns : tie.Need-returns Inv-loop μ-loop
-returns c = stops _ _ _ _ _ (first (c .before .before)) (c .enum-told2 .given .1)
+returns c = then-refused _ _ _ _ _ (first (c .before .before)) (c .enum-told2 .given .1)
 
 loop-holds : tie.Need-loop-holds Inv-loop μ-loop
 loop-holds c = refl
@@ -45,7 +45,7 @@ returns-2 : tie.Need-returns-2 Inv-loop μ-loop
 returns-2 c =
     let w = c .before .before .before in
     let t = w .before .before in
-    goes _ _ _ _ (first (t .before .before)) (t .enum-told .given .1)
+    then-fine _ _ _ _ (first (t .before .before)) (t .enum-told .given .1)
     (turn-refused _ _ _ _ _ _ (w .loop-test .taken) (c .before .before .check-link .ensures) (c .enum-told4 .given .1)
     ∙ sym (w .before .loop .inv))
 
@@ -58,26 +58,12 @@ loop-again c =
 returns-3 : tie.Need-returns-3 Inv-loop μ-loop
 returns-3 c =
     let t = c .before .before in
-    goes _ _ _ _ (first (t .before .before)) (t .enum-told .given .1)
+    then-fine _ _ _ _ (first (t .before .before)) (t .enum-told .given .1)
     (sym (c .before .loop .inv ∙ turns-end _ _ _ (c .loop-test .left)))
 
 pub check-links-spec : {M : Type 1} → statement M
 check-links-spec =
     tie.close
-    (tie.spec
-    Inv-loop
-    μ-loop
-    link-fits-requires
-    pass-if-requires
-    (λ c. search needs)
-    (λ c. search needs)
-    returns
-    loop-holds
-    (λ c κs. omega arith)
-    (λ c. search needs)
-    (λ c. search needs)
-    returns-2
-    (λ c. omega arith)
-    (λ c. omega arith)
-    loop-again
+    (tie.spec Inv-loop μ-loop link-fits-requires pass-if-requires (λ c. search needs) (λ c. search needs) returns loop-holds
+    (λ c κs. omega arith) (λ c. search needs) (λ c. search needs) returns-2 (λ c. omega arith) (λ c. omega arith) loop-again
     returns-3)

@@ -4,7 +4,7 @@ use mathlib.Core.Path.{_≡_, ap, _∙_}
 use denote.Ref.{now}
 use borrow.Author.Needs.{needs}
 use Rattle.records.specs.Outcome.{Check, _then_, require}
-use Rattle.records.proofs.Order.{stops, goes, asked}
+use Rattle.records.proofs.Laws.Order.{then-refused, then-fine, require-test}
 use Rattle.scripts.specs.Format.{entryOf, lineOf}
 use Rattle.scripts.specs.Form.{kindFits, unusedFits, termFits, lineFits, rowsCheck}
 use Rattle.scripts.specs.declared.entry.Entry.{Entry}
@@ -42,7 +42,7 @@ past-kind : (c : tie.After-enum-told) (o : Check)
     → let r = c .before .before .before .before in o ≡ (row16 r then row17 r then row18 r) → o ≡ whole r
 past-kind c o h =
     let p = c .before .before in
-    goes _ _ _ _ (asked _ _ _ _ _ (p .pass-if .ensures) (p .before .kind-fits .ensures)) (c .enum-told .given .1) h
+    then-fine _ _ _ _ (require-test _ _ _ _ _ (p .pass-if .ensures) (p .before .kind-fits .ensures)) (c .enum-told .given .1) h
     ∙ read-rows (p .before .before)
 
 past-unused : (c : tie.After-enum-told3) (o : Check)
@@ -50,54 +50,38 @@ past-unused : (c : tie.After-enum-told3) (o : Check)
 past-unused c o h =
     let p = c .before .before in
     past-kind (p .before .before) o
-    (goes _ _ _ _ (asked _ _ _ _ _ (p .pass-if2 .ensures) (p .before .unused-fits .ensures)) (c .enum-told3 .given .1) h)
+    (then-fine _ _ _ _ (require-test _ _ _ _ _ (p .pass-if2 .ensures) (p .before .unused-fits .ensures)) (c .enum-told3 .given .1) h)
 
 returns : tie.Need-returns
 returns c =
     let p = c .before .before in
-    stops _ _ _ _ _ (asked _ _ _ _ _ (p .pass-if .ensures) (p .before .kind-fits .ensures)) (c .enum-told2 .given .1)
+    then-refused _ _ _ _ _ (require-test _ _ _ _ _ (p .pass-if .ensures) (p .before .kind-fits .ensures)) (c .enum-told2 .given .1)
     ∙ read-rows (p .before .before)
 
 returns-2 : tie.Need-returns-2
 returns-2 c =
     let p = c .before .before in
     past-kind (p .before .before) _
-    (stops _ _ _ _ _ (asked _ _ _ _ _ (p .pass-if2 .ensures) (p .before .unused-fits .ensures)) (c .enum-told4 .given .1))
+    (then-refused _ _ _ _ _ (require-test _ _ _ _ _ (p .pass-if2 .ensures) (p .before .unused-fits .ensures)) (c .enum-told4 .given .1))
 
 returns-3 : tie.Need-returns-3
 returns-3 c =
     let p = c .before .before in
     past-unused (p .before .before) _
-    (stops _ _ _ _ _ (asked _ _ _ _ _ (p .pass-if3 .ensures) (p .before .term-fits .ensures)) (c .enum-told6 .given .1))
+    (then-refused _ _ _ _ _ (require-test _ _ _ _ _ (p .pass-if3 .ensures) (p .before .term-fits .ensures)) (c .enum-told6 .given .1))
 
 returns-4 : tie.Need-returns-4
 returns-4 c =
     let t = c .before .before in
     let p = t .before .before in
     past-unused (p .before .before) _
-    (goes _ _ _ _ (asked _ _ _ _ _ (p .pass-if3 .ensures) (p .before .term-fits .ensures)) (t .enum-told5 .given .1)
-    (asked _ _ _ _ _ (c .pass-if4 .ensures) (c .before .step-fits .ensures)))
+    (then-fine _ _ _ _ (require-test _ _ _ _ _ (p .pass-if3 .ensures) (p .before .term-fits .ensures)) (t .enum-told5 .given .1)
+    (require-test _ _ _ _ _ (c .pass-if4 .ensures) (c .before .step-fits .ensures)))
 
 pub check-rows-spec : {M : Type 1} → statement M
 check-rows-spec =
     tie.close
-    (tie.spec
-    (λ c κs. search needs)
-    (λ c κs. search needs)
-    (λ c κs. search needs)
-    (λ c. search needs)
-    (λ c. search needs)
-    returns
-    (λ c κs. search needs)
-    (λ c κs. search needs)
-    (λ c. search needs)
-    (λ c. search needs)
-    returns-2
-    (λ c κs. search needs)
-    (λ c κs. search needs)
-    (λ c. search needs)
-    (λ c. search needs)
-    returns-3
-    (λ c κs. search needs)
-    (λ c κs. search needs)
-    returns-4)
+    (tie.spec (λ c κs. search needs) (λ c κs. search needs) (λ c κs. search needs) (λ c. search needs) (λ c. search needs)
+    returns (λ c κs. search needs) (λ c κs. search needs) (λ c. search needs) (λ c. search needs) returns-2
+    (λ c κs. search needs) (λ c κs. search needs) (λ c. search needs) (λ c. search needs) returns-3 (λ c κs. search needs)
+    (λ c κs. search needs) returns-4)

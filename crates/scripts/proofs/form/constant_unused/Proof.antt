@@ -3,7 +3,7 @@
 use mathlib.Core.Path.{_∙_}
 use borrow.Author.Needs.{needs}
 use borrow.Author.Tests.{eq-eqb, ne-eqb}
-use Rattle.scripts.specs.Form.{allZero}
+use Rattle.records.specs.Finite.{allZero}
 use Rattle.scripts.proofs.form.constant_unused.Statement.{statement}
 use Rattle.scripts.proofs.form.constant_unused.Tie as tie
 

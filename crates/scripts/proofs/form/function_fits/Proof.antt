@@ -4,10 +4,10 @@ use mathlib.Core.Path.{_≡_, sym, ap, _∙_}
 use mathlib.Core.Bool.{not}
 use denote.Ref.{now}
 use borrow.Author.Needs.{needs}
-use Rattle.records.proofs.Order.{fails, rests}
+use Rattle.records.proofs.Laws.Order.{and-first-false, and-first-true}
 use Rattle.scripts.specs.Format.{applied, lineOf}
 use Rattle.scripts.specs.Form.{functionFits}
-use Rattle.scripts.proofs.Lines.{function-line, function-other}
+use Rattle.scripts.proofs.Refinement.Lines.{function-line, function-other}
 use Rattle.scripts.proofs.form.function_fits.Statement.{statement}
 use Rattle.scripts.proofs.form.function_fits.Tie as tie
 
@@ -25,28 +25,21 @@ applies c =
     sym (function-line (now (a .v)) (now (a .s)) (a .i) (a .e) (c .if1 .left))
 
 returns-2 : tie.Need-returns-2
-returns-2 c = fails _ _ _ (c .before .is-function .ensures) (c .if2 .taken) ∙ applies (c .before .before)
+returns-2 c = and-first-false _ _ _ (c .before .is-function .ensures) (c .if2 .taken) ∙ applies (c .before .before)
 
 returns-3 : tie.Need-returns-3
 returns-3 c =
-    rests _ _ _ _ (c .before .before .before .is-function .ensures) (c .before .before .if2 .left)
-    (fails _ _ _ (c .before .is-earlier-term .ensures) (c .if3 .taken))
+    and-first-true _ _ _ _ (c .before .before .before .is-function .ensures) (c .before .before .if2 .left)
+    (and-first-false _ _ _ (c .before .is-earlier-term .ensures) (c .if3 .taken))
     ∙ applies (c .before .before .before .before)
 
 returns-4 : tie.Need-returns-4
 returns-4 c =
-    rests _ _ _ _ (c .before .before .before .before .is-function .ensures) (c .before .before .before .if2 .left)
-    (rests _ _ _ _ (c .before .before .is-earlier-term .ensures) (c .before .if3 .left) (ap not (c .is-repeated .ensures)))
+    and-first-true _ _ _ _ (c .before .before .before .before .is-function .ensures) (c .before .before .before .if2 .left)
+    (and-first-true _ _ _ _ (c .before .before .is-earlier-term .ensures) (c .before .if3 .left) (ap not (c .is-repeated .ensures)))
     ∙ applies (c .before .before .before .before .before)
 
 pub function-fits-spec : {M : Type 1} → statement M
 function-fits-spec =
     tie.close
-    (tie.spec
-    returns
-    (λ c κs. search needs)
-    returns-2
-    (λ c κs. search needs)
-    returns-3
-    (λ c κs. search needs)
-    returns-4)
+    (tie.spec returns (λ c κs. search needs) returns-2 (λ c κs. search needs) returns-3 (λ c κs. search needs) returns-4)

@@ -6,7 +6,7 @@ use mathlib.Core.Bool.{_&&_}
 use lib.Dec.{eqb}
 use borrow.Author.Needs.{needs}
 use Rattle.scripts.specs.declared.entry.Entry.{Entry}
-use Rattle.scripts.proofs.Lines.{repeat-same}
+use Rattle.scripts.proofs.Refinement.Lines.{repeat-same}
 use Rattle.scripts.proofs.form.is_repeat.Statement.{statement}
 use Rattle.scripts.proofs.form.is_repeat.Tie as tie
 

@@ -4,7 +4,7 @@ use mathlib.Core.Path.{sym, _∙_}
 use denote.Ref.{now}
 use borrow.Author.Needs.{needs}
 use Rattle.scripts.specs.Format.{queryOf}
-use Rattle.scripts.proofs.Lines.{step-start, step-extension, step-other}
+use Rattle.scripts.proofs.Refinement.Lines.{step-start, step-extension, step-other}
 use Rattle.scripts.proofs.form.step_fits.Statement.{statement}
 use Rattle.scripts.proofs.form.step_fits.Tie as tie
 

@@ -6,7 +6,7 @@ use mathlib.Core.Bool.{Bool·beq}
 use lib.Dec.{eqb}
 use borrow.Author.Needs.{needs}
 use borrow.Author.Tests.{not-true, not-false}
-use Rattle.scripts.proofs.Lines.{line-named}
+use Rattle.scripts.proofs.Refinement.Lines.{line-named}
 use Rattle.scripts.proofs.form.term_fits.Statement.{statement}
 use Rattle.scripts.proofs.form.term_fits.Tie as tie
 

@@ -7,9 +7,9 @@ use mathlib.Core.Path.{_≡_, sym, _∙_}
 use mathlib.Core.Bool.{true, and-true}
 use borrow.Author.Needs.{needs}
 use Rattle.scripts.specs.Format.{kindOf}
-use Rattle.scripts.specs.Form.{allZero}
+use Rattle.records.specs.Finite.{allZero}
 use Rattle.scripts.specs.declared.entry.Entry.{Entry}
-use Rattle.scripts.proofs.Lines.{unused-none, unused-past}
+use Rattle.scripts.proofs.Refinement.Lines.{unused-none, unused-past}
 use Rattle.scripts.proofs.form.unused_fits.Statement.{statement}
 use Rattle.scripts.proofs.form.unused_fits.Tie as tie
 
@@ -51,14 +51,5 @@ returns-6 c =
 pub unused-fits-spec : {M : Type 1} → statement M
 unused-fits-spec =
     tie.close
-    (tie.spec
-    (λ c κs. search needs)
-    (λ c κs. search needs)
-    (λ c κs. search needs)
-    (λ c κs. search needs)
-    returns
-    returns-2
-    returns-3
-    returns-4
-    returns-5
-    returns-6)
+    (tie.spec (λ c κs. search needs) (λ c κs. search needs) (λ c κs. search needs) (λ c κs. search needs) returns returns-2
+    returns-3 returns-4 returns-5 returns-6)

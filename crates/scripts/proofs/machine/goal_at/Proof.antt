@@ -3,8 +3,8 @@
 use native.Mathlib.Omega.{arith}
 use denote.Ref.{now}
 use borrow.Author.Needs.{needs}
-use Rattle.scripts.specs.Numbered.{noNumber}
-use Rattle.scripts.proofs.Frames.{goal-first, goal-few}
+use Rattle.scripts.specs.Code.Numbered.{noNumber}
+use Rattle.scripts.proofs.Refinement.Frames.{goal-first, goal-few}
 use Rattle.scripts.proofs.machine.goal_at.Statement.{statement}
 use Rattle.scripts.proofs.machine.goal_at.Tie as tie
 

@@ -2,7 +2,7 @@
 -- Assumes nothing.
 use denote.Ref.{now}
 use borrow.Author.Needs.{needs}
-use Rattle.scripts.proofs.Frames.{goal-next, goal-last}
+use Rattle.scripts.proofs.Refinement.Frames.{goal-next, goal-last}
 use Rattle.scripts.proofs.machine.has_next.Statement.{statement}
 use Rattle.scripts.proofs.machine.has_next.Tie as tie
 
@@ -19,11 +19,5 @@ returns-2 c =
 pub has-next-spec : {M : Type 1} → statement M
 has-next-spec =
     tie.close
-    (tie.spec
-    returns
-    (λ c. search needs)
-    (λ c. search needs)
-    (λ c. search needs)
-    (λ c. search needs)
-    (λ c. search needs)
+    (tie.spec returns (λ c. search needs) (λ c. search needs) (λ c. search needs) (λ c. search needs) (λ c. search needs)
     returns-2)

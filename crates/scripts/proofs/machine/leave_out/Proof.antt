@@ -2,7 +2,7 @@
 -- Assumes nothing.
 use Prim.Native.Nat.{_≤_}
 use native.Mathlib.Omega.{arith}
-use Rattle.scripts.proofs.Frames.{without-first, without-second, without-third}
+use Rattle.scripts.proofs.Refinement.Frames.{without-first, without-second, without-third}
 use Rattle.scripts.proofs.machine.leave_out.Statement.{statement}
 use Rattle.scripts.proofs.machine.leave_out.Tie as tie
 

@@ -1,8 +1,8 @@
 -- `scripts::machine::literal_at` meets its contract: it hands back the literal at a position of a column.
 -- Assumes nothing.
 use native.Mathlib.Omega.{arith}
-use Rattle.scripts.specs.Numbered.{noNumber}
-use Rattle.scripts.proofs.Frames.{literal-first, literal-second, literal-third}
+use Rattle.scripts.specs.Code.Numbered.{noNumber}
+use Rattle.scripts.proofs.Refinement.Frames.{literal-first, literal-second, literal-third}
 use Rattle.scripts.proofs.machine.literal_at.Statement.{statement}
 use Rattle.scripts.proofs.machine.literal_at.Tie as tie
 

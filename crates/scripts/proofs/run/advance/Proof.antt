@@ -2,7 +2,7 @@
 -- Assumes nothing.
 use mathlib.Core.Path.{_∙_}
 use borrow.Author.Needs.{needs}
-use Rattle.scripts.proofs.Frames.{open-none}
+use Rattle.scripts.proofs.Refinement.Frames.{open-none}
 use Rattle.scripts.proofs.run.advance.Statement.{statement}
 use Rattle.scripts.proofs.run.advance.Tie as tie
 
@@ -13,7 +13,7 @@ returns : tie.Need-returns
 returns c =
     let t = c .before .before in
     let b = t .before in
-    let l = b .args .others in
+    let l = b .args .remainder in
     record {
       standing = c .reduce .ensures .standing;
       shown = c .reduce .ensures .shown ∙ open-none (l .first) (l .second) (l .third) _ (b .pre .1 .1 (t .if1 .taken));

@@ -3,7 +3,7 @@
 use native.Mathlib.Omega.{arith}
 use denote.Ref.{now}
 use borrow.Author.Needs.{needs}
-use Rattle.scripts.proofs.Stepping.{reduce-told, reduce-never}
+use Rattle.scripts.proofs.Refinement.Stepping.{reduce-frames, reduce-never}
 use Rattle.scripts.proofs.run.can_reduce.Statement.{statement}
 use Rattle.scripts.proofs.run.can_reduce.Tie as tie
 
@@ -19,7 +19,7 @@ returns : tie.Need-returns
 returns c =
     let below = c .before .before .before in
     let a = below .before .args in
-    reduce-told (now (a .table)) (now (a .closed)) (a .depth) (a .frame) _ (a .goal) _ (omega (arith, below .if1 .taken))
+    reduce-frames (now (a .table)) (now (a .closed)) (a .depth) (a .frame) _ (a .goal) _ (omega (arith, below .if1 .taken))
     (c .before .goal-at .ensures) (c .is-opposed .ensures)
 
 returns-2 : tie.Need-returns-2
@@ -30,10 +30,4 @@ returns-2 c =
 pub can-reduce-spec : {M : Type 1} → statement M
 can-reduce-spec =
     tie.close
-    (tie.spec
-    (λ c. search needs)
-    element-copy-out-goal-at
-    goal-at-requires
-    (λ c κs. search needs)
-    returns
-    returns-2)
+    (tie.spec (λ c. search needs) element-copy-out-goal-at goal-at-requires (λ c κs. search needs) returns returns-2)

@@ -7,15 +7,15 @@ use mathlib.Core.Path.{_≡_, ap, _∙_}
 use denote.Ref.{now}
 use borrow.Author.Needs.{needs}
 use borrow.Author.Tests.{eqb-true}
-use Rattle.records.proofs.Passed.{require-passed}
-use Rattle.records.proofs.Order.{passed}
-use Rattle.columns.specs.Packed.{literals}
+use Rattle.records.proofs.Laws.Passed.{require-passed}
+use Rattle.records.proofs.Laws.Order.{checked-fine}
+use Rattle.columns.specs.Code.Packed.{literals}
 use Rattle.scripts.specs.Format.{queryIn, firstStep}
-use Rattle.scripts.specs.Ready.{IsStep}
+use Rattle.scripts.specs.Code.Ready.{IsStep}
 use Rattle.scripts.specs.declared.entry.Entry.{Entry}
-use Rattle.scripts.proofs.Formed.{Formed, formed}
-use Rattle.scripts.proofs.Starting.{start-listed, start-some, start-column, chain-none, chain-other, chain-started}
-use Rattle.scripts.proofs.Starting.{first-step}
+use Rattle.scripts.proofs.Theorems.Form.{KeepsForm, keeps-form}
+use Rattle.scripts.proofs.Refinement.Starting.{start-listed, start-some, start-column, chain-none, chain-other}
+use Rattle.scripts.proofs.Refinement.Starting.{chain-started, first-step}
 use Rattle.scripts.proofs.run.check_chain.Statement.{statement}
 use Rattle.scripts.proofs.run.check_chain.Tie as tie
 
@@ -29,8 +29,8 @@ found c = c .before .before
 abbrev begun : tie.After-enum-told3 → tie.After-read-entry
 begun c = found (c .before .before)
 
-form : (c : tie.Start) → Formed (now (c .args .v)) (now (c .args .s))
-form c = formed _ _ (c .pre .form)
+form : (c : tie.Start) → KeepsForm (now (c .args .v)) (now (c .args .s))
+form c = keeps-form _ _ (c .pre .form)
 
 -- the number of the first step, in the header
 first-at : (c : tie.Start) → c .args .header .w3 ≡ firstStep (now (c .args .s))
@@ -41,7 +41,7 @@ first : (c : tie.After-enum-told) → IsStep (now (start c .args .s)) (start c .
 first c =
     let b = start c in
     first-step (now (b .args .v)) (now (b .args .s)) (form b) _ (first-at b)
-    (require-passed _ _ _ (passed _ _ (c .before .before .pass-if .ensures) (c .enum-told .given .1)))
+    (require-passed _ _ _ (checked-fine _ _ (c .before .before .pass-if .ensures) (c .enum-told .given .1)))
 
 returns : tie.Need-returns
 returns c =
@@ -55,7 +55,7 @@ read-entry-requires c κs = omega (arith, first c .within)
 
 -- it is a start
 started : (c : tie.After-enum-told3) → begun c .read-entry .result .w0 ≡ 3
-started c = eqb-true _ 3 (require-passed _ _ _ (passed _ _ (c .before .before .pass-if2 .ensures) (c .enum-told3 .given .1)))
+started c = eqb-true _ 3 (require-passed _ _ _ (checked-fine _ _ (c .before .before .pass-if2 .ensures) (c .enum-told3 .given .1)))
 
 -- of one of the two query columns
 column : (c : tie.After-enum-told3) → begun c .read-entry .result .w1 ≤ 1
@@ -99,19 +99,6 @@ returns-3 c =
 pub check-chain-spec : {M : Type 1} → statement M
 check-chain-spec =
     tie.close
-    (tie.spec
-    (λ c. search needs)
-    (λ c κs. search needs)
-    (λ c. search needs)
-    (λ c. search needs)
-    (λ c κs. search needs)
-    returns
-    read-entry-requires
-    (λ c κs. search needs)
-    (λ c. search needs)
-    (λ c. search needs)
-    (λ c κs. search needs)
-    returns-2
-    (λ c κs. search needs)
-    run-steps-requires
-    returns-3)
+    (tie.spec (λ c. search needs) (λ c κs. search needs) (λ c. search needs) (λ c. search needs) (λ c κs. search needs)
+    returns read-entry-requires (λ c κs. search needs) (λ c. search needs) (λ c. search needs) (λ c κs. search needs)
+    returns-2 (λ c κs. search needs) run-steps-requires returns-3)

@@ -5,14 +5,14 @@ use mathlib.Core.Path.{_≡_, refl}
 use mathlib.Core.Bool.{Bool, _||_}
 use lib.Dec.{ltb}
 use borrow.Author.Needs.{needs}
-use Rattle.columns.specs.Packed.{listed}
+use Rattle.columns.specs.Code.Packed.{untilZero}
 use Rattle.scripts.specs.Calculus.{frameLimit}
-use Rattle.scripts.specs.Run.{isNil}
+use Rattle.records.specs.Finite.{isNil}
 use Rattle.scripts.proofs.run.has_room.Statement.{statement}
 use Rattle.scripts.proofs.run.has_room.Tie as tie
 
 -- where there is another literal, room is needed
-room-for : (a b c : ℕ) (r : Bool) → (a ≡ 0 → ⊥) → r ≡ (isNil (listed a b c) || r)
+room-for : (a b c : ℕ) (r : Bool) → (a ≡ 0 → ⊥) → r ≡ (isNil (untilZero a b c) || r)
 room-for zero b c r h = absurd (h refl)
 room-for (suc a) zero c r h = refl
 room-for (suc a) (suc b) zero r h = refl
@@ -24,7 +24,7 @@ returns c = search needs
 returns-2 : tie.Need-returns-2
 returns-2 c =
     let a = c .before .before .args in
-    let l = a .others in
+    let l = a .remainder in
     room-for (l .first) (l .second) (l .third) (ltb (a .depth) frameLimit) (c .if1 .left)
 
 pub has-room-spec : {M : Type 1} → statement M

@@ -8,17 +8,17 @@ use denote.Ref.{now}
 use borrow.Author.Needs.{needs}
 use borrow.Author.Tests.{eqb-true}
 use Rattle.records.specs.Answers.{checked}
-use Rattle.records.proofs.Following.{left}
+use Rattle.records.proofs.Theorems.Following.{left}
 use Rattle.scripts.specs.Format.{entries, nextStep}
 use Rattle.scripts.specs.Calculus.{frameLimit}
 use Rattle.scripts.specs.Run.{Frames}
-use Rattle.scripts.specs.Machine.{framesOf, Standing}
-use Rattle.scripts.specs.Tested.{runAfter}
-use Rattle.scripts.specs.Ready.{IsStep}
+use Rattle.scripts.specs.Code.Machine.{framesOf, Standing}
+use Rattle.scripts.specs.Code.Tested.{runAfter}
+use Rattle.scripts.specs.Code.Ready.{IsStep}
 use Rattle.scripts.specs.declared.entry.Entry.{Entry}
-use Rattle.scripts.proofs.Formed.{Formed, formed}
-use Rattle.scripts.proofs.Frames.{frames-length}
-use Rattle.scripts.proofs.Walking.{Walk, standing, walk-start, walk-next, walk-refused, walk-done, walk-falls}
+use Rattle.scripts.proofs.Theorems.Form.{KeepsForm, keeps-form}
+use Rattle.scripts.proofs.Refinement.Frames.{frames-length}
+use Rattle.scripts.proofs.Invariants.Walk.{Walk, standing, walk-start, walk-next, walk-refused, walk-done, walk-falls}
 use Rattle.scripts.proofs.run.run_steps.Statement.{statement}
 use Rattle.scripts.proofs.run.run_steps.Tie as tie
 
@@ -49,8 +49,8 @@ tested c = c .before .before
 abbrev read : tie.After-advance Inv-loop μ-loop → tie.After-read-entry2 Inv-loop μ-loop
 read c = c .before .before .before
 
-form : (c : tie.Start Inv-loop μ-loop) → Formed (now (c .args .v)) (now (c .args .s))
-form c = formed _ _ (c .pre .0 .form)
+form : (c : tie.Start Inv-loop μ-loop) → KeepsForm (now (c .args .v)) (now (c .args .s))
+form c = keeps-form _ _ (c .pre .0 .form)
 
 -- the step that the walk stands at
 here : (c : tie.In-loop Inv-loop μ-loop) → IsStep (now (begun c .args .s)) (c .before .loop .at)
@@ -162,26 +162,6 @@ returns-2 c =
 pub run-steps-spec : {M : Type 1} → statement M
 run-steps-spec =
     tie.close
-    (tie.spec
-    Inv-loop
-    μ-loop
-    empty-table-requires
-    empty-requires
-    start-requires
-    read-entry-requires
-    (λ c. omega arith)
-    loop-holds
-    test-step-requires
-    (λ c. search needs)
-    (λ c. search needs)
-    judge-after-requires
-    returns
-    read-entry-requires-2
-    advance-requires
-    add-steps
-    (λ c. omega arith)
-    loop-less
-    loop-again
-    pass-if-requires
-    judge-after-requires-2
-    returns-2)
+    (tie.spec Inv-loop μ-loop empty-table-requires empty-requires start-requires read-entry-requires (λ c. omega arith)
+    loop-holds test-step-requires (λ c. search needs) (λ c. search needs) judge-after-requires returns read-entry-requires-2
+    advance-requires add-steps (λ c. omega arith) loop-less loop-again pass-if-requires judge-after-requires-2 returns-2)

@@ -5,8 +5,8 @@ use mathlib.Core.Path.{_≡_, refl, _∙_}
 use mathlib.Core.List.{List}
 use denote.Ref.{now}
 use borrow.Author.Needs.{needs}
-use Rattle.scripts.specs.Codes.{codeAt}
-use Rattle.scripts.specs.Numbered.{secondCode}
+use Rattle.scripts.specs.Code.Codes.{codeAt}
+use Rattle.scripts.specs.Code.Numbered.{secondCode}
 use Rattle.scripts.proofs.run.second_code.Statement.{statement}
 use Rattle.scripts.proofs.run.second_code.Tie as tie
 

@@ -2,7 +2,7 @@
 -- Assumes nothing.
 use mathlib.Core.Path.{ap, _∙_}
 use borrow.Author.Needs.{needs}
-use Rattle.scripts.specs.Codes.{codeOf}
+use Rattle.scripts.specs.Code.Codes.{codeOf}
 use Rattle.scripts.specs.declared.entry.Entry.{Entry}
 use Rattle.scripts.proofs.run.term_code.Statement.{statement}
 use Rattle.scripts.proofs.run.term_code.Tie as tie

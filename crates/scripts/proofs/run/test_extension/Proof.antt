@@ -10,18 +10,19 @@ use denote.Ref.{now}
 use borrow.Author.Needs.{needs}
 use Rattle.records.specs.Outcome.{Check, require}
 use Rattle.records.specs.Answers.{checked}
-use Rattle.records.proofs.Passed.{require-passed}
-use Rattle.records.proofs.Order.{stops, goes, asked}
+use Rattle.records.proofs.Laws.Passed.{require-passed}
+use Rattle.records.proofs.Laws.Order.{then-refused, then-fine, require-test}
 use Rattle.columns.specs.Columns.{columnAt}
-use Rattle.columns.specs.Packed.{literals}
+use Rattle.columns.specs.Code.Packed.{literals}
 use Rattle.scripts.specs.Steps.{Extension}
 use Rattle.scripts.specs.Format.{queryOf, extensionOf}
-use Rattle.scripts.specs.Calculus.{without, frameLimit}
-use Rattle.scripts.specs.Run.{isNil, meets, leaves}
-use Rattle.scripts.specs.Codes.{opposed}
-use Rattle.scripts.specs.Numbered.{noNumber, numbered}
-use Rattle.scripts.proofs.Extending.{read-extends}
-use Rattle.scripts.proofs.Stepping.{not-passed, room-left}
+use Rattle.records.specs.Finite.{without, isNil}
+use Rattle.scripts.specs.Calculus.{frameLimit}
+use Rattle.scripts.specs.Run.{meets, leaves}
+use Rattle.scripts.specs.Code.Codes.{opposed}
+use Rattle.scripts.specs.Code.Numbered.{noNumber, numbered}
+use Rattle.scripts.proofs.Refinement.Extensions.{read-extends}
+use Rattle.scripts.proofs.Refinement.Stepping.{not-passed, room-left}
 use Rattle.scripts.proofs.run.test_extension.Statement.{statement}
 use Rattle.scripts.proofs.run.test_extension.Tie as tie
 
@@ -68,7 +69,7 @@ literal-at-requires c κs = placed (c .before)
 connected : (c : tie.After-pass-if) → checked (c .pass-if .result) ≡ row21 (start (found c))
 connected c =
     let a = start (found c) .args in
-    asked _ _ _ _ _ (c .pass-if .ensures)
+    require-test _ _ _ _ _ (c .pass-if .ensures)
     (c .before .is-opposed .ensures
     ∙ ap (λ (x : ℕ). opposed x (a .goal))
     (c .before .before .literal-at .ensures
@@ -80,8 +81,8 @@ returns c =
     let same = ap checked (c .no-frame .ensures .0) in
     let no = not-passed _ _ _ refused in
     record {
-      rows = same ∙ stops _ _ (row23 (start (found (c .before .before .before)))) _ _ (connected (c .before .before .before)) refused;
-      others = λ q. absurd (no (sym same ∙ q));
+      rows = same ∙ then-refused _ _ (row23 (start (found (c .before .before .before)))) _ _ (connected (c .before .before .before)) refused;
+      remainder = λ q. absurd (no (sym same ∙ q));
       room = λ q. absurd (no (sym same ∙ q));
     }
 
@@ -100,7 +101,7 @@ left c =
 roomy : (c : tie.After-pass-if2) → checked (c .pass-if2 .result) ≡ row23 (start (found (tried c)))
 roomy c =
     let a = start (found (tried c)) .args in
-    asked _ _ _ _ _ (c .pass-if2 .ensures)
+    require-test _ _ _ _ _ (c .pass-if2 .ensures)
     (c .before .has-room .ensures ∙ ap (λ (l : List ℕ). isNil l || ltb (a .depth) frameLimit) (left c))
 
 returns-2 : tie.Need-returns-2
@@ -108,8 +109,8 @@ returns-2 c =
     let l = c .before .before .leave-out .result in
     let depth = start (found (tried c)) .args .depth in
     record {
-      rows = goes _ _ _ _ (connected (tried c)) (c .before .before .before .enum-told .given .1) (roomy c);
-      others = λ q. left c;
+      rows = then-fine _ _ _ _ (connected (tried c)) (c .before .before .before .enum-told .given .1) (roomy c);
+      remainder = λ q. left c;
       room = λ q. room-left (l .first) (l .second) (l .third) depth
           (sym (c .before .has-room .ensures) ∙ require-passed _ _ _ (sym (c .pass-if2 .ensures) ∙ q));
     }
@@ -117,17 +118,6 @@ returns-2 c =
 pub test-extension-spec : {M : Type 1} → statement M
 test-extension-spec =
     tie.close
-    (tie.spec
-    used-column-requires
-    (λ c. search needs)
-    literal-at-requires
-    (λ c κs. search needs)
-    (λ c κs. search needs)
-    (λ c. search needs)
-    (λ c. search needs)
-    (λ c κs. search needs)
-    returns
-    leave-out-requires
-    (λ c κs. search needs)
-    (λ c κs. search needs)
-    returns-2)
+    (tie.spec used-column-requires (λ c. search needs) literal-at-requires (λ c κs. search needs) (λ c κs. search needs)
+    (λ c. search needs) (λ c. search needs) (λ c κs. search needs) returns leave-out-requires (λ c κs. search needs)
+    (λ c κs. search needs) returns-2)

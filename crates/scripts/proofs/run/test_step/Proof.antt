@@ -10,18 +10,19 @@ use denote.Ref.{now}
 use borrow.Author.Needs.{needs}
 use Rattle.records.specs.Outcome.{refused, pass, require}
 use Rattle.records.specs.Answers.{checked}
-use Rattle.records.proofs.Passed.{require-passed, clash}
-use Rattle.records.proofs.Order.{stops, goes, asked, passed}
+use Rattle.records.proofs.Laws.Passed.{require-passed, clash}
+use Rattle.records.proofs.Laws.Order.{then-refused, then-fine, require-test, checked-fine}
 use Rattle.scripts.specs.Format.{extensionOf}
 use Rattle.scripts.specs.Calculus.{frameLimit}
-use Rattle.scripts.specs.Run.{isNil, Frames, extendBy, goal, stepCheck}
-use Rattle.scripts.specs.Machine.{framesFrom}
-use Rattle.scripts.specs.Numbered.{numbered}
+use Rattle.records.specs.Finite.{isNil}
+use Rattle.scripts.specs.Run.{Frames, extendBy, goal, stepCheck}
+use Rattle.scripts.specs.Code.Machine.{framesFrom}
+use Rattle.scripts.specs.Code.Numbered.{numbered}
 use Rattle.scripts.specs.declared.entry.Entry.{Entry}
-use Rattle.scripts.proofs.Frames.{frames-length, listed-none}
-use Rattle.scripts.proofs.Stepping.{open-positive, not-passed, open-told, goal-told, step-extending, step-reducing}
-use Rattle.scripts.proofs.Stepping.{step-neither, extension-rows, reduction-rows, start-rows, extension-after}
-use Rattle.scripts.proofs.Stepping.{reduction-after}
+use Rattle.scripts.proofs.Refinement.Frames.{frames-length, untilZero-none}
+use Rattle.scripts.proofs.Refinement.Stepping.{open-positive, not-passed, open-frames, goal-frames, step-extending}
+use Rattle.scripts.proofs.Refinement.Stepping.{step-reducing, step-neither, extension-rows, reduction-rows, start-rows}
+use Rattle.scripts.proofs.Refinement.Stepping.{extension-after, reduction-after}
 use Rattle.scripts.proofs.run.test_step.Statement.{statement}
 use Rattle.scripts.proofs.run.test_step.Tie as tie
 
@@ -54,11 +55,11 @@ opened : (c : tie.After-pass-if)
     → checked (c .pass-if .result) ≡ require (not (isNil (frames (start c)))) 25 (start c .args .i)
 opened c =
     let a = start c .args in
-    asked _ _ _ _ _ (c .pass-if .ensures) (open-told (now (a .table)) (now (a .closed)) (a .depth))
+    require-test _ _ _ _ _ (c .pass-if .ensures) (open-frames (now (a .table)) (now (a .closed)) (a .depth))
 
 -- a frame is open
 positive : (c : tie.After-enum-told) → 0 < start (tried c) .args .depth
-positive c = open-positive _ (require-passed _ _ _ (passed _ _ (tried c .pass-if .ensures) (c .enum-told .given .1)))
+positive c = open-positive _ (require-passed _ _ _ (checked-fine _ _ (tried c .pass-if .ensures) (c .enum-told .given .1)))
 
 returns : tie.Need-returns
 unfolding stepCheck
@@ -66,12 +67,12 @@ returns c =
     let refused = c .before .enum-told2 .given .1 in
     let same = ap checked (c .no-frame .ensures .0) in
     let no = not-passed _ _ _ refused in
-    let l = c .no-frame .result .others in
+    let l = c .no-frame .result .remainder in
     record {
-      rows = same ∙ stops _ _ _ _ _ (opened (c .before .before .before)) refused;
+      rows = same ∙ then-refused _ _ _ _ _ (opened (c .before .before .before)) refused;
       after = λ q. absurd (no (sym same ∙ q));
       room = λ q. absurd (no (sym same ∙ q));
-      reduced = λ k. listed-none (l .first) (l .second) (l .third) (c .no-frame .ensures .1);
+      reduced = λ k. untilZero-none (l .first) (l .second) (l .third) (c .no-frame .ensures .1);
     }
 
 read-entry-requires : tie.Need-read-entry-requires
@@ -94,7 +95,7 @@ aimed : (c : tie.After-goal-at)
     → let b = begun c in c .goal-at .result ≡ goal (numbered (now (b .args .v)) (now (b .args .s))) (frames b)
 aimed c =
     let a = begun c .args in
-    goal-told (now (a .table)) (now (a .closed)) (a .depth) (now (a .v)) (now (a .s)) (a .depth - 1) _
+    goal-frames (now (a .table)) (now (a .closed)) (a .depth) (now (a .v)) (now (a .s)) (a .depth - 1) _
     (positive (read c .before)) refl (c .goal-at .ensures)
 
 -- how many frames there are
@@ -120,9 +121,9 @@ returns-2 c =
     let k = c .before .match2 .keys1 in
     let step = step-extending (now (a .s)) (a .i) (e .result) (e .ensures) k in
     record {
-      rows = goes _ _ _ _ (opened (tried o)) (o .enum-told .given .1) (x .rows)
+      rows = then-fine _ _ _ _ (opened (tried o)) (o .enum-told .given .1) (x .rows)
           ∙ extension-rows (now (a .v)) (now (a .s)) (a .i) (frames b) (extensionOf (e .result)) step _ _ (aimed g) (many b);
-      after = λ q. ap (λ (l : List ℕ). extendBy l (frames b)) (x .others q)
+      after = λ q. ap (λ (l : List ℕ). extendBy l (frames b)) (x .remainder q)
           ∙ extension-after (now (a .v)) (now (a .s)) (a .i) (frames b) (extensionOf (e .result)) step;
       room = λ q h. subst (λ (n : ℕ). n < frameLimit) (many b) (x .room q h);
       reduced = λ l. absurd (four-five _ _ (ap (λ (h : Entry). h .w0) (e .ensures)) k l);
@@ -137,12 +138,12 @@ returns-3 c =
     let a = b .args in
     let e = read g .read-entry in
     let step = step-reducing (now (a .s)) (a .i) (e .result) (e .ensures) (m .match2 .keys2) in
-    let l = c .no-frame2 .result .others in
-    let none = listed-none (l .first) (l .second) (l .third) (c .no-frame2 .ensures .1) in
+    let l = c .no-frame2 .result .remainder in
+    let none = untilZero-none (l .first) (l .second) (l .third) (c .no-frame2 .ensures .1) in
     record {
       rows = ap checked (c .no-frame2 .ensures .0)
-          ∙ goes _ _ _ _ (opened (tried o)) (o .enum-told .given .1)
-          (asked _ _ _ _ _ (c .before .pass-if2 .ensures) (c .before .before .can-reduce .ensures))
+          ∙ then-fine _ _ _ _ (opened (tried o)) (o .enum-told .given .1)
+          (require-test _ _ _ _ _ (c .before .pass-if2 .ensures) (c .before .before .can-reduce .ensures))
           ∙ reduction-rows (now (a .v)) (now (a .s)) (a .i) (frames b) (e .result .w1) step _ (aimed g);
       after = λ q. reduction-after (now (a .v)) (now (a .s)) (a .i) (frames b) (e .result .w1) _ step (c .no-frame2 .ensures .1);
       room = λ q h. absurd (omega (arith, h, none));
@@ -157,36 +158,21 @@ returns-4 c =
     let b = begun g in
     let a = b .args in
     let e = read g .read-entry in
-    let l = c .no-frame3 .result .others in
+    let l = c .no-frame3 .result .remainder in
     let same = ap checked (c .no-frame3 .ensures .0) in
     let starts = step-neither (now (a .s)) (a .i) (e .result) (e .ensures) (m .match2 .rest .0 .1) (m .match2 .rest .1) in
     record {
       rows = same
-          ∙ goes _ _ _ _ (opened (tried o)) (o .enum-told .given .1) refl
+          ∙ then-fine _ _ _ _ (opened (tried o)) (o .enum-told .given .1) refl
           ∙ start-rows (now (a .v)) (now (a .s)) (a .i) (frames b) starts;
       after = λ q. absurd (no-pass (sym same ∙ q));
       room = λ q. absurd (no-pass (sym same ∙ q));
-      reduced = λ k. listed-none (l .first) (l .second) (l .third) (c .no-frame3 .ensures .1);
+      reduced = λ k. untilZero-none (l .first) (l .second) (l .third) (c .no-frame3 .ensures .1);
     }
 
 pub test-step-spec : {M : Type 1} → statement M
 test-step-spec =
     tie.close
-    (tie.spec
-    (λ c κs. search needs)
-    (λ c. search needs)
-    (λ c. search needs)
-    (λ c κs. search needs)
-    returns
-    read-entry-requires
-    sub-last
-    element-copy-out-goal-at
-    goal-at-requires
-    test-extension-requires
-    can-reduce-requires
-    (λ c κs. search needs)
-    (λ c κs. search needs)
-    (λ c κs. search needs)
-    returns-2
-    returns-3
-    returns-4)
+    (tie.spec (λ c κs. search needs) (λ c. search needs) (λ c. search needs) (λ c κs. search needs) returns
+    read-entry-requires sub-last element-copy-out-goal-at goal-at-requires test-extension-requires can-reduce-requires
+    (λ c κs. search needs) (λ c κs. search needs) (λ c κs. search needs) returns-2 returns-3 returns-4)

@@ -8,18 +8,18 @@ use mathlib.Core.Logic.{_⊎_, inl, inr}
 use lib.ListN.{length}
 use denote.Ref.{now}
 use borrow.Author.Needs.{needs}
-use Rattle.records.proofs.Accepted.{Accepted, accepted-vocabulary}
+use Rattle.records.proofs.Theorems.Accepted.{Accepted, accepted-vocabulary}
 use Rattle.columns.specs.Columns.{columnAt}
-use Rattle.columns.specs.Packed.{packedAt, termLimit}
+use Rattle.columns.specs.Code.Packed.{packedAt, termLimit}
 use Rattle.scripts.specs.Steps.{Extension}
 use Rattle.scripts.specs.Format.{entrySize, entryAt, queryIn, extensionOf}
-use Rattle.scripts.specs.Codes.{codeOf, codeAt}
-use Rattle.scripts.specs.Numbered.{secondCode, usedNumbers}
-use Rattle.scripts.specs.Ready.{HasEntry}
+use Rattle.scripts.specs.Code.Codes.{codeOf, codeAt}
+use Rattle.scripts.specs.Code.Numbered.{secondCode, usedNumbers}
+use Rattle.scripts.specs.Code.Ready.{HasEntry}
 use Rattle.scripts.specs.declared.entry.Entry.{Entry}
-use Rattle.scripts.proofs.Formed.{Formed, formed}
-use Rattle.scripts.proofs.Terms.{TermRecord}
-use Rattle.scripts.proofs.Extending.{Extends, read-extends, term-coded, second-coded}
+use Rattle.scripts.proofs.Theorems.Form.{KeepsForm, keeps-form}
+use Rattle.scripts.proofs.Refinement.Terms.{TermRecord}
+use Rattle.scripts.proofs.Refinement.Extensions.{Extends, read-extends, term-coded, second-coded}
 use Rattle.scripts.proofs.run.used_column.Statement.{statement}
 use Rattle.scripts.proofs.run.used_column.Tie as tie
 
@@ -37,8 +37,8 @@ used-as v s h e cx cy cf r p q i = rw (r, p, q, i)
 good : (c : tie.Start) → Accepted (now (c .args .v))
 good c = accepted-vocabulary _ _ (c .pre .0 .begun .marked .vocabulary)
 
-form : (c : tie.Start) → Formed (now (c .args .v)) (now (c .args .s))
-form c = formed _ _ (c .pre .0 .form)
+form : (c : tie.Start) → KeepsForm (now (c .args .v)) (now (c .args .s))
+form c = keeps-form _ _ (c .pre .0 .form)
 
 -- what row 18 tells
 extends : (c : tie.Start) → Extends (now (c .args .v)) (now (c .args .s)) (extensionOf (c .args .e))
@@ -86,9 +86,4 @@ returns c =
 pub used-column-spec : {M : Type 1} → statement M
 used-column-spec =
     tie.close
-    (tie.spec
-    term-code-requires
-    second-code-requires
-    (λ c κs. search needs)
-    find-column-requires
-    returns)
+    (tie.spec term-code-requires second-code-requires (λ c κs. search needs) find-column-requires returns)

@@ -7,12 +7,13 @@ use mathlib.Core.Path.{_≡_, refl, ap, _∙_}
 use lib.ListN.{drop}
 use borrow.Author.Needs.{needs}
 use denote.Ref.{now}
-use Rattle.types.specs.Below.{least, countBelow, has}
-use Rattle.types.specs.Compare.{typeLimit, formBytes}
+use Rattle.records.specs.Finite.{least, countBelow, has}
+use Rattle.types.specs.Comparison.{typeLimit, bitmapBytes}
 use Rattle.types.specs.Types.{types}
-use Rattle.types.proofs.Counted.{size-word, verdict-same, alive-counted, alive-first, alive-form}
-use Rattle.types.proofs.Rounds.{survivors-end}
-use Rattle.types.proofs.Turns.{types-bound, ends-empty}
+use Rattle.types.proofs.Invariants.Answers.{size-word, verdict-same, alive-counted, alive-first, alive-bitmap}
+use Rattle.types.proofs.Refinement.Rounds.{survivors-end}
+use Rattle.types.proofs.Theorems.Survivors.{types-bound}
+use Rattle.types.proofs.Invariants.Tables.{ends-empty}
 use Rattle.types.proofs.call.decide.Statement.{statement}
 use Rattle.types.proofs.call.decide.Tie as tie
 
@@ -26,7 +27,7 @@ settled c = c .before .before .before
 abbrev found : tie.After-count-alive → tie.After-find-first
 found c = c .before .before
 
-abbrev counted : tie.After-write-form → tie.After-count-alive
+abbrev counted : tie.After-write-bitmap → tie.After-count-alive
 counted c = c .before .before .before
 
 -- the size is the number of types
@@ -52,8 +53,8 @@ count-alive-requires c κs =
     let s = settled (c .before) in
     omega (arith, size s, types-bound (now (start s .args .v)) (start s .pre .0 .few))
 
-write-form-requires : tie.Need-write-form-requires
-write-form-requires c κs =
+write-bitmap-requires : tie.Need-write-bitmap-requires
+write-bitmap-requires c κs =
     let s = settled (found (c .before .before)) in
     let v = now (start s .args .v) in (
       omega (arith, size s, types-bound v (start s .pre .0 .few)),
@@ -75,18 +76,11 @@ returns c =
           ∙ alive-first v alive (e .alive-at) (a .a) (a .b) (s .settle .last .1 .1 .1 .1 .1 .0) (e .differs-at)) (size s)
           (some .count-alive .ensures ∙ ap (countBelow (has alive)) (size s) ∙ alive-counted v alive (e .alive-at))
           (e .rounds-at),
-      wrote .write-form .ensures ∙ ap (λ (l : List ℕ). l ++ drop formBytes (now (a .lent))) (alive-form v alive (e .alive-at)),
+      wrote .write-bitmap .ensures ∙ ap (λ (l : List ℕ). l ++ drop bitmapBytes (now (a .lent))) (alive-bitmap v alive (e .alive-at)),
     )
 
 pub decide-spec : {M : Type 1} → statement M
 decide-spec =
     tie.close
-    (tie.spec
-    settle-requires
-    shl-size
-    find-first-requires
-    count-alive-requires
-    write-form-requires
-    (λ c κs. search needs)
-    (λ c. search needs)
-    returns)
+    (tie.spec settle-requires shl-size find-first-requires count-alive-requires write-bitmap-requires (λ c κs. search needs)
+    (λ c. search needs) returns)

@@ -7,11 +7,11 @@ use mathlib.Core.Path.{_≡_, ap, _∙_}
 use lib.ListN.{length, set, length-set}
 use borrow.Author.Needs.{needs}
 use denote.Ref.{now}
-use Rattle.records.proofs.Accepted.{accepted-vocabulary}
+use Rattle.records.proofs.Theorems.Accepted.{accepted-vocabulary}
 use Rattle.records.specs.Format.{count, recordAt, recordLimit}
 use Rattle.records.specs.declared.fields.Record.{Record}
-use Rattle.types.specs.Rules.{ruleOf, firstOf, secondOf, codeLength}
-use Rattle.types.proofs.Turns.{RightAt, right-turn, right-kept}
+use Rattle.types.specs.Code.Rules.{ruleOf, firstOf, secondOf, codeLength}
+use Rattle.types.proofs.Invariants.Tables.{RightAt, right-turn, right-kept}
 use Rattle.types.proofs.decode.decode.Statement.{statement}
 use Rattle.types.proofs.decode.decode.Tie as tie
 
@@ -35,8 +35,8 @@ record Decoding (v code : List ℕ) (i : ℕ) : Type 0 where
   within : i ≤ count v
   size : length code ≡ codeLength
   rules : RightAt 0 code (λ j. j) (rule-of v) i
-  firsts : RightAt 0 code second-place (first-of v) i
-  seconds : RightAt 0 code third-place (second-of v) i
+  first-operands : RightAt 0 code second-place (first-of v) i
+  second-operands : RightAt 0 code third-place (second-of v) i
 
 module _ (v code : List ℕ) (i : ℕ) (d : Decoding v code i) (h : i < recordLimit) (k : i < count v) (x y z : ℕ) where
   abbrev with-rule : List ℕ
@@ -55,15 +55,15 @@ module _ (v code : List ℕ) (i : ℕ) (d : Decoding v code i) (h : i < recordLi
             (right-kept 0 with-rule (λ j. j) (rule-of v) (i + 1)
             (right-turn 0 code (λ j. j) (rule-of v) i (d .rules) x (omega (arith, d .size)) (λ j l e. omega arith) p)
             (second-place i) y (λ j l e. omega arith)) (third-place i) z (λ j l e. omega arith);
-        firsts =
+        first-operands =
             right-kept 0 with-first second-place (first-of v) (i + 1)
             (right-turn 0 with-rule second-place (first-of v) i
-            (right-kept 0 code second-place (first-of v) i (d .firsts) i x (λ j l e. omega arith))
+            (right-kept 0 code second-place (first-of v) i (d .first-operands) i x (λ j l e. omega arith))
             y (omega (arith, long-rule)) (λ j l e. omega arith) q) (third-place i) z (λ j l e. omega arith);
-        seconds =
+        second-operands =
             right-turn 0 with-first third-place (second-of v) i
             (right-kept 0 with-rule third-place (second-of v) i
-            (right-kept 0 code third-place (second-of v) i (d .seconds) i x (λ j l e. omega arith))
+            (right-kept 0 code third-place (second-of v) i (d .second-operands) i x (λ j l e. omega arith))
             (second-place i) y (λ j l e. omega arith)) z (omega (arith, long)) (λ j l e. omega arith) r;
       }
     where
@@ -91,8 +91,8 @@ loop-holds c =
       within = omega arith;
       size = c .before .pre .1;
       rules = λ j k. absurd (omega arith);
-      firsts = λ j k. absurd (omega arith);
-      seconds = λ j k. absurd (omega arith);
+      first-operands = λ j k. absurd (omega arith);
+      second-operands = λ j k. absurd (omega arith);
     }
 
 mul-code : tie.Need-mul-code Inv-loop μ-loop
@@ -141,32 +141,13 @@ returns c =
     let w = c .before .loop .inv in
     let e : c .before .loop .i ≡ count (now (c .before .before .before .args .v)) = omega (arith, w .within) in record {
       rule-at = λ j h. w .rules j (omega arith);
-      first-at = λ j h. w .firsts j (omega arith);
-      second-at = λ j h. w .seconds j (omega arith);
+      first-at = λ j h. w .first-operands j (omega arith);
+      second-at = λ j h. w .second-operands j (omega arith);
     }
 
 pub decode-spec : {M : Type 1} → statement M
 decode-spec =
     tie.close
-    (tie.spec
-    Inv-loop
-    μ-loop
-    loop-holds
-    (λ c κs. omega arith)
-    (λ c κs. search needs)
-    mul-code
-    element-write-code
-    cast-first-operand
-    (λ c κs. search needs)
-    add-code
-    mul-code-2
-    element-write-code-2
-    (λ c κs. search needs)
-    (λ c. omega arith)
-    add-code-2
-    mul-code-4
-    element-write-code-3
-    add-i
-    (λ c. omega arith)
-    loop-again
-    returns)
+    (tie.spec Inv-loop μ-loop loop-holds (λ c κs. omega arith) (λ c κs. search needs) mul-code element-write-code
+    cast-first-operand (λ c κs. search needs) add-code mul-code-2 element-write-code-2 (λ c κs. search needs)
+    (λ c. omega arith) add-code-2 mul-code-4 element-write-code-3 add-i (λ c. omega arith) loop-again returns)

@@ -2,8 +2,8 @@
 -- of shapes.
 -- Assumes nothing.
 use native.Mathlib.Omega.{arith}
-use Rattle.types.specs.Rules.{shapeOf}
-use Rattle.types.proofs.Connects.{first-operand, first-low, first-above}
+use Rattle.types.specs.Code.Rules.{shapeOf}
+use Rattle.types.proofs.Refinement.TruthRules.{first-operand, first-low, first-above}
 use Rattle.types.proofs.decode.first_operand.Statement.{statement}
 use Rattle.types.proofs.decode.first_operand.Tie as tie
 

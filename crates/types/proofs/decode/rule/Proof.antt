@@ -1,8 +1,8 @@
 -- `types::decode::rule` meets its contract. The arm that was taken tells the kind, and so its line of the table of shapes.
 -- Assumes nothing.
 use native.Mathlib.Omega.{arith}
-use Rattle.types.specs.Rules.{shapeOf}
-use Rattle.types.proofs.Connects.{rule-restriction, rule-low, rule-high}
+use Rattle.types.specs.Code.Rules.{shapeOf}
+use Rattle.types.proofs.Refinement.TruthRules.{rule-restriction, rule-low, rule-high}
 use Rattle.types.proofs.decode.rule.Statement.{statement}
 use Rattle.types.proofs.decode.rule.Tie as tie
 
@@ -44,13 +44,4 @@ returns-9 c = rule-high (c .before .before .before .args .kind) (omega arith)
 pub rule-spec : {M : Type 1} → statement M
 rule-spec =
     tie.close
-    (tie.spec
-    returns
-    returns-2
-    returns-3
-    returns-4
-    returns-5
-    returns-6
-    returns-7
-    returns-8
-    returns-9)
+    (tie.spec returns returns-2 returns-3 returns-4 returns-5 returns-6 returns-7 returns-8 returns-9)

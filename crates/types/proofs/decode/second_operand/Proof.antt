@@ -2,7 +2,7 @@
 -- table of shapes.
 -- Assumes nothing.
 use native.Mathlib.Omega.{arith}
-use Rattle.types.proofs.Connects.{second-operand, second-low, second-high}
+use Rattle.types.proofs.Refinement.TruthRules.{second-operand, second-low, second-high}
 use Rattle.types.proofs.decode.second_operand.Statement.{statement}
 use Rattle.types.proofs.decode.second_operand.Tie as tie
 

@@ -11,25 +11,25 @@ use borrow.Author.Tests.{not-true, not-false}
 use borrow.Author.Needs.{needs}
 use denote.Ref.{now}
 use Rattle.types.specs.Types.{types}
-use Rattle.types.specs.Compare.{typeLimit}
-use Rattle.types.specs.Elimination.{Eliminating}
-use Rattle.types.proofs.Rounds.{stage-ends, eliminating-on, AtStage, rests-survivors, stage-on, rounds-left}
-use Rattle.types.proofs.Turns.{types-bound}
+use Rattle.types.specs.Comparison.{typeLimit}
+use Rattle.types.specs.Code.Elimination.{Eliminating}
+use Rattle.types.proofs.Refinement.Rounds.{stage-ends, eliminating-on, AtStage, rests-survivors, stage-on, rounds-left}
+use Rattle.types.proofs.Theorems.Survivors.{types-bound}
 use Rattle.types.proofs.eliminate.eliminate.Statement.{statement}
 use Rattle.types.proofs.eliminate.eliminate.Tie as tie
 
-record Standing (v : List ℕ) (bits : ℕ) (masks demands live : List ℕ) (left : ℕ) (cover : List ℕ) (alive : List Bool) (done : ℕ)
+record Standing (v : List ℕ) (bits : ℕ) (masks held live : List ℕ) (left : ℕ) (joins : List ℕ) (alive : List Bool) (done : ℕ)
     : Type 0 where
-  state : Eliminating v bits masks demands live left alive
+  state : Eliminating v bits masks held live left alive
   stage : AtStage v alive done
-  room : length cover ≡ typeLimit
+  room : length joins ≡ typeLimit
 
 abbrev Inv-loop : tie.InvT-loop
-Inv-loop v roles bits demands offers size alive₀ masks live left cover₀ done₀ alive cover done =
-    Standing v bits masks demands live left cover alive done
+Inv-loop v roles bits held filling size alive₀ masks live left joins₀ done₀ alive joins done =
+    Standing v bits masks held live left joins alive done
 
 abbrev μ-loop : tie.MeasureT-loop
-μ-loop v roles bits demands offers size alive₀ masks live left cover₀ done₀ alive cover done = types v - done
+μ-loop v roles bits held filling size alive₀ masks live left joins₀ done₀ alive joins done = types v - done
 
 list-live-requires : tie.Need-list-live-requires Inv-loop μ-loop
 list-live-requires c κs =
@@ -52,7 +52,7 @@ loop-holds c =
         few = p .1 .0;
         wide = p .1 .1 .0;
         masked = masked .list-masks .ensures;
-        demanded = p .1 .1 .1 .1 .0;
+        held-words = p .1 .1 .1 .1 .0;
         listed = c .list-live .ensures;
         ends = λ t h. same t ∙ stage-ends (now (start .args .v)) 0 t h;
         size = p .1 .1 .1 .1 .1 .1 .1 .1;
@@ -106,14 +106,5 @@ loop-again c =
 pub eliminate-spec : {M : Type 1} → statement M
 eliminate-spec =
     tie.close
-    (tie.spec
-    Inv-loop
-    μ-loop
-    (λ c κs. search needs)
-    list-live-requires
-    loop-holds
-    remove-unserved-requires
-    returns
-    add-done
-    loop-less
-    loop-again)
+    (tie.spec Inv-loop μ-loop (λ c κs. search needs) list-live-requires loop-holds remove-unserved-requires returns add-done
+    loop-less loop-again)

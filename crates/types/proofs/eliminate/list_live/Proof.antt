@@ -4,9 +4,9 @@
 use Prim.Native.Nat.{_-_, _≤_, _<_}
 use native.Mathlib.Omega.{arith}
 use mathlib.Core.Logic.{⊎-elim}
-use Rattle.types.specs.Compare.{typeLimit}
-use Rattle.types.proofs.Listing.{ListedBelow, list-start, list-more, list-same}
-use Rattle.types.proofs.Sweeps.{list-covering}
+use Rattle.types.specs.Comparison.{typeLimit}
+use Rattle.types.proofs.Invariants.Lists.{ListedBelow, list-start, list-more, list-same}
+use Rattle.types.proofs.Invariants.Elimination.{list-enumerates}
 use Rattle.types.proofs.eliminate.list_live.Statement.{statement}
 use Rattle.types.proofs.eliminate.list_live.Tie as tie
 
@@ -57,21 +57,10 @@ loop-again c =
 returns : tie.Need-returns Inv-loop μ-loop
 returns c =
     let start = c .before .before .pre in
-    list-covering _ _ _ _ (c .before .loop .inv .1) (omega (arith, start .0)) (λ u h. start .1 .0 u (omega arith))
+    list-enumerates _ _ _ _ (c .before .loop .inv .1) (omega (arith, start .0)) (λ u h. start .1 .0 u (omega arith))
 
 pub list-live-spec : {M : Type 1} → statement M
 list-live-spec =
     tie.close
-    (tie.spec
-    Inv-loop
-    μ-loop
-    loop-holds
-    element-copy-out-if1
-    cast-live
-    mul-live
-    element-write-live
-    add-left
-    add-t
-    (λ c. omega arith)
-    loop-again
-    returns)
+    (tie.spec Inv-loop μ-loop loop-holds element-copy-out-if1 cast-live mul-live element-write-live add-left add-t
+    (λ c. omega arith) loop-again returns)

@@ -6,16 +6,16 @@ use mathlib.Core.Path.{refl, ap, _∙_}
 use denote.Ref.{now}
 use Rattle.records.specs.Format.{roleLimit, roleCount, count}
 use Rattle.records.specs.declared.fields.Record.{Record}
-use Rattle.records.proofs.Accepted.{accepted-vocabulary}
-use Rattle.types.specs.Words.{others}
-use Rattle.types.proofs.Restrictions.{width-bound}
-use Rattle.types.proofs.Rounds.{others-done}
-use Rattle.types.proofs.Turns.{Filled, fill-start, fill-turn}
+use Rattle.records.proofs.Theorems.Accepted.{accepted-vocabulary}
+use Rattle.types.specs.Code.Words.{otherRoleWord}
+use Rattle.types.proofs.Refinement.Restrictions.{width-bound}
+use Rattle.types.proofs.Refinement.Rounds.{otherRoleWord-done}
+use Rattle.types.proofs.Invariants.Tables.{Filled, fill-start, fill-turn}
 use Rattle.types.proofs.eliminate.list_masks.Statement.{statement}
 use Rattle.types.proofs.eliminate.list_masks.Tie as tie
 
 abbrev Inv-loop : tie.InvT-loop
-Inv-loop v roles bits count masks₀ role₀ masks role = (role ≤ roleCount v) × Filled 0 roleLimit masks (others v) role
+Inv-loop v roles bits count masks₀ role₀ masks role = (role ≤ roleCount v) × Filled 0 roleLimit masks (otherRoleWord v) role
 
 abbrev μ-loop : tie.MeasureT-loop
 μ-loop v roles bits count masks₀ role₀ masks role = count - role
@@ -26,8 +26,8 @@ read-at-requires c κs = omega (arith, accepted-vocabulary (now (c .before .args
 loop-holds : tie.Need-loop-holds Inv-loop μ-loop
 loop-holds c = (omega arith, fill-start 0 roleLimit _ _ refl)
 
-others-of-requires : tie.Need-others-of-requires Inv-loop μ-loop
-others-of-requires c κs =
+other-roles-requires : tie.Need-other-roles-requires Inv-loop μ-loop
+other-roles-requires c κs =
     let start = c .before .before .before .before in
     omega (arith, start .pre .1 .1 .0, start .pre .1 .0, width-bound (now (start .args .v)))
 
@@ -56,7 +56,7 @@ loop-again : tie.Need-loop-again Inv-loop μ-loop
 loop-again c =
     let loop = c .before .before .loop in
     let start = c .before .before .before .before .before in
-    let made = c .others-of .ensures ∙ others-done (now (start .args .v)) (now (start .args .roles)) (start .args .bits) (loop .role)
+    let made = c .other-roles .ensures ∙ otherRoleWord-done (now (start .args .v)) (now (start .args .roles)) (start .args .bits) (loop .role)
     (start .pre .1 .1 .0) (start .pre .1 .1 .1) in
     (omega (arith, below (c .before)), fill-turn 0 roleLimit _ _ _ _ (inside (c .before)) (loop .inv .1) made)
 
@@ -69,16 +69,5 @@ returns c =
 pub list-masks-spec : {M : Type 1} → statement M
 list-masks-spec =
     tie.close
-    (tie.spec
-    Inv-loop
-    μ-loop
-    read-at-requires
-    loop-holds
-    others-of-requires
-    cast-masks
-    mul-masks
-    array-write-masks
-    add-role
-    (λ c. omega arith)
-    loop-again
-    returns)
+    (tie.spec Inv-loop μ-loop read-at-requires loop-holds other-roles-requires cast-masks mul-masks array-write-masks add-role
+    (λ c. omega arith) loop-again returns)

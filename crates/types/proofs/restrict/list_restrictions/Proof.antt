@@ -1,5 +1,5 @@
 -- `types::restrict::list_restrictions` meets its contract. The loop's invariant: the restrictions below `i` are listed,
--- with what is asked of each. There is room, since each is an atom.
+-- with what each is to hold. There is room, since each is an atom.
 -- Assumes nothing.
 use Prim.Native.Nat.{ℕ, suc, _+_, _-_, _≤_, _<_}
 use native.Mathlib.Omega.{arith}
@@ -10,21 +10,23 @@ use mathlib.Core.Path.{_≡_, refl, sym, ap, _∙_}
 use lib.Dec.{eqb}
 use borrow.Author.Needs.{needs}
 use denote.Ref.{now}
-use Rattle.records.proofs.Accepted.{accepted-vocabulary}
-use Rattle.records.proofs.Ranks.{rank-mono}
-use Rattle.records.specs.Atoms.{atoms, digit}
+use Rattle.records.proofs.Theorems.Accepted.{accepted-vocabulary}
+use Rattle.records.proofs.Theorems.Ranks.{rank-mono}
+use Rattle.records.specs.Atoms.{atoms}
+use Rattle.records.specs.Finite.{digit}
 use Rattle.records.specs.Format.{count, recordAt, recordLimit}
 use Rattle.records.specs.declared.fields.Record.{Record}
-use Rattle.types.specs.Compare.{atomLimit}
+use Rattle.types.specs.Comparison.{atomLimit}
 use Rattle.records.specs.Kinds.{isRestriction}
-use Rattle.types.specs.Words.{width, negated}
-use Rattle.types.proofs.Listing.{entries, entry, entries-none, entries-length, total-turn, asked-kept, asked-more}
-use Rattle.types.proofs.Restrictions.{restricts, restrictions-few}
-use Rattle.types.proofs.Turns.{Filled, fill-start}
+use Rattle.types.specs.Code.Words.{width, negated}
+use Rattle.types.proofs.Invariants.Lists.{entries, entry, entries-none, entries-length, total-turn, fill-entry-kept}
+use Rattle.types.proofs.Invariants.Lists.{fill-entry-more}
+use Rattle.types.proofs.Refinement.Restrictions.{restricts, restrictions-few}
+use Rattle.types.proofs.Invariants.Tables.{Filled, fill-start}
 use Rattle.types.proofs.restrict.list_restrictions.Statement.{statement}
 use Rattle.types.proofs.restrict.list_restrictions.Tie as tie
 
--- A table of what is asked of each restriction below i, of which there are n.
+-- A table of what each restriction below i is to hold, of which there are n.
 abbrev Has : {A : Type 0} → A → List ℕ → (ℕ → A) → ℕ → ℕ → List A → Type 0
 Has d v ask i n l = Filled d atomLimit l (λ m. ask (entry (restricts v) i m)) n
 
@@ -128,22 +130,22 @@ loop-again c =
     rw (s .2, s .3, s .4, s .5, s .6) record {
       within = h;
       total = total-turn (restricts v) (l .count) (l .i) (w .total) true e;
-      has-places = asked-more (restricts v) _ (l .i) (w .total) 0 _ (λ j. j) _ (w .has-places) _ r e refl;
-      has-fillers = asked-more (restricts v) _ (l .i) (w .total) 0 _ (λ j. recordAt v j .b) _ (w .has-fillers) _ r e
+      has-places = fill-entry-more (restricts v) _ (l .i) (w .total) 0 _ (λ j. j) _ (w .has-places) _ r e refl;
+      has-fillers = fill-entry-more (restricts v) _ (l .i) (w .total) 0 _ (λ j. recordAt v j .b) _ (w .has-fillers) _ r e
           (ap (λ (r : Record). r .b) read);
-      has-roles = asked-more (restricts v) _ (l .i) (w .total) 0 _ (λ j. recordAt v j .a) _ (w .has-roles) _ r e
+      has-roles = fill-entry-more (restricts v) _ (l .i) (w .total) 0 _ (λ j. recordAt v j .a) _ (w .has-roles) _ r e
           (ap (λ (r : Record). r .a) read);
-      has-signs = asked-more (restricts v) _ (l .i) (w .total) false _ (negated v) _ (w .has-signs) _ r e
+      has-signs = fill-entry-more (restricts v) _ (l .i) (w .total) false _ (negated v) _ (w .has-signs) _ r e
           (ap (λ (r : Record). eqb (r .kind) 8) read);
     })
     (λ s. let e : restricts v (l .i) ≡ false = sym (tested (c .before)) ∙ s .0 .left in
     rw (s .1, s .2, s .3, s .4, s .5) record {
       within = h;
       total = omega (arith, total-turn (restricts v) (l .count) (l .i) (w .total) false e);
-      has-places = asked-kept (restricts v) _ (l .i) (w .total) 0 _ (λ j. j) _ (w .has-places);
-      has-fillers = asked-kept (restricts v) _ (l .i) (w .total) 0 _ (λ j. recordAt v j .b) _ (w .has-fillers);
-      has-roles = asked-kept (restricts v) _ (l .i) (w .total) 0 _ (λ j. recordAt v j .a) _ (w .has-roles);
-      has-signs = asked-kept (restricts v) _ (l .i) (w .total) false _ (negated v) _ (w .has-signs);
+      has-places = fill-entry-kept (restricts v) _ (l .i) (w .total) 0 _ (λ j. j) _ (w .has-places);
+      has-fillers = fill-entry-kept (restricts v) _ (l .i) (w .total) 0 _ (λ j. recordAt v j .b) _ (w .has-fillers);
+      has-roles = fill-entry-kept (restricts v) _ (l .i) (w .total) 0 _ (λ j. recordAt v j .a) _ (w .has-roles);
+      has-signs = fill-entry-kept (restricts v) _ (l .i) (w .total) false _ (negated v) _ (w .has-signs);
     }) (c .if1 .came)
 
 returns : tie.Need-returns Inv-loop μ-loop
@@ -163,22 +165,6 @@ returns c =
 pub list-restrictions-spec : {M : Type 1} → statement M
 list-restrictions-spec =
     tie.close
-    (tie.spec
-    Inv-loop
-    μ-loop
-    loop-holds
-    (λ c κs. omega arith)
-    (λ c κs. search needs)
-    cast-places
-    mul-places
-    array-write-places
-    mul-fillers
-    array-write-fillers
-    mul-roles
-    array-write-roles
-    array-write-signs
-    add-count
-    add-i
-    (λ c. omega arith)
-    loop-again
-    returns)
+    (tie.spec Inv-loop μ-loop loop-holds (λ c κs. omega arith) (λ c κs. search needs) cast-places mul-places
+    array-write-places mul-fillers array-write-fillers mul-roles array-write-roles array-write-signs add-count add-i
+    (λ c. omega arith) loop-again returns)

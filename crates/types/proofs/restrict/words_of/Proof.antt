@@ -8,9 +8,8 @@ use mathlib.Core.Path.{_≡_, _∙_}
 use lib.ListN.{getD}
 use borrow.Author.Needs.{needs}
 use denote.Ref.{now}
-use Rattle.records.specs.Format.{recordLimit}
-use Rattle.types.specs.Words.{signed}
-use Rattle.types.proofs.Turns.{wordFrom, word-start, word-turn, word-end, word-bound}
+use Rattle.types.specs.Code.Words.{signed}
+use Rattle.types.proofs.Invariants.Tables.{wordFrom, word-start, word-turn, word-end, word-bound}
 use Rattle.types.proofs.restrict.words_of.Statement.{statement}
 use Rattle.types.proofs.restrict.words_of.Tie as tie
 
@@ -18,25 +17,25 @@ use Rattle.types.proofs.restrict.words_of.Tie as tie
 abbrev bits : List Bool → List ℕ → List Bool → ℕ → Bool
 bits done places signs m = signed (getD signs m false) (getD done (getD places m 0) false)
 
-record Building (done : List Bool) (n : ℕ) (places fillers : List ℕ) (signs : List Bool) (demand offer m : ℕ) : Type 0 where
+record Building (done : List Bool) (n : ℕ) (places fillers : List ℕ) (signs : List Bool) (held filling m : ℕ) : Type 0 where
   within : m ≤ n
-  demanded : demand ≡ wordFrom n (bits done places signs) m
-  offered : offer ≡ wordFrom n (bits done fillers signs) m
+  held-words : held ≡ wordFrom n (bits done places signs) m
+  filling-words : filling ≡ wordFrom n (bits done fillers signs) m
 
 abbrev Inv-loop : tie.InvT-loop
-Inv-loop done listing demand₀ offer₀ m₀ demand offer m =
-    Building done (listing .count) (listing .places) (listing .fillers) (listing .signs) demand offer m
+Inv-loop done listing held₀ filling₀ m₀ held filling m =
+    Building done (listing .count) (listing .places) (listing .fillers) (listing .signs) held filling m
 
 abbrev μ-loop : tie.MeasureT-loop
-μ-loop done listing demand₀ offer₀ m₀ demand offer m = m
+μ-loop done listing held₀ filling₀ m₀ held filling m = m
 
 loop-holds : tie.Need-loop-holds Inv-loop μ-loop
 loop-holds c =
     let l = c .args .t2 in
     let done = now (c .args .done) in record {
       within = omega arith;
-      demanded = word-start (l .count) (bits done (l .places) (l .signs));
-      offered = word-start (l .count) (bits done (l .fillers) (l .signs));
+      held-words = word-start (l .count) (bits done (l .places) (l .signs));
+      filling-words = word-start (l .count) (bits done (l .fillers) (l .signs));
     }
 
 -- the restriction is listed, and what it names in the table
@@ -72,7 +71,7 @@ push-bit-requires c κs =
     let at = c .before .before .before .before .before .before in
     let l = at .before .args .t2 in
     word-bound (l .count) (bits (now (at .before .args .done)) (l .places) (l .signs)) (at .loop .m) _ (at .before .pre .few)
-    (at .loop .inv .demanded)
+    (at .loop .inv .held-words)
 
 element-copy-out-apply-sign-2 : tie.Need-element-copy-out-apply-sign-2 Inv-loop μ-loop
 element-copy-out-apply-sign-2 c =
@@ -84,7 +83,7 @@ push-bit-requires-2 c κs =
     let at = c .before .before .before .before .before .before .before .before .before in
     let l = at .before .args .t2 in
     word-bound (l .count) (bits (now (at .before .args .done)) (l .fillers) (l .signs)) (at .loop .m) _ (at .before .pre .few)
-    (at .loop .inv .offered)
+    (at .loop .inv .filling-words)
 
 loop-again : tie.Need-loop-again Inv-loop μ-loop
 loop-again c =
@@ -94,14 +93,14 @@ loop-again c =
     let done = now (at .before .args .done) in
     let w = at .loop .inv in record {
       within = omega (arith, w .within);
-      demanded =
+      held-words =
           first .push-bit .ensures
-          ∙ word-turn (l .count) (bits done (l .places) (l .signs)) (at .loop .m) (at .loop .demand) _ (omega arith)
-          (w .within) (w .demanded) (first .before .apply-sign .ensures);
-      offered =
+          ∙ word-turn (l .count) (bits done (l .places) (l .signs)) (at .loop .m) (at .loop .held) _ (omega arith)
+          (w .within) (w .held-words) (first .before .apply-sign .ensures);
+      filling-words =
           c .push-bit2 .ensures
-          ∙ word-turn (l .count) (bits done (l .fillers) (l .signs)) (at .loop .m) (at .loop .offer) _ (omega arith)
-          (w .within) (w .offered) (c .before .apply-sign2 .ensures);
+          ∙ word-turn (l .count) (bits done (l .fillers) (l .signs)) (at .loop .m) (at .loop .filling) _ (omega arith)
+          (w .within) (w .filling-words) (c .before .apply-sign2 .ensures);
     }
 
 returns : tie.Need-returns Inv-loop μ-loop
@@ -109,31 +108,13 @@ returns c =
     let l = c .before .before .args .t2 in
     let done = now (c .before .before .args .done) in
     let at = c .before .loop in (
-      word-end (l .count) (bits done (l .places) (l .signs)) (at .m) _ (omega arith) (at .inv .demanded),
-      word-end (l .count) (bits done (l .fillers) (l .signs)) (at .m) _ (omega arith) (at .inv .offered),
+      word-end (l .count) (bits done (l .places) (l .signs)) (at .m) _ (omega arith) (at .inv .held-words),
+      word-end (l .count) (bits done (l .fillers) (l .signs)) (at .m) _ (omega arith) (at .inv .filling-words),
     )
 
 pub words-of-spec : {M : Type 1} → statement M
 words-of-spec =
     tie.close
-    (tie.spec
-    Inv-loop
-    μ-loop
-    loop-holds
-    (λ c. omega arith)
-    element-copy-out-sign
-    mul-place
-    element-copy-out-place
-    cast-place
-    mul-filler
-    element-copy-out-filler
-    cast-filler
-    element-copy-out-apply-sign
-    (λ c κs. search needs)
-    push-bit-requires
-    element-copy-out-apply-sign-2
-    (λ c κs. search needs)
-    push-bit-requires-2
-    (λ c. omega arith)
-    loop-again
-    returns)
+    (tie.spec Inv-loop μ-loop loop-holds (λ c. omega arith) element-copy-out-sign mul-place element-copy-out-place cast-place
+    mul-filler element-copy-out-filler cast-filler element-copy-out-apply-sign (λ c κs. search needs) push-bit-requires
+    element-copy-out-apply-sign-2 (λ c κs. search needs) push-bit-requires-2 (λ c. omega arith) loop-again returns)

@@ -4,7 +4,7 @@ use Prim.Native.Nat.{_-_}
 use native.Mathlib.Omega.{arith}
 use mathlib.Core.Path.{refl}
 use denote.Ref.{now}
-use Rattle.types.proofs.Counted.{size-word}
+use Rattle.types.proofs.Invariants.Answers.{size-word}
 use Rattle.types.proofs.settle.settle.Statement.{statement}
 use Rattle.types.proofs.settle.settle.Tie as tie
 
@@ -18,11 +18,11 @@ restricted c = c .before .before .before
 abbrev decoded : tie.After-list-statements → tie.After-decode
 decoded c = c .before .before .before
 
-abbrev stated : tie.After-offers → tie.After-list-statements
+abbrev stated : tie.After-filling → tie.After-list-statements
 stated c = c .before .before .before .before .before .before .before
 
-abbrev profiled : tie.After-eliminate-arg → tie.After-profile-types
-profiled c = c .before .before .before .before
+abbrev described : tie.After-eliminate-arg → tie.After-describe-types
+described c = c .before .before .before .before
 
 list-restrictions-requires : tie.Need-list-restrictions-requires
 list-restrictions-requires c κs = let q = c .before .pre .0 in (q .accepts, q .few)
@@ -36,8 +36,8 @@ list-atoms-requires c κs = let q = start (restricted c) .pre .0 in (q .accepts,
 list-statements-requires : tie.Need-list-statements-requires
 list-statements-requires c κs = (start (restricted (c .before .before)) .pre .0 .accepts, refl)
 
-profile-types-requires : tie.Need-profile-types-requires
-profile-types-requires c κs =
+describe-types-requires : tie.Need-describe-types-requires
+describe-types-requires c κs =
     let listed = stated c in
     let code = decoded listed in
     let lists = restricted code in
@@ -49,7 +49,7 @@ profile-types-requires c κs =
         stated = listed .list-statements .ensures;
         listed = lists .list-restrictions .ensures;
       },
-      record { vacant = p .1; done-size = refl; demands-size = refl; offers-size = refl },
+      record { vacant = p .1; done-size = refl; held-size = refl; filling-size = refl },
     )
 
 shl-eliminate : tie.Need-shl-eliminate
@@ -59,11 +59,11 @@ shl-eliminate c =
 
 eliminate-requires : tie.Need-eliminate-requires
 eliminate-requires c κs =
-    let lists = restricted (decoded (stated (profiled c .before))) in
+    let lists = restricted (decoded (stated (described c .before))) in
     let a = start lists .args in
     let q = start lists .pre .0 in
     let r = lists .list-restrictions .ensures in
-    let p = profiled c .profile-types .ensures in (
+    let p = described c .describe-types .ensures in (
       q .accepts,
       (
         q .few,
@@ -72,8 +72,8 @@ eliminate-requires c κs =
           (
             r .role-at,
             (
-              p .1 .demands-at,
-              (p .1 .offers-at, (size-word (now (a .v)) (a .k) (q .few) (q .counts), (p .0 .alive-at, p .0 .alive-size))),
+              p .1 .held-at,
+              (p .1 .filling-at, (size-word (now (a .v)) (a .k) (q .few) (q .counts), (p .0 .alive-at, p .0 .alive-size))),
             ),
           ),
         ),
@@ -84,19 +84,12 @@ returns : tie.Need-returns
 returns c =
     record {
       alive-at = c .eliminate .ensures .0;
-      differs-at = profiled (c .before) .profile-types .ensures .0 .differs-at;
+      differs-at = described (c .before) .describe-types .ensures .0 .differs-at;
       rounds-at = c .eliminate .ensures .1;
     }
 
 pub settle-spec : {M : Type 1} → statement M
 settle-spec =
     tie.close
-    (tie.spec
-    list-restrictions-requires
-    decode-requires
-    list-atoms-requires
-    list-statements-requires
-    profile-types-requires
-    shl-eliminate
-    eliminate-requires
-    returns)
+    (tie.spec list-restrictions-requires decode-requires list-atoms-requires list-statements-requires describe-types-requires
+    shl-eliminate eliminate-requires returns)

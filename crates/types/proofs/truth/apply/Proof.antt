@@ -3,9 +3,9 @@
 use Prim.Native.Nat.{_+_, _*_, _<_}
 use native.Mathlib.Omega.{arith}
 use borrow.Author.Needs.{needs}
-use Rattle.records.proofs.Ranks.{digit-small}
-use Rattle.types.specs.Below.{bit}
-use Rattle.types.specs.Rules.{select}
+use Rattle.records.proofs.Laws.Bits.{digit-small}
+use Rattle.records.specs.Finite.{bit}
+use Rattle.types.specs.Code.Rules.{select}
 use Rattle.types.proofs.truth.apply.Statement.{statement}
 use Rattle.types.proofs.truth.apply.Tie as tie
 

@@ -9,17 +9,18 @@ use mathlib.Core.Path.{_≡_, refl, sym, ap, _∙_}
 use lib.ListN.{getD}
 use borrow.Author.Needs.{needs}
 use denote.Ref.{now}
-use Rattle.records.proofs.Accepted.{accepted-vocabulary}
-use Rattle.records.proofs.Ranks.{rank-mono, rank-next, rank-below}
-use Rattle.records.specs.Atoms.{atoms, digit, rank}
+use Rattle.records.proofs.Theorems.Accepted.{accepted-vocabulary}
+use Rattle.records.proofs.Theorems.Ranks.{rank-mono, rank-next, rank-below}
+use Rattle.records.specs.Atoms.{atoms, rank}
+use Rattle.records.specs.Finite.{digit}
 use Rattle.records.specs.Format.{count, recordAt, recordLimit}
 use Rattle.records.specs.Kinds.{isAtom}
 use Rattle.records.specs.declared.fields.Record.{Record}
-use Rattle.types.specs.Compare.{atomLimit}
-use Rattle.types.specs.Rules.{AtomsListed}
-use Rattle.types.proofs.Listing.{entries, entry, entries-none, entries-length, entry-sound, entry-number, entry-at}
-use Rattle.types.proofs.Listing.{total-turn, asked-kept, asked-more}
-use Rattle.types.proofs.Turns.{Filled, fill-start}
+use Rattle.types.specs.Comparison.{atomLimit}
+use Rattle.types.specs.Code.Rules.{AtomsListed}
+use Rattle.types.proofs.Invariants.Lists.{entries, entry, entries-none, entries-length, entry-sound, entry-number}
+use Rattle.types.proofs.Invariants.Lists.{entry-at, total-turn, fill-entry-kept, fill-entry-more}
+use Rattle.types.proofs.Invariants.Tables.{Filled, fill-start}
 use Rattle.types.proofs.truth.list_atoms.Statement.{statement}
 use Rattle.types.proofs.truth.list_atoms.Tie as tie
 
@@ -108,13 +109,13 @@ loop-again c =
     rw (s .1, s .2) record {
       within = h;
       total = total-turn (atom v) (l .found) (l .i) (w .total) true e;
-      filled = asked-more (atom v) _ (l .i) (w .total) 0 _ (λ j. j) _ (w .filled) _ r e refl;
+      filled = fill-entry-more (atom v) _ (l .i) (w .total) 0 _ (λ j. j) _ (w .filled) _ r e refl;
     })
     (λ s. let e : atom v (l .i) ≡ false = sym (tested (c .before)) ∙ s .0 .left in
     rw (s .1, s .2) record {
       within = h;
       total = omega (arith, total-turn (atom v) (l .found) (l .i) (w .total) false e);
-      filled = asked-kept (atom v) _ (l .i) (w .total) 0 _ (λ j. j) _ (w .filled);
+      filled = fill-entry-kept (atom v) _ (l .i) (w .total) 0 _ (λ j. j) _ (w .filled);
     }) (c .if1 .came)
 
 returns : tie.Need-returns Inv-loop μ-loop
@@ -129,17 +130,5 @@ returns c =
 pub list-atoms-spec : {M : Type 1} → statement M
 list-atoms-spec =
     tie.close
-    (tie.spec
-    Inv-loop
-    μ-loop
-    loop-holds
-    (λ c κs. omega arith)
-    (λ c κs. search needs)
-    cast-places
-    mul-places
-    array-write-places
-    add-found
-    add-i
-    (λ c. omega arith)
-    loop-again
-    returns)
+    (tie.spec Inv-loop μ-loop loop-holds (λ c κs. omega arith) (λ c κs. search needs) cast-places mul-places
+    array-write-places add-found add-i (λ c. omega arith) loop-again returns)

@@ -5,13 +5,12 @@ use native.Mathlib.Omega.{arith}
 use mathlib.Core.Logic.{⊎-elim}
 use mathlib.Core.Path.{_≡_, subst}
 use denote.Ref.{now}
-use Rattle.records.proofs.Accepted.{accepted-well-formed, accepted-vocabulary}
-use Rattle.records.specs.Format.{count}
-use Rattle.types.proofs.Listing.{ListedBelow, list-start, list-more, list-same}
-use Rattle.types.proofs.Profiles.{stating}
+use Rattle.records.proofs.Theorems.Accepted.{accepted-well-formed, accepted-vocabulary}
+use Rattle.records.specs.Format.{count, recordLimit}
+use Rattle.types.proofs.Invariants.Lists.{ListedBelow, list-start, list-more, list-same}
+use Rattle.types.proofs.Refinement.TypeData.{stating}
 use Rattle.types.proofs.truth.list_statements.Statement.{statement}
 use Rattle.types.proofs.truth.list_statements.Tie as tie
-use Rattle.records.specs.Format.{recordLimit}
 
 abbrev Inv-loop : tie.InvT-loop
 Inv-loop v statements₀ records marks found₀ i₀ statements found i =
@@ -72,17 +71,5 @@ returns c =
 pub list-statements-spec : {M : Type 1} → statement M
 list-statements-spec =
     tie.close
-    (tie.spec
-    Inv-loop
-    μ-loop
-    mark-chain-requires
-    loop-holds
-    array-read-if1
-    cast-statements
-    mul-statements
-    element-write-statements
-    add-found
-    add-i
-    (λ c. omega arith)
-    loop-again
-    returns)
+    (tie.spec Inv-loop μ-loop mark-chain-requires loop-holds array-read-if1 cast-statements mul-statements
+    element-write-statements add-found add-i (λ c. omega arith) loop-again returns)

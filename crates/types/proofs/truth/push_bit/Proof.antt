@@ -4,7 +4,7 @@ use native.Mathlib.Omega.{arith}
 use borrow.Author.Needs.{needs}
 use mathlib.Core.Path.{ap}
 use Prim.Native.Nat.{ℕ, _+_, _*_}
-use Rattle.records.proofs.Ranks.{digit-small}
+use Rattle.records.proofs.Laws.Bits.{digit-small}
 use Rattle.types.proofs.truth.push_bit.Statement.{statement}
 use Rattle.types.proofs.truth.push_bit.Tie as tie
 

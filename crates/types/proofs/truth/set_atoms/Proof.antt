@@ -9,13 +9,13 @@ use mathlib.Core.Path.{_≡_, refl, sym, ap, _∙_}
 use lib.ListN.{length, getD, set, length-set}
 use lib.Seq.{getD-set-same, getD-set-other}
 use denote.Ref.{now}
-use Rattle.records.proofs.Accepted.{accepted-vocabulary}
-use Rattle.records.proofs.Ranks.{rank-below}
+use Rattle.records.proofs.Theorems.Accepted.{accepted-vocabulary}
+use Rattle.records.proofs.Theorems.Ranks.{rank-below}
 use Rattle.records.specs.Atoms.{atoms, rank}
 use Rattle.records.specs.Format.{count, recordAt, recordLimit}
 use Rattle.records.specs.Kinds.{isAtom}
-use Rattle.types.specs.Below.{bit}
-use Rattle.types.specs.Rules.{AtomsListed}
+use Rattle.records.specs.Finite.{bit}
+use Rattle.types.specs.Code.Rules.{AtomsListed}
 use Rattle.types.proofs.truth.set_atoms.Statement.{statement}
 use Rattle.types.proofs.truth.set_atoms.Tie as tie
 
@@ -106,16 +106,5 @@ returns c =
 pub set-atoms-spec : {M : Type 1} → statement M
 set-atoms-spec =
     tie.close
-    (tie.spec
-    Inv-loop
-    μ-loop
-    loop-holds
-    mul-at
-    element-copy-out-at
-    cast-at
-    shr-done
-    element-write-done
-    add-j
-    (λ c. omega arith)
-    loop-again
-    returns)
+    (tie.spec Inv-loop μ-loop loop-holds mul-at element-copy-out-at cast-at shr-done element-write-done add-j
+    (λ c. omega arith) loop-again returns)

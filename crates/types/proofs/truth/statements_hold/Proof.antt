@@ -7,10 +7,10 @@ use mathlib.Core.Path.{_≡_, refl, sym, ap, _∙_}
 use lib.ListN.{getD}
 use borrow.Author.Tests.{not-true, not-false}
 use denote.Ref.{now}
-use Rattle.types.specs.Below.{allBelow}
-use Rattle.types.specs.Rules.{holding}
-use Rattle.types.proofs.Below.{all-miss}
-use Rattle.types.proofs.Turns.{all-holds-turn}
+use Rattle.records.specs.Finite.{allBelow}
+use Rattle.types.specs.Code.Rules.{holding}
+use Rattle.records.proofs.Laws.Below.{all-miss}
+use Rattle.types.proofs.Invariants.Tables.{all-holds-turn}
 use Rattle.types.proofs.truth.statements_hold.Statement.{statement}
 use Rattle.types.proofs.truth.statements_hold.Tie as tie
 
@@ -67,16 +67,5 @@ returns-2 c =
 pub statements-hold-spec : {M : Type 1} → statement M
 statements-hold-spec =
     tie.close
-    (tie.spec
-    Inv-loop
-    μ-loop
-    loop-holds
-    mul-at
-    element-copy-out-at
-    cast-at
-    element-copy-out-if1
-    returns
-    add-j
-    (λ c. omega arith)
-    loop-again
-    returns-2)
+    (tie.spec Inv-loop μ-loop loop-holds mul-at element-copy-out-at cast-at element-copy-out-if1 returns add-j
+    (λ c. omega arith) loop-again returns-2)

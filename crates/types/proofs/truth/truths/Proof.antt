@@ -10,17 +10,17 @@ use lib.ListN.{getD, set}
 use lib.Seq.{getD-set-other}
 use borrow.Author.Needs.{needs}
 use denote.Ref.{now}
-use Rattle.records.proofs.Accepted.{Accepted, accepted-vocabulary}
-use Rattle.records.proofs.Constructs.{construct-earlier, construct-atom}
+use Rattle.records.proofs.Theorems.Accepted.{Accepted, accepted-vocabulary}
+use Rattle.records.proofs.Theorems.Constructs.{construct-earlier, construct-atom}
 use Rattle.records.specs.Atoms.{rank}
 use Rattle.records.specs.Format.{count, recordAt, recordLimit}
 use Rattle.records.specs.Kinds.{constructOf, isAtom}
-use Rattle.types.specs.Below.{bit}
-use Rattle.types.specs.Rules.{Decoded, select, ruleOf, firstOf, secondOf}
+use Rattle.records.specs.Finite.{bit}
+use Rattle.types.specs.Code.Rules.{Decoded, select, ruleOf}
 use Rattle.types.specs.Types.{truth}
-use Rattle.types.proofs.Connects.{rule-connects, operands-earlier}
-use Rattle.types.proofs.Truths.{truth-eq, connect-cong}
-use Rattle.types.proofs.Turns.{Filled, fill-start, fill-turn}
+use Rattle.types.proofs.Refinement.TruthRules.{rule-evaluates, operands-earlier}
+use Rattle.types.proofs.Theorems.Truth.{truth-eq, evaluate-cong}
+use Rattle.types.proofs.Invariants.Tables.{Filled, fill-start, fill-turn}
 use Rattle.types.proofs.truth.truths.Statement.{statement}
 use Rattle.types.proofs.truth.truths.Tie as tie
 
@@ -51,8 +51,8 @@ module _ (v code : List ℕ) (good : Accepted v) (d : Decoded v code) (i : ℕ) 
         ap (λ (r : ℕ). select r (getD done (first code i) false) (getD done (second code i) false)) (d .rule-at i h)
         ∙ ap₂ (λ (m n : ℕ). select (ruleOf (recordAt v i .kind)) (getD done m false) (getD done n false))
         (d .first-at i h) (d .second-at i h)
-        ∙ rule-connects (recordAt v i) i (λ j. getD done j false)
-        ∙ connect-cong i (constructOf (recordAt v i)) (getD done i false) (bit t (rank v i)) (λ j. getD done j false) (truth v t)
+        ∙ rule-evaluates (recordAt v i) i (λ j. getD done j false)
+        ∙ evaluate-cong i (constructOf (recordAt v i)) (getD done i false) (bit t (rank v i)) (λ j. getD done j false) (truth v t)
         (λ a. f .waiting i (omega arith) h (construct-atom (recordAt v i) ∙ a)) (construct-earlier v good i) (f .filled .right)
         ∙ sym (truth-eq v good t i)
 
@@ -158,27 +158,7 @@ returns c =
 pub truths-spec : {M : Type 1} → statement M
 truths-spec =
     tie.close
-    (tie.spec
-    Inv-loop
-    μ-loop
-    set-atoms-requires
-    loop-holds
-    add-first
-    mul-first
-    element-copy-out-first
-    cast-first
-    (λ c. omega arith)
-    add-second
-    mul-second-2
-    element-copy-out-second
-    cast-second
-    mul-apply
-    element-copy-out-apply
-    element-copy-out-apply-2
-    element-copy-out-apply-3
-    (λ c κs. search needs)
-    element-write-done
-    add-i
-    (λ c. omega arith)
-    loop-again
-    returns)
+    (tie.spec Inv-loop μ-loop set-atoms-requires loop-holds add-first mul-first element-copy-out-first cast-first
+    (λ c. omega arith) add-second mul-second-2 element-copy-out-second cast-second mul-apply element-copy-out-apply
+    element-copy-out-apply-2 element-copy-out-apply-3 (λ c κs. search needs) element-write-done add-i (λ c. omega arith)
+    loop-again returns)

@@ -2,7 +2,7 @@
 
 use super::super::detail;
 use crate::script::{bytes, read, Words};
-use crate::stored::scripts;
+use crate::stored::script_cases;
 use judge::check_script;
 use std::collections::BTreeMap;
 
@@ -101,7 +101,7 @@ fn mend(vocabulary: &[u8], script: &[Words], record: usize, said: &str) -> (Vec<
 #[test]
 fn mending_what_is_named_mends_the_step() {
     let mut mended: BTreeMap<Part, usize> = BTreeMap::new();
-    for (vocabulary, script) in scripts() {
+    for (vocabulary, script) in script_cases() {
         let refusal = check_script(&vocabulary, &script).err();
         let Some(refusal) = refusal.filter(|refusal| refusal.rule.number() == 18) else {
             continue;
@@ -133,7 +133,7 @@ fn what_is_damaged_is_named() {
         (seed >> 8) as usize % bound
     };
     let mut named: BTreeMap<(usize, Part), usize> = BTreeMap::new();
-    for (vocabulary, script) in scripts() {
+    for (vocabulary, script) in script_cases() {
         let verdict = check_script(&vocabulary, &script);
         if verdict.is_err_and(|refusal| !refusal.rule.is_of_chain()) {
             continue;

@@ -6,7 +6,7 @@ mod mended;
 
 use super::script::Checked;
 use super::{detail, vocabulary, vocabulary_detail};
-use crate::stored::{scripts, vocabularies};
+use crate::stored::{script_cases, vocabularies};
 use base::vocabulary::Vocabulary;
 use judge::{check_script, check_vocabulary, Refusal};
 use std::collections::BTreeMap;
@@ -60,7 +60,7 @@ fn refused() -> Vec<(Vec<u8>, Vec<u8>, Refusal)> {
         let refusal = check_vocabulary(&vocabulary).err()?;
         Some((vocabulary, script, refusal))
     };
-    let scripts = scripts().into_iter().filter_map(of_script);
+    let scripts = script_cases().into_iter().filter_map(of_script);
     scripts.chain(alone.filter_map(of_vocabulary)).collect()
 }
 
@@ -133,7 +133,7 @@ fn nothing_is_found_in_the_records_that_the_library_passes() {
 #[test]
 fn nothing_is_found_in_the_script_records_that_the_library_passes() {
     let (mut records, mut links) = (0, 0);
-    for (vocabulary, script) in scripts() {
+    for (vocabulary, script) in script_cases() {
         let checked = Checked::new(&vocabulary, &script);
         let all = checked.script.len();
         let (rule, place) = match check_script(&vocabulary, &script) {

@@ -12,10 +12,11 @@ use lib.Seq.{getD-set-same, getD-set-other}
 use lib.Dec.{eqb}
 use borrow.Author.Tests.{eq-eqb, ne-eqb}
 use Rattle.records.specs.Format.{recordLimit, recordAt, count, firstStatement}
-use Rattle.records.specs.Chain.{nextStatement, chainFrom, occurs, chained}
-use Rattle.records.proofs.Accepted.{Accepted, IsStatement, Later, Linked}
-use Rattle.records.proofs.Chains.{chain-step}
-use Rattle.records.proofs.Following.{follow-nil, left, left-falls, onward-from}
+use Rattle.records.specs.Chain.{nextStatement, chainFrom, chained}
+use Rattle.records.specs.Finite.{occurs}
+use Rattle.records.proofs.Theorems.Accepted.{Accepted, IsStatement, Later, Linked}
+use Rattle.records.proofs.Theorems.Chains.{chain-step}
+use Rattle.records.proofs.Theorems.Following.{follow-nil, left, left-falls, onward-from}
 
 pub record Marking (v : List ℕ) (marks : List Bool) (at : ℕ) : Type 0 where
   pub size : length marks ≡ recordLimit

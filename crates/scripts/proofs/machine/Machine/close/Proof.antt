@@ -9,9 +9,9 @@ use lib.ListN.{length, getD}
 use denote.Ref.{now}
 use Rattle.scripts.specs.Calculus.{frameLimit}
 use Rattle.scripts.specs.Run.{close}
-use Rattle.scripts.specs.Machine.{framesOf, framesFrom, Standing}
-use Rattle.scripts.proofs.Frames.{entries-length, goal-few, close-none, close-last, close-next}
-use Rattle.scripts.proofs.Frames.{stands-next, stands-none, stands-part}
+use Rattle.scripts.specs.Code.Machine.{framesOf, framesFrom, Standing}
+use Rattle.scripts.proofs.Refinement.Frames.{entries-length, goal-few, close-none, close-last, close-next, stands-next}
+use Rattle.scripts.proofs.Refinement.Frames.{stands-none, stands-part}
 use Rattle.scripts.proofs.machine.Machine.close.Statement.{statement}
 use Rattle.scripts.proofs.machine.Machine.close.Tie as tie
 
@@ -82,19 +82,5 @@ returns-2 c =
 pub close-spec : {M : Type 1} → statement M
 close-spec =
     tie.close
-    (tie.spec
-    Inv-loop
-    μ-loop
-    loop-holds
-    (λ c. omega arith)
-    element-copy-out-closed
-    (λ c. omega arith)
-    has-next-requires
-    add-self
-    (λ c. omega arith)
-    element-write-self
-    returns
-    (λ c. omega arith)
-    (λ c. omega arith)
-    loop-again
-    returns-2)
+    (tie.spec Inv-loop μ-loop loop-holds (λ c. omega arith) element-copy-out-closed (λ c. omega arith) has-next-requires
+    add-self (λ c. omega arith) element-write-self returns (λ c. omega arith) (λ c. omega arith) loop-again returns-2)

@@ -4,8 +4,8 @@
 use native.Mathlib.Omega.{arith}
 use mathlib.Core.Path.{_∙_}
 use borrow.Author.Needs.{needs}
-use Rattle.columns.specs.Packed.{literals}
-use Rattle.scripts.proofs.Frames.{open-none, open-some, listed-some}
+use Rattle.columns.specs.Code.Packed.{literals}
+use Rattle.scripts.proofs.Refinement.Frames.{open-none, open-some, untilZero-some}
 use Rattle.scripts.proofs.machine.Machine.extend.Statement.{statement}
 use Rattle.scripts.proofs.machine.Machine.extend.Tie as tie
 
@@ -15,7 +15,7 @@ close-requires c κs = search needs
 returns : tie.Need-returns
 returns c =
     let t = c .before .before in
-    let l = t .before .before .args .others in
+    let l = t .before .before .args .remainder in
     record {
       standing = c .close .ensures .standing;
       shown = c .close .ensures .shown ∙ open-none (l .first) (l .second) (l .third) _ (t .if1 .taken);
@@ -30,11 +30,11 @@ open-frame-requires c κs =
 returns-2 : tie.Need-returns-2
 returns-2 c =
     let e = c .before .before in
-    let l = e .before .before .args .others in
+    let l = e .before .before .args .remainder in
     record {
       standing = c .open-frame .ensures .standing;
       shown = c .open-frame .ensures .shown
-          ∙ open-some (literals l) _ (listed-some (l .first) (l .second) (l .third) (omega (arith, e .if1 .left)));
+          ∙ open-some (literals l) _ (untilZero-some (l .first) (l .second) (l .third) (omega (arith, e .if1 .left)));
     }
 
 pub extend-spec : {M : Type 1} → statement M

@@ -7,7 +7,7 @@ use lib.ListN.{length}
 use denote.Ref.{now}
 use borrow.Author.Needs.{needs}
 use Rattle.scripts.specs.Calculus.{frameLimit}
-use Rattle.scripts.proofs.Frames.{entries-length, listed-some, frames-push, stands-push}
+use Rattle.scripts.proofs.Refinement.Frames.{entries-length, untilZero-some, frames-push, stands-push}
 use Rattle.scripts.proofs.machine.Machine.open_frame.Statement.{statement}
 use Rattle.scripts.proofs.machine.Machine.open_frame.Tie as tie
 
@@ -19,7 +19,7 @@ returns c =
     let s = c .pre .0 in
     let deep = c .pre .1 .0 in
     let size : length (m .closed) ≡ frameLimit = entries-length (m .closed) _ (c .good .0 .1 .1 .1 .0 .1 .0 .1) in
-    let some = listed-some (l .first) (l .second) (l .third) (c .pre .1 .1) in
+    let some = untilZero-some (l .first) (l .second) (l .third) (c .pre .1 .1) in
     record {
       standing = stands-push t (m .depth) (l .first) (l .second) (l .third) (m .closed) 0 _ (omega arith) deep (omega arith)
           some s;
@@ -30,16 +30,6 @@ returns c =
 pub open-frame-spec : {M : Type 1} → statement M
 open-frame-spec =
     tie.close
-    (tie.spec
-    (λ c. search needs)
-    (λ c. search needs)
-    (λ c. search needs)
-    (λ c. search needs)
-    (λ c. search needs)
-    (λ c. search needs)
-    (λ c. search needs)
-    (λ c. search needs)
-    (λ c. search needs)
-    (λ c. search needs)
-    (λ c. search needs)
+    (tie.spec (λ c. search needs) (λ c. search needs) (λ c. search needs) (λ c. search needs) (λ c. search needs)
+    (λ c. search needs) (λ c. search needs) (λ c. search needs) (λ c. search needs) (λ c. search needs) (λ c. search needs)
     returns)

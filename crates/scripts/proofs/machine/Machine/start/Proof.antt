@@ -4,10 +4,10 @@ use Prim.Native.Nat.{ℕ}
 use native.Mathlib.Omega.{arith}
 use mathlib.Core.Path.{sym, ap, subst, _∙_}
 use mathlib.Core.List.{_∷_}
-use Rattle.columns.specs.Packed.{literals}
+use Rattle.columns.specs.Code.Packed.{literals}
 use Rattle.scripts.specs.Run.{Frames}
-use Rattle.scripts.specs.Machine.{Standing}
-use Rattle.scripts.proofs.Frames.{frames-none, stands-none}
+use Rattle.scripts.specs.Code.Machine.{Standing}
+use Rattle.scripts.proofs.Refinement.Frames.{frames-none, stands-none}
 use Rattle.scripts.proofs.machine.Machine.start.Statement.{statement}
 use Rattle.scripts.proofs.machine.Machine.start.Tie as tie
 

@@ -1,0 +1,44 @@
+#!/bin/sh
+# Measures the library's vocabulary check beside plain C.
+#
+# usage: vocabulary.sh [--agree | --instructions] [ARCHIVE]
+#
+# Prints the time of a call on each input, after a comparison of both answers on each and on 30,000
+# damages; with --agree the comparison alone; with --instructions the instructions of a call on the
+# first three, counted by callgrind. ARCHIVE: default target/staticlib/libjudge.a in the repository.
+# Exit status: 0 done, 1 the answers differ or a build failed, 2 bad usage or something is missing.
+set -eu
+# shellcheck source-path=SCRIPTDIR
+. "$(dirname -- "$0")/common.sh"
+
+compile vocabulary vocabulary_plain support
+
+# Instructions of the whole process for $2 calls of $1 on input number $3.
+count() {
+    callgrind --callgrind-out-file="$build/callgrind.out" "$program" --calls "$1" "$2" "$3"
+    total "$build/callgrind.out"
+}
+
+# Two runs that differ in ten calls: the start of the process drops out of the difference.
+per_call() {
+    few=$(count "$1" 10 "$2")
+    many=$(count "$1" 20 "$2")
+    echo $(((many - few) / 10))
+}
+
+case $mode in
+time) "$program"; exit ;;
+agree) "$program" --agree; exit ;;
+esac
+
+echo '| input | library, instructions a call | plain C, instructions a call | ratio |'
+echo '|---|---:|---:|---:|'
+at=0
+for input in '511 names' 'mixed kinds, full' '12 records'; do
+    library=$(per_call library "$at")
+    plain=$(per_call plain "$at")
+    hundredths=$(((100 * library + plain / 2) / plain))
+    printf '| %s | %d | %d | %d.%02d |\n' \
+        "$input" "$library" "$plain" $((hundredths / 100)) $((hundredths % 100))
+    at=$((at + 1))
+done

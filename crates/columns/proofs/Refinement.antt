@@ -1,0 +1,3 @@
+-- That the code computes the definitions: columns by kind, literals as numbers.
+pub mod Groups
+pub mod Packing

@@ -1,0 +1,43 @@
+-- Numbers below a power of two.
+--   bit-past, bit-zero   there are no bits past the power
+--   bit-ones             the largest has all bits below it
+--   bits-everywhere      numbers with the same bits, whatever their width
+-- Assumes nothing.
+use Prim.Native.Nat.{ℕ, zero, suc, _+_, _-_, _*_, _/_, _%_, _^_, _≤_, _<_}
+use native.Mathlib.Omega.{arith}
+use mathlib.Core.Path.{_≡_, ap, _∙_}
+use mathlib.Core.Bool.{true, false}
+use lib.Dec.{eqb}
+use lib.Pow.{pow-pos, pow-mono, shr-lt}
+use Rattle.records.specs.Finite.{bit, digit}
+use Rattle.records.proofs.Laws.Bits.{bit-first, bit-rest, bits-same}
+
+pub bit-past : (n x j : ℕ) → x < 2 ^ n → n ≤ j → bit x j ≡ false
+unfolding bit
+bit-past n x j h l =
+    let wide : 2 ^ n ≤ 2 ^ (0 + j) = pow-mono (omega arith) in
+    let none : x / 2 ^ j ≡ 0 = omega (arith, shr-lt {n = x} 0 j (omega arith)) in
+    ap (λ (y : ℕ). eqb (y % 2) 1) none
+
+pub bit-zero : (j : ℕ) → bit 0 j ≡ false
+bit-zero j = bit-past 0 0 j (omega arith) (omega arith)
+
+pub bit-ones : (n j : ℕ) → j < n → bit (2 ^ n - 1) j ≡ true
+bit-ones zero j h = absurd (omega arith)
+bit-ones (suc n) j h = at j h (bit-ones n)
+  where
+    all : 2 ^ suc n - 1 ≡ digit true + 2 * (2 ^ n - 1)
+    all = omega (arith, pow-pos n)
+
+    at : (j : ℕ) → j < suc n → ((j : ℕ) → j < n → bit (2 ^ n - 1) j ≡ true) → bit (2 ^ suc n - 1) j ≡ true
+    at zero k r = rw all (bit-first true (2 ^ n - 1))
+    at (suc j) k r = rw all (bit-rest true (2 ^ n - 1) j ∙ r j (omega arith))
+
+below-power : (x : ℕ) → x < 2 ^ x
+below-power zero = omega arith
+below-power (suc x) = omega (arith, below-power x)
+
+pub bits-everywhere : (x y : ℕ) → ((j : ℕ) → bit x j ≡ bit y j) → x ≡ y
+bits-everywhere x y e =
+    let wide = below-power (x + y) in
+    bits-same (x + y) x y (omega arith) (omega arith) (λ j l. e j)

@@ -1,0 +1,255 @@
+-- What acceptance gives the crates above: fields hold what their sorts say, so that operands are earlier terms and roles are
+-- below the count; labels differ, and links lead to later statements.
+--   All, all-at, all-map                           what holds of every entry of a list
+--   Parts, partsOf, Over, over-map                 a construct's class, its roles and its operands; what holds of each operand
+--   Operand, Linked, Held, WellFounded, Accepted   what is told of a field, of a record, of a vocabulary
+--   well-formed-vocabulary                         a vocabulary that passed rows 1 to 8 is Accepted
+--   accepted-well-formed                           one that the vocabulary check accepts passed them
+--   accepted-vocabulary                            and so is Accepted
+-- Assumes nothing.
+use Prim.Native.Nat.{ℕ, zero, suc, _-_, _≤_, _<_}
+use native.Mathlib.Omega.{arith}
+use mathlib.Core.Path.{_≡_, refl, sym, subst, _∙_}
+use mathlib.Core.Bool.{Bool, true, false, not, _&&_, _||_}
+use mathlib.Core.List.{List, [], _∷_}
+use lib.ListN.{length, getD}
+use mathlib.Core.Logic.{inl, inr}
+use lib.Dec.{ltb, leb, eqb}
+use borrow.Author.Tests.{ltb-true, leb-true, eqb-true, eq-eqb, not-true}
+use Rattle.records.specs.Outcome.{accepted, pass, _then_, inTurn}
+use Rattle.records.specs.Format.{roleLimit, recordAt, count, firstStatement, roleCount}
+use Rattle.records.specs.Kinds.{Construct, none, top, bottom, name, negation, conjunction, disjunction, existential}
+use Rattle.records.specs.Kinds.{universal, inclusion, sorts, negationFields, restrictionFields, Class, Silent, Connective}
+use Rattle.records.specs.Kinds.{Name, Restriction, Statement, Kind, noKind, kinds, kindOf, sortsOf, isTerm, isStatement}
+use Rattle.records.specs.Kinds.{Sorts}
+use Rattle.records.specs.Check.{headCheck, lengthCheck, headerFits, headerCheck, kindCheck, named, labelled, termFits}
+use Rattle.records.specs.Check.{linkFits, rowsCheck, recordCheck, nextFits, linkCheck, linksCheck, IsWellFormed}
+use Rattle.records.specs.Check.{recordsCheck, vocabularyCheck}
+use Rattle.records.specs.Code.Fields.{fieldFits}
+use Rattle.records.specs.declared.fields.Record.{Record}
+use Rattle.records.specs.declared.kinds.Sort.{Sort}
+use Rattle.records.specs.declared.kinds.Sort.the-variants.{Spare, Term, Role, Label, Link}
+use Rattle.records.proofs.Laws.Passed.{clash, Sized, length-passed, both-left, both-right, require-passed, then-passed}
+use Rattle.records.proofs.Laws.Passed.{turn-at, any-at}
+use Rattle.records.proofs.Theorems.Following.{Ahead, Onward}
+use Rattle.records.proofs.Laws.Ranges.{statement-range, statement-kind}
+use Rattle.records.proofs.Refinement.Rows.{rows-passed}
+
+-- What holds of every entry of a list holds of the entry at an index, and so does what follows from it.
+abbrev pub All : {A : Type 0} → (A → Type 0) → List A → Type 0
+All P [] = Unit {0}
+All P (x ∷ xs) = P x × All P xs
+
+pub all-at : {A : Type 0} (P : A → Type 0) (l : List A) (d : A) → All P l → (k : ℕ) → k < length l → P (getD l k d)
+all-at P [] d t k h = absurd (omega arith)
+all-at P (x ∷ xs) d t zero h = t .0
+all-at P (x ∷ xs) d t (suc k) h = all-at P xs d (t .1) k (omega arith)
+
+pub all-map : {A : Type 0} (P Q : A → Type 0) → ((x : A) → P x → Q x) → (l : List A) → All P l → All Q l
+all-map P Q f [] t = tt
+all-map P Q f (x ∷ xs) t = (f x (t .0), all-map P Q f xs (t .1))
+
+-- the same where the entry past the end is known
+pub all-default : {A : Type 0} (P : A → Type 0) (l : List A) (d : A) → P d → All P l → (k : ℕ) → P (getD l k d)
+all-default P [] d p t k = p
+all-default P (x ∷ xs) d p t zero = t .0
+all-default P (x ∷ xs) d p t (suc k) = all-default P xs d p (t .1) k
+
+-- A construct taken apart: what it is, the roles and the records that it speaks of.
+pub record Parts : Type 0 where
+  pub class : Class
+  pub roles : List ℕ
+  pub operands : List ℕ
+
+abbrev parts : Class → List ℕ → List ℕ → Parts
+parts class roles operands = record { class = class; roles = roles; operands = operands }
+
+abbrev pub partsOf : Construct → Parts
+partsOf none = parts Silent [] []
+partsOf top = parts Connective [] []
+partsOf bottom = parts Connective [] []
+partsOf name = parts Name [] []
+partsOf (negation a) = parts Connective [] (a ∷ [])
+partsOf (conjunction a b) = parts Connective [] (a ∷ b ∷ [])
+partsOf (disjunction a b) = parts Connective [] (a ∷ b ∷ [])
+partsOf (existential r b) = parts Restriction (r ∷ []) (b ∷ [])
+partsOf (universal r b) = parts Restriction (r ∷ []) (b ∷ [])
+partsOf (inclusion a b) = parts Statement [] (a ∷ b ∷ [])
+
+-- P of each operand of what a record says.
+abbrev pub Over : (ℕ → Type 0) → Construct → Type 0
+Over P c = All P (partsOf c .operands)
+
+pub over-map : (P Q : ℕ → Type 0) → ((j : ℕ) → P j → Q j) → (c : Construct) → Over P c → Over Q c
+over-map P Q f c t = all-map P Q f (partsOf c .operands) t
+
+-- The role of a restriction is below n.
+abbrev pub RoleBelow : ℕ → Construct → Type 0
+RoleBelow n c = All (λ r. r < n) (partsOf c .roles)
+
+-- x is the number of a term before record i.
+pub record Operand (v : List ℕ) (i x : ℕ) : Type 0 where
+  pub positive : 0 < x
+  pub earlier : x < i
+  pub term : isTerm (recordAt v x .kind) ≡ true
+
+abbrev pub IsStatement : List ℕ → ℕ → Type 0
+IsStatement v x = recordAt v x .kind ≡ 9
+
+-- x is a statement after record i.
+abbrev pub Later : List ℕ → ℕ → ℕ → Type 0
+Later v i x = Ahead (IsStatement v) (count v) i x
+
+-- x ends the chain, or is a statement after record i.
+abbrev pub Linked : List ℕ → ℕ → ℕ → Type 0
+Linked v i x = Onward (IsStatement v) (count v) i x
+
+-- x fits a field of record i that holds this sort. (A link is looked at after all records.)
+abbrev pub Held : List ℕ → ℕ → Sort → ℕ → Type 0
+Held v i Spare x = x ≡ 0
+Held v i Term x = Operand v i x
+Held v i Role x = x < roleCount v
+Held v i Label x = labelled v i x ≡ false
+Held v i Link x = Unit {0}
+
+pub record Fields (v : List ℕ) (i : ℕ) (s : Sorts) (r : Record) : Type 0 where
+  pub a : Held v i (s .a) (r .a)
+  pub b : Held v i (s .b) (r .b)
+  pub next : Held v i (s .next) (r .next)
+
+-- What record i says is about earlier terms and roles below the count.
+abbrev pub WellFounded : List ℕ → ℕ → Construct → Type 0
+WellFounded v i c = RoleBelow (roleCount v) c × Over (Operand v i) c
+
+pub record Accepted (v : List ℕ) : Type 0 where
+  pub sized : Sized v
+  pub header : recordAt v 0 .kind ≡ 16
+  pub roles : roleCount v ≤ roleLimit
+  pub fields : (i : ℕ) → 0 < i → i < count v → Fields v i (sortsOf (recordAt v i .kind)) (recordAt v i)
+  pub labels : (i j : ℕ) → j < i → i < count v
+      → recordAt v i .kind ≡ 3 → recordAt v j .kind ≡ 3 → recordAt v i .a ≡ recordAt v j .a → ⊥
+  pub first : Linked v 0 (firstStatement v)
+  pub rises : (i : ℕ) → 0 < i → i < count v → recordAt v i .kind ≡ 9 → Linked v i (recordAt v i .next)
+
+module _ (v : List ℕ) (i : ℕ) where
+  operand : (x : ℕ) → termFits v i x ≡ true → Operand v i x
+  operand x e =
+      let rest = both-right (leb 1 x) (ltb x i && isTerm (recordAt v x .kind)) e in
+      record {
+        positive = leb-true 1 x (both-left (leb 1 x) (ltb x i && isTerm (recordAt v x .kind)) e);
+        earlier = ltb-true x i (both-left (ltb x i) (isTerm (recordAt v x .kind)) rest);
+        term = both-right (ltb x i) (isTerm (recordAt v x .kind)) rest;
+      }
+
+  linked : (x : ℕ) → linkFits v i x ≡ true → Linked v i x
+  linked x e = at (eqb x 0) refl e
+    where
+      at : (z : Bool) → eqb x 0 ≡ z → (z || (ltb i x && (ltb x (count v) && isStatement (recordAt v x .kind)))) ≡ true → Linked v i x
+      at true q h = inl (eqb-true x 0 q)
+      at false q h =
+          let rest = both-right (ltb i x) (ltb x (count v) && isStatement (recordAt v x .kind)) h in
+          let is = both-right (ltb x (count v)) (isStatement (recordAt v x .kind)) rest in
+          inr record {
+            later = ltb-true i x (both-left (ltb i x) (ltb x (count v) && isStatement (recordAt v x .kind)) h);
+            within = ltb-true x (count v) (both-left (ltb x (count v)) (isStatement (recordAt v x .kind)) rest);
+            target = statement-kind (recordAt v x .kind) is;
+          }
+
+  field-held : (sort : Sort) (x : ℕ) → fieldFits v i sort x ≡ true → Held v i sort x
+  field-held Spare x e = eqb-true x 0 e
+  field-held Term x e = operand x e
+  field-held Role x e = ltb-true x (roleCount v) e
+  field-held Label x e = not-true (labelled v i x) e
+  field-held Link x e = tt
+
+  -- rows 4 to 7 passed
+  rows-held : (s : Sorts) (r : Record) → rowsCheck v i s r ≡ pass → Fields v i s r
+  rows-held s r e =
+      let fit = rows-passed v i s r e in
+      record {
+        a = field-held (s .a) (r .a) (fit .0);
+        b = field-held (s .b) (r .b) (fit .1);
+        next = field-held (s .next) (r .next) (fit .2);
+      }
+
+  record-held : recordCheck v i ≡ pass → Fields v i (sortsOf (recordAt v i .kind)) (recordAt v i)
+  unfolding recordCheck
+  record-held e =
+      let r = recordAt v i in
+      rows-held (sortsOf (r .kind)) r (then-passed (kindCheck r i) (rowsCheck v i (sortsOf (r .kind)) r) tt e .1)
+
+  -- what the fields of a record hold, and what it says
+  abbrev FieldsWellFounded : Record → Kind → Type 0
+  FieldsWellFounded r k = Fields v i (k .fields) r → WellFounded v i (k .says r)
+
+  pub fields-well-founded : (r : Record) (k : ℕ) → FieldsWellFounded r (kindOf k)
+  unfolding kindOf
+  fields-well-founded r k =
+      all-default (FieldsWellFounded r) kinds noKind nothing
+      (nothing, (nothing, (nothing, (nothing, (one, (two, (two, (restricted, (restricted, (two, tt)))))))))) k
+    where
+      nothing : {s : Sorts} → Fields v i s r → WellFounded v i none
+      nothing f = (tt, tt)
+
+      one : Fields v i negationFields r → WellFounded v i (negation (r .a))
+      one f = (tt, (f .a, tt))
+
+      two : {next : Sort} → Fields v i (sorts Term Term next) r → WellFounded v i (conjunction (r .a) (r .b))
+      two f = (tt, (f .a, (f .b, tt)))
+
+      restricted : Fields v i restrictionFields r → WellFounded v i (existential (r .a) (r .b))
+      restricted f = ((f .a, tt), (f .b, tt))
+
+  record-unlabelled : Fields v i (sortsOf (recordAt v i .kind)) (recordAt v i) → recordAt v i .kind ≡ 3
+      → labelled v i (recordAt v i .a) ≡ false
+  unfolding kindOf
+  record-unlabelled f q = at (recordAt v i .kind) q (f .a)
+    where
+      at : (k : ℕ) → k ≡ 3 → Held v i (sortsOf k .a) (recordAt v i .a) → labelled v i (recordAt v i .a) ≡ false
+      at k e h = subst (λ (k : ℕ). Held v i (sortsOf k .a) (recordAt v i .a)) e h
+
+  record-linked : linkCheck v i ≡ pass → recordAt v i .kind ≡ 9 → Linked v i (recordAt v i .next)
+  unfolding linkCheck
+  record-linked e q =
+      let fit : nextFits v i ≡ true = require-passed (nextFits v i) 8 i e in
+      let is : isStatement (recordAt v i .kind) ≡ true = statement-range (recordAt v i .kind) ∙ eq-eqb _ 9 q in
+      linked (recordAt v i .next) (rw is at fit)
+
+-- The theorem: a vocabulary that passed rows 1 to 8.
+pub well-formed-vocabulary : (v : List ℕ) → IsWellFormed v → Accepted v
+unfolding recordsCheck
+well-formed-vocabulary v e =
+    let records = inTurn (recordCheck v) 1 (count v - 1) in
+    let links = inTurn (linkCheck v) 1 (count v - 1) in
+    let a = then-passed (lengthCheck v) (headerCheck v then records then linksCheck v) tt e in
+    let b = then-passed (headerCheck v) (records then linksCheck v) tt (a .1) in
+    let c = then-passed records (linksCheck v) tt (b .1) in
+    let l = then-passed (headCheck v) links tt (c .1) in
+    let r = recordAt v 0 in
+    let fit : headerFits r ≡ true = require-passed (headerFits r) 2 0 (b .0) in
+    let after = both-right (eqb (r .kind) 16) (eqb (r .second) 1 && (leb (r .b) roleLimit && eqb (r .next) 0)) fit in
+    let roles = both-right (eqb (r .second) 1) (leb (r .b) roleLimit && eqb (r .next) 0) after in
+    let sized = length-passed v (a .0) in
+    let passed : (i : ℕ) → 0 < i → i < count v → recordCheck v i ≡ pass
+    = λ i p h. turn-at (recordCheck v) (count v - 1) 1 (c .0) i p (omega arith) in
+    record {
+      sized = sized;
+      header = eqb-true (r .kind) 16 (both-left (eqb (r .kind) 16) (eqb (r .second) 1 && (leb (r .b) roleLimit && eqb (r .next) 0)) fit);
+      roles = leb-true (r .b) roleLimit (both-left (leb (r .b) roleLimit) (eqb (r .next) 0) roles);
+      fields = λ i p h. record-held v i (passed i p h);
+      labels = λ i j p h q k same.
+          let clear = record-unlabelled v i (record-held v i (passed i (omega arith) h)) q in
+          let at = any-at (named v (recordAt v i .a)) i clear j p in
+          let hit : named v (recordAt v i .a) j ≡ true = rw (eq-eqb _ 3 k, eq-eqb _ _ (sym same)) in
+          clash (cc);
+      first = linked v 0 (firstStatement v) (require-passed (linkFits v 0 (firstStatement v)) 8 0 (l .0));
+      rises = λ i p h q. record-linked v i (turn-at (linkCheck v) (count v - 1) 1 (l .1) i p (omega arith)) q;
+    }
+
+-- What the vocabulary check accepts passed rows 1 to 8.
+pub accepted-well-formed : (v : List ℕ) (n : ℕ) → vocabularyCheck v ≡ accepted n → IsWellFormed v
+unfolding vocabularyCheck
+accepted-well-formed v n e = then-passed (recordsCheck v) (accepted (count v)) n e .0
+
+pub accepted-vocabulary : (v : List ℕ) (n : ℕ) → vocabularyCheck v ≡ accepted n → Accepted v
+accepted-vocabulary v n e = well-formed-vocabulary v (accepted-well-formed v n e)

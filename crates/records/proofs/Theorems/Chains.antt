@@ -1,0 +1,37 @@
+-- The chain of an accepted vocabulary rises and ends.
+--   all-occurring     what holds of every number that occurs in a list
+--   chain-step        the chain from a statement
+--   chain-ends        followed as far as one likes it is the chain
+--   chain-rises       each statement is after the one before
+--   chain-statement   what is on the chain is a statement
+-- (Following has the laws for any chain.) Assumes nothing.
+use Prim.Native.Nat.{ℕ, _≤_}
+use mathlib.Core.Path.{_≡_, refl}
+use mathlib.Core.Bool.{true, or-true}
+use mathlib.Core.List.{List, [], _∷_}
+use lib.Dec.{eqb}
+use borrow.Author.Tests.{eq-eqb}
+use Rattle.records.specs.Format.{recordAt, count, firstStatement}
+use Rattle.records.specs.Chain.{nextStatement, follow, chainFrom, chain, chained}
+use Rattle.records.specs.Finite.{occurs}
+use Rattle.records.proofs.Theorems.Accepted.{Accepted, IsStatement, Later, All}
+use Rattle.records.proofs.Theorems.Following.{Rising, follow-step, follow-ends, follow-rises, follow-target}
+
+pub all-occurring : (P : ℕ → Type 0) (is : List ℕ) → ((i : ℕ) → occurs i is ≡ true → P i) → All P is
+unfolding occurs
+all-occurring P [] h = tt
+all-occurring P (i ∷ is) h = (h i (rw (eq-eqb i i refl)), all-occurring P is (λ j o. h j (rw o (or-true (eqb j i)))))
+
+module _ (v : List ℕ) (good : Accepted v) where
+  pub chain-step : (i x : ℕ) → Later v i x → chainFrom v x ≡ x ∷ chainFrom v (recordAt v x .next)
+  chain-step i x s = follow-step (nextStatement v) (IsStatement v) (count v) (good .rises) i x s
+
+  pub chain-ends : (n : ℕ) → count v ≤ n → follow (nextStatement v) n (firstStatement v) ≡ chain v
+  chain-ends n h = follow-ends (nextStatement v) (IsStatement v) (count v) (good .rises) n (firstStatement v) (good .first) h
+
+  pub chain-rises : Rising 0 (chain v)
+  chain-rises = follow-rises (nextStatement v) (IsStatement v) (count v) (good .rises) (count v) 0 (firstStatement v) (good .first)
+
+  pub chain-statement : (j : ℕ) → chained v j ≡ true → Later v 0 j
+  chain-statement j o =
+      follow-target (nextStatement v) (IsStatement v) (count v) (good .rises) (count v) 0 (firstStatement v) j (good .first) o

@@ -1,0 +1,130 @@
+-- Chains by a next number, which is 0 or names something ahead: they rise and end.
+--   Ahead, Onward             what lies ahead of i; 0, or something ahead
+--   follow-nil, follow-step   the chain from 0, and from a number ahead
+--   follow-few                it has no more numbers than steps were made
+--   follow-ends               followed as far as one likes it is the chain
+--   Rising, follow-rises      each is after the one before
+--   follow-target             what is on the chain may be on it
+--   left, left-falls          a walk along the chain ends: what is left of it falls
+-- Assumes nothing.
+use Prim.Native.Nat.{ℕ, zero, suc, _+_, _-_, _≤_, _<_}
+use native.Mathlib.Omega.{arith}
+use mathlib.Core.Path.{_≡_, refl, sym, ap, subst}
+use mathlib.Core.Bool.{Bool, true, false, _||_}
+use mathlib.Core.List.{List, [], _∷_}
+use mathlib.Core.Logic.{_⊎_, inl, inr}
+use lib.ListN.{length}
+use lib.Dec.{eqb}
+use borrow.Author.Tests.{eqb-true}
+use Rattle.records.specs.Chain.{follow}
+use Rattle.records.specs.Finite.{occurs}
+use Rattle.records.proofs.Laws.Passed.{clash}
+
+-- x comes after i, below n, and may be on the chain.
+pub record Ahead (Target : ℕ → Type 0) (n i x : ℕ) : Type 0 where
+  pub later : i < x
+  pub within : x < n
+  pub target : Target x
+
+-- x ends the chain, or is ahead of i.
+abbrev pub Onward : (ℕ → Type 0) → ℕ → ℕ → ℕ → Type 0
+Onward Target n i x = (x ≡ 0) ⊎ Ahead Target n i x
+
+-- Numbers that rise, from above i.
+abbrev pub Rising : ℕ → List ℕ → Type 0
+Rising i [] = Unit {0}
+Rising i (x ∷ xs) = (i < x) × Rising x xs
+
+-- What is left of a walk that stands at one of n records; nothing at 0.
+abbrev pub left : ℕ → ℕ → ℕ
+left n zero = 0
+left n (suc i) = n - i
+
+none-occurs : (j : ℕ) → occurs j [] ≡ true → ⊥
+unfolding occurs
+none-occurs j e = clash (cc)
+
+pub follow-nil : (next : ℕ → ℕ) (n : ℕ) → follow next n 0 ≡ []
+unfolding follow
+follow-nil next zero = refl
+follow-nil next (suc n) = refl
+
+pub follow-few : (next : ℕ → ℕ) (n i : ℕ) → length (follow next n i) ≤ n
+unfolding follow
+follow-few next zero i = omega arith
+follow-few next (suc n) zero = omega arith
+follow-few next (suc n) (suc i) = omega (arith, follow-few next n (next (suc i)))
+
+module _ (Target : ℕ → Type 0) (n : ℕ) where
+  pub left-falls : (i x : ℕ) → 0 < i → i < n → Onward Target n i x → left n x < left n i
+  left-falls zero x p h l = absurd (omega arith)
+  left-falls (suc i) x p h (inl e) = rw e (omega arith)
+  left-falls (suc i) zero p h (inr s) = omega arith
+  left-falls (suc i) (suc x) p h (inr s) = omega (arith, s .later, s .within)
+
+  -- something further ahead
+  pub onward-from : (i j x : ℕ) → i ≤ j → Onward Target n j x → Onward Target n i x
+  onward-from i j x h (inl e) = inl e
+  onward-from i j x h (inr s) = inr record { later = omega (arith, s .later); within = s .within; target = s .target }
+
+-- Chains whose links lead onward.
+module _ (next : ℕ → ℕ) (Target : ℕ → Type 0) (count : ℕ)
+    (links : (i : ℕ) → 0 < i → i < count → Target i → Onward Target count i (next i)) where
+  -- enough steps to reach the end from x, where x does not end the chain
+  Enough : ℕ → ℕ → ℕ → Type 0
+  Enough n i x = Ahead Target count i x → count ≤ n + x
+
+  next-onward : (i x : ℕ) → Ahead Target count i (suc x) → Onward Target count (suc x) (next (suc x))
+  next-onward i x s = links (suc x) (omega arith) (s .within) (s .target)
+
+  follow-more : (n m i x : ℕ) → Onward Target count i x → Enough n i x → Enough m i x → follow next n x ≡ follow next m x
+  unfolding follow Enough
+  follow-more zero m i x (inl e) h k = rw e (sym (follow-nil next m))
+  follow-more zero m i x (inr s) h k = absurd (omega (arith, h s, s .within))
+  follow-more (suc n) m i x (inl e) h k = rw e (sym (follow-nil next m))
+  follow-more (suc n) zero i x (inr s) h k = absurd (omega (arith, k s, s .within))
+  follow-more (suc n) (suc m) i zero (inr s) h k = refl
+  follow-more (suc n) (suc m) i (suc x) (inr s) h k =
+      ap (λ (l : List ℕ). suc x ∷ l)
+      (follow-more n m (suc x) (next (suc x)) (next-onward i x s)
+      (λ t. omega (arith, h s, t .later))
+      (λ t. omega (arith, k s, t .later)))
+
+  pub follow-step : (i x : ℕ) → Ahead Target count i x → follow next count x ≡ x ∷ follow next count (next x)
+  unfolding follow Enough
+  follow-step i zero s = absurd (omega (arith, s .later))
+  follow-step i (suc x) s = at count refl
+    where
+      at : (n : ℕ) → count ≡ n → follow next n (suc x) ≡ suc x ∷ follow next n (next (suc x))
+      at zero e = absurd (omega (arith, s .within))
+      at (suc n) e =
+          ap (λ (l : List ℕ). suc x ∷ l)
+          (follow-more n (suc n) (suc x) (next (suc x)) (next-onward i x s)
+          (λ t. omega (arith, t .later))
+          (λ t. omega arith))
+
+  pub follow-ends : (n x : ℕ) → Onward Target count 0 x → count ≤ n → follow next n x ≡ follow next count x
+  unfolding Enough
+  follow-ends n x l h = follow-more n count 0 x l (λ t. omega arith) (λ t. omega arith)
+
+  pub follow-rises : (n i x : ℕ) → Onward Target count i x → Rising i (follow next n x)
+  unfolding follow
+  follow-rises zero i x l = tt
+  follow-rises (suc n) i x (inl e) = rw e tt
+  follow-rises (suc n) i zero (inr s) = tt
+  follow-rises (suc n) i (suc x) (inr s) = (s .later, follow-rises n (suc x) (next (suc x)) (next-onward i x s))
+
+  pub follow-target : (n i x j : ℕ) → Onward Target count i x → occurs j (follow next n x) ≡ true → Ahead Target count i j
+  unfolding follow occurs
+  follow-target zero i x j l o = absurd (none-occurs j o)
+  follow-target (suc n) i x j (inl e) o = absurd (none-occurs j (rw e at o))
+  follow-target (suc n) i zero j (inr s) o = absurd (none-occurs j o)
+  follow-target (suc n) i (suc x) j (inr s) o =
+      at (eqb j (suc x)) refl o (follow-target n (suc x) (next (suc x)) j (next-onward i x s))
+    where
+      at : (b : Bool) → eqb j (suc x) ≡ b → (b || occurs j (follow next n (next (suc x)))) ≡ true
+          → (occurs j (follow next n (next (suc x))) ≡ true → Ahead Target count (suc x) j) → Ahead Target count i j
+      at true q h r = subst (Ahead Target count i) (sym (eqb-true j (suc x) q)) s
+      at false q h r =
+          let t = r h in
+          record { later = omega (arith, s .later, t .later); within = t .within; target = t .target }

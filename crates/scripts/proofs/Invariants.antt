@@ -1,0 +1,2 @@
+-- One turn of the walk along the chain.
+pub mod Walk

@@ -1,0 +1,2 @@
+-- Generic laws: two runs whose literals correspond answer alike.
+pub mod Correspondence

@@ -1,0 +1,83 @@
+-- The first step of the chain.
+--   start-some, start-column                 a query column has a literal; it is the start's
+--   start-listed                             row 18: a start names one of the two query columns
+--   first-step                               a first step that is not 0 is a step
+--   chain-none, chain-other, chain-started   the chain's outcome: no step, another first step, a start
+-- Assumes nothing.
+use Prim.Native.Nat.{ℕ, zero, suc, _≤_, _<_}
+use native.Mathlib.Omega.{arith}
+use mathlib.Core.Path.{_≡_, refl, sym, ap, _∙_}
+use mathlib.Core.Bool.{Bool, true, false, not}
+use mathlib.Core.List.{List, [], _∷_}
+use lib.ListN.{length, getD}
+use lib.Dec.{eqb}
+use borrow.Author.Tests.{leb-true, eqb-true, eqb-false, ne-eqb, not-true, not-false}
+use Rattle.records.specs.Outcome.{Outcome, accepted, refused, pass, _then_, require}
+use Rattle.records.specs.Answers.{checked}
+use Rattle.records.specs.declared.answers.Checked.{Checked}
+use Rattle.records.specs.declared.answers.Checked.the-variants.{Refused}
+use Rattle.records.proofs.Laws.Passed.{clash}
+use Rattle.columns.specs.Columns.{Query, queryColumns, columnsAt}
+use Rattle.columns.specs.Code.Packed.{packedAt, untilZero}
+use Rattle.scripts.specs.Format.{entryAt, queryIn, firstStep, chainFrom, chain}
+use Rattle.scripts.specs.Run.{stepped, chainCheck}
+use Rattle.scripts.specs.Code.Numbered.{startNumbers}
+use Rattle.scripts.specs.Code.Tested.{stepsAfter, runAfter, chainOutcome}
+use Rattle.scripts.specs.Code.Ready.{IsStep}
+use Rattle.scripts.specs.declared.entry.Entry.{Entry}
+use Rattle.scripts.proofs.Refinement.Lines.{step-start}
+use Rattle.scripts.proofs.Refinement.Stepping.{step-starting, step-other}
+use Rattle.scripts.proofs.Theorems.Form.{KeepsForm}
+use Rattle.scripts.proofs.Invariants.Walk.{standing, reached, chain-at, chain-end}
+
+-- a row whose check refused
+row-refused : (k : Checked) (t : Bool) (a b n p : ℕ) → checked k ≡ require t a b → k ≡ Refused n p → t ≡ false
+row-refused k true a b n p e r = let no : refused n p ≡ pass = sym (ap checked r) ∙ e in absurd (clash (cc))
+row-refused k false a b n p e r = refl
+
+-- a list that is not empty has a first number
+some-listed : (a b c x : ℕ) → untilZero a b c ≡ x ∷ [] → 0 < a
+some-listed zero b c x e = let n : _≡_ {A = ℕ} 0 1 = ap length e in absurd (clash n)
+some-listed (suc a) b c x e = omega arith
+
+pub start-some : (q : Query) (n a b c : ℕ) → n ≤ 1 → untilZero a b c ≡ packedAt 0 0 0 (getD (queryColumns q) n []) → 0 < a
+start-some q zero a b c h e = some-listed a b c _ e
+start-some q (suc zero) a b c h e = some-listed a b c _ e
+start-some q (suc (suc n)) a b c h e = absurd (omega arith)
+
+pub start-column : (v s : List ℕ) (h : Entry) → h ≡ entryAt s 0 → (n : ℕ) (c : List ℕ)
+    → c ≡ packedAt 0 0 0 (getD (queryColumns (queryIn h)) n []) → c ≡ startNumbers v s n
+unfolding columnsAt
+start-column v s h q n c e = e ∙ ap (λ (x : Entry). packedAt 0 0 0 (getD (queryColumns (queryIn x)) n [])) q
+
+module _ (v s : List ℕ) (f : KeepsForm v s) where
+  pub start-listed : (i : ℕ) (e : Entry) → e ≡ entryAt s i → IsStep s i → e .w0 ≡ 3 → e .w1 ≤ 1
+  start-listed i e q t h = leb-true (e .w1) 1 (step-start v s i e h ∙ (rw q (f .steps i (t .positive) (t .within))))
+
+  pub first-step : (first : ℕ) → first ≡ firstStep s → not (eqb first 0) ≡ true → IsStep s first
+  first-step first e n =
+      standing s first (rw e (reached s 0 (firstStep s) (f .first))) (eqb-false first 0 (not-true (eqb first 0) n))
+
+  pub chain-none : (answer : Outcome ℕ) (k : Checked) (first n p : ℕ) → first ≡ firstStep s → k ≡ Refused n p
+      → checked k ≡ require (not (eqb first 0)) 20 0 → answer ≡ (checked k then accepted 0) → answer ≡ chainOutcome v s
+  unfolding chainCheck
+  chain-none answer k first n p e r h a =
+      let zero' = eqb-true first 0 (not-false (eqb first 0) (row-refused k (not (eqb first 0)) 20 0 n p h r)) in
+      let none : chain s ≡ [] = ap (chainFrom s) (sym e ∙ zero') ∙ chain-end s in
+      a ∙ rw (h, zero', none)
+
+  module _ (first : ℕ) (same : first ≡ firstStep s) (t : IsStep s first) (e : Entry) (read : e ≡ entryAt s first) where
+    begun : chain s ≡ first ∷ stepsAfter s first
+    begun = ap (chainFrom s) (sym same) ∙ chain-at v s f first t
+
+    pub chain-other : (answer : Outcome ℕ) (k : Checked) (m p : ℕ) → k ≡ Refused m p
+        → checked k ≡ require (eqb (e .w0) 3) 20 first → answer ≡ (checked k then accepted 0) → answer ≡ chainOutcome v s
+    unfolding chainCheck
+    chain-other answer k m p r h a =
+        let n : e .w0 ≡ 3 → ⊥ = eqb-false (e .w0) 3 (row-refused k (eqb (e .w0) 3) 20 first m p h r) in
+        a ∙ rw (h, ne-eqb (e .w0) 3 n, begun, step-other s first e read t n)
+
+    pub chain-started : (column : List ℕ) → column ≡ startNumbers v s (e .w1) → e .w0 ≡ 3
+        → runAfter v s (column ∷ []) first ≡ chainOutcome v s
+    unfolding chainCheck stepped
+    chain-started column a h = rw (a, begun, step-starting s first e read h)

@@ -1,0 +1,328 @@
+-- Term records: their terms written out, and the codes of these.
+--   TermRecord, earlier-term                    a record of kind 1 or 2; an earlier one, as rows 17 and 18 ask for it
+--   First, Applied                              what is told of the constant's record; of a record of kind 2
+--   Valid, code-zero                            codes: 0, or a function above 0 with a term record; 0 is the constant's
+--   Inner, inner-local, line-inner              the inner term of what a record says comes before it
+--   entry-past, past-line                       records past the end say nothing
+--   term-eq, header-line, header-term           a record's term from those of earlier records; the header counts as the constant
+--   term-kind, line-first, line-applied         the kinds of term records, and what these say
+--   term-positive, function-positive            the header is no term record, and no function
+--   first-record, applied-record, term-record   a term record is the constant's, or of kind 2
+--   term-first, term-applied                    their terms
+--   apply-valid, apply-small, apply-term        the code of a function at a term record
+--   code-valid, code-small, code-term           the code of a term record
+--   apply-unique, unique-step, term-unique      no two term records have one term
+--   code-apply, code-unique, code-same          two codes are equal if their terms are
+-- Assumes nothing.
+use Prim.Native.Nat.{ℕ, zero, suc, _*_, _/_, _%_, _≤_, _<_}
+use native.Mathlib.Omega.{arith}
+use native.Mathlib.Decide.{decLt}
+use mathlib.Core.Path.{_≡_, refl, sym, ap, subst, _∙_}
+use mathlib.Core.Bool.{Bool, true, false, Bool·beq, not, _&&_, _||_}
+use mathlib.Core.List.{List, [], _∷_}
+use mathlib.Core.Logic.{_⊎_, inl, inr}
+use lib.ListN.{length, take, drop-of-length-le}
+use lib.Dec.{ltb, eqb}
+use borrow.Author.Tests.{ltb-true, eqb-true, eq-eqb, ne-eqb, not-true}
+use Rattle.records.specs.Format.{recordAt, count, wordAt}
+use Rattle.records.specs.Kinds as vocabulary
+use Rattle.records.proofs.Laws.Passed.{clash, both-left, both-right, any-at}
+use Rattle.records.proofs.Theorems.Accepted.{Accepted}
+use Rattle.records.proofs.Laws.InOrder.{in-order}
+use Rattle.records.proofs.Laws.Tests.{same-truth}
+use Rattle.columns.specs.Literals.{SkolemTerm, constant, apply, sameTerm}
+use Rattle.columns.specs.Code.Packed.{termLimit}
+use Rattle.columns.proofs.Theorems.Literals.{sameTerm-true, sameTerm-refl}
+use Rattle.scripts.specs.Format.{entrySize, entryAt, entries, Line, blank, named, applied, step, Kind, kindOf, lineAt}
+use Rattle.scripts.specs.Format.{isTerm, termOf, termAt}
+use Rattle.records.specs.Finite.{allZero}
+use Rattle.scripts.specs.Form.{unusedFits, earlierTerm, isFunction, repeats, repeated, isNamed, functionFits, termFits}
+use Rattle.scripts.specs.Code.Codes.{functionLimit, codeOf, codeAt, codeTerm}
+use Rattle.scripts.proofs.Refinement.Lines.{kind-past}
+use Rattle.scripts.proofs.Theorems.Form.{KeepsForm}
+
+pub record TermRecord (s : List ℕ) (n : ℕ) : Type 0 where
+  pub within : n < entries s
+  pub term : isTerm (entryAt s n .w0) ≡ true
+
+pub earlier-term : (s : List ℕ) (i t : ℕ) → earlierTerm s i t ≡ true → i ≤ entries s → TermRecord s t
+earlier-term s i t e h =
+    let before = ltb-true t i (both-left (ltb t i) (isTerm (entryAt s t .w0)) e) in
+    record { within = omega arith; term = both-right (ltb t i) (isTerm (entryAt s t .w0)) e }
+
+-- Record n is of kind 2: the function is a restriction of the vocabulary, the inner term comes before, and no record before n
+-- has both.
+pub record Applied (v s : List ℕ) (n : ℕ) : Type 0 where
+  pub kind : entryAt s n .w0 ≡ 2
+  pub positive : 0 < entryAt s n .w1
+  pub function : entryAt s n .w1 < count v
+  pub small : entryAt s n .w1 < functionLimit
+  pub earlier : entryAt s n .w2 < n
+  pub inner : TermRecord s (entryAt s n .w2)
+  pub alone : (j : ℕ) → j < n → entryAt s j .w0 ≡ 2
+      → entryAt s j .w1 ≡ entryAt s n .w1 → entryAt s j .w2 ≡ entryAt s n .w2 → ⊥
+
+-- Record n is the constant's.
+pub record First (s : List ℕ) (n : ℕ) : Type 0 where
+  pub kind : entryAt s n .w0 ≡ 1
+  pub number : n ≡ 1
+  pub function : entryAt s n .w1 ≡ 0
+  pub inner : entryAt s n .w2 ≡ 0
+
+-- c is 0, or has a function above 0 and a term record.
+abbrev pub Valid : List ℕ → ℕ → Type 0
+Valid s c = (c ≡ 0) ⊎ ((0 < c % functionLimit) × TermRecord s (c / functionLimit))
+
+pub code-zero : (s : List ℕ) → codeTerm s 0 ≡ constant
+unfolding codeTerm
+code-zero s = refl
+
+-- the inner term of what record i says comes before it
+abbrev Inner : ℕ → Line → Type 0
+Inner i blank = Unit {0}
+Inner i named = Unit {0}
+Inner i (applied f t) = t < i
+Inner i (step t) = Unit {0}
+
+inner-local : (i : ℕ) (l : Line) → Inner i l → (f g : ℕ → SkolemTerm) → ((j : ℕ) → j < i → f j ≡ g j) → termOf l f ≡ termOf l g
+inner-local i blank h f g e = refl
+inner-local i named h f g e = refl
+inner-local i (applied k t) h f g e = ap (apply k) (e t h)
+inner-local i (step t) h f g e = refl
+
+-- there is nothing past the end
+entry-past : (s : List ℕ) (i : ℕ) → length s % entrySize ≡ 0 → entries s ≤ i → entryAt s i .w0 ≡ 0
+unfolding entryAt
+entry-past s i w h = ap (λ (l : List ℕ). wordAt (take entrySize l) 0) (drop-of-length-le s {i = entrySize * i} (omega arith))
+
+term-kind : (k : ℕ) → isTerm k ≡ true → (k ≡ 1) ⊎ (k ≡ 2)
+term-kind k e = at (eqb k 1) refl e
+  where
+    at : (b : Bool) → eqb k 1 ≡ b → (b || eqb k 2) ≡ true → (k ≡ 1) ⊎ (k ≡ 2)
+    at true q h = inl (eqb-true k 1 q)
+    at false q h = inr (eqb-true k 2 h)
+
+-- a test that agrees with one that holds
+same-true : (b : Bool) → Bool·beq true b ≡ true → b ≡ true
+same-true true e = refl
+same-true false e = e
+
+module _ (s : List ℕ) (n : ℕ) where
+  -- what a term record says
+  line-first : entryAt s n .w0 ≡ 1 → lineAt s n ≡ named
+  unfolding kindOf
+  line-first e = ap (λ (k : ℕ). kindOf k .says (entryAt s n)) e
+
+  line-applied : entryAt s n .w0 ≡ 2 → lineAt s n ≡ applied (entryAt s n .w1) (entryAt s n .w2)
+  unfolding kindOf
+  line-applied e = ap (λ (k : ℕ). kindOf k .says (entryAt s n)) e
+
+  unused-first : entryAt s n .w0 ≡ 1 → unusedFits (entryAt s n) ≡ true → (entryAt s n .w1 ≡ 0) × (entryAt s n .w2 ≡ 0)
+  unfolding kindOf allZero
+  unused-first e u =
+      let r = entryAt s n in
+      let after = allZero (r .w3 ∷ r .w4 ∷ r .w5 ∷ r .w6 ∷ r .w7 ∷ []) in
+      let zeros = subst (λ (k : ℕ). allZero (kindOf k .unused r) ≡ true) e u in
+      let rest = both-right (eqb (r .w1) 0) (eqb (r .w2) 0 && after) zeros in (
+        eqb-true (r .w1) 0 (both-left (eqb (r .w1) 0) (eqb (r .w2) 0 && after) zeros),
+        eqb-true (r .w2) 0 (both-left (eqb (r .w2) 0) after rest),
+      )
+
+module _ (v s : List ℕ) (good : Accepted v) (f : KeepsForm v s) where
+  header-line : lineAt s 0 ≡ blank
+  header-line = ap (λ (k : Kind). k .says (entryAt s 0)) (kind-past (entryAt s 0 .w0) (omega (arith, f .header)))
+
+  past-line : (i : ℕ) → entries s ≤ i → lineAt s i ≡ blank
+  unfolding kindOf
+  past-line i h = ap (λ (k : ℕ). kindOf k .says (entryAt s i)) (entry-past s i (f .sized .whole) h)
+
+  fits-inner : (i : ℕ) (l : Line) → functionFits v s i l ≡ true → Inner i l
+  fits-inner i blank e = tt
+  fits-inner i named e = tt
+  fits-inner i (applied k t) e =
+      let rest = both-right (isFunction v k) (earlierTerm s i t && not (repeated s i k t)) e in
+      let earlier = both-left (earlierTerm s i t) (not (repeated s i k t)) rest in
+      ltb-true t i (both-left (ltb t i) (isTerm (entryAt s t .w0)) earlier)
+  fits-inner i (step t) e = tt
+
+  line-inner : (i : ℕ) → Inner i (lineAt s i)
+  line-inner zero = subst (Inner 0) (sym header-line) tt
+  line-inner (suc i) = at (decLt (suc i) (entries s))
+    where
+      l : Line
+      l = lineAt s (suc i)
+
+      at : Dec (suc i < entries s) → Inner (suc i) (lineAt s (suc i))
+      at (yes h) =
+          let fit = f .terms (suc i) (omega arith) h in
+          fits-inner (suc i) l (both-right (Bool·beq (isNamed l) (eqb (suc i) 1)) (functionFits v s (suc i) l) fit)
+      at (no n) = subst (Inner (suc i)) (sym (past-line (suc i) (omega arith))) tt
+
+  pub term-eq : (i : ℕ) → termAt s i ≡ termOf (lineAt s i) (termAt s)
+  unfolding termAt
+  term-eq i =
+      in-order constant (λ earlier j. termOf (lineAt s j) earlier) (λ j g h e. inner-local j (lineAt s j) (line-inner j) g h e) i
+
+  pub header-term : termAt s 0 ≡ constant
+  header-term = term-eq 0 ∙ ap (λ (l : Line). termOf l (termAt s)) header-line
+
+  term-positive : (n : ℕ) → TermRecord s n → 0 < n
+  term-positive zero t =
+      let z : isTerm 32 ≡ true = subst (λ (k : ℕ). isTerm k ≡ true) (f .header) (t .term) in
+      absurd (clash (cc))
+  term-positive (suc n) t = omega arith
+
+  function-positive : (k : ℕ) → isFunction v k ≡ true → 0 < k
+  unfolding vocabulary.kindOf
+  function-positive zero e =
+      let is = both-right (ltb 0 (count v)) (vocabulary.isRestriction (recordAt v 0 .kind)) e in
+      let z : vocabulary.isRestriction 16 ≡ true = subst (λ (k : ℕ). vocabulary.isRestriction k ≡ true) (good .header) is in
+      absurd (clash (cc))
+  function-positive (suc k) e = omega arith
+
+  first-record : (n : ℕ) → TermRecord s n → entryAt s n .w0 ≡ 1 → First s n
+  first-record n t e =
+      let p = term-positive n t in
+      let fit = subst (λ (l : Line). termFits v s n l ≡ true) (line-first s n e) (f .terms n p (t .within)) in
+      let zeros = unused-first s n e (f .unused n p (t .within)) in
+      record {
+        kind = e;
+        number = eqb-true n 1 (same-true (eqb n 1) (both-left (Bool·beq true (eqb n 1)) true fit));
+        function = zeros .0;
+        inner = zeros .1;
+      }
+
+  applied-record : (n : ℕ) → TermRecord s n → entryAt s n .w0 ≡ 2 → Applied v s n
+  applied-record n t e =
+      let w1 = entryAt s n .w1 in
+      let w2 = entryAt s n .w2 in
+      let line = line-applied s n e in
+      let fit = subst (λ (l : Line). termFits v s n l ≡ true) line (f .terms n (term-positive n t) (t .within)) in
+      let fits = both-right (Bool·beq false (eqb n 1)) (functionFits v s n (applied w1 w2)) fit in
+      let function = both-left (isFunction v w1) (earlierTerm s n w2 && not (repeated s n w1 w2)) fits in
+      let rest = both-right (isFunction v w1) (earlierTerm s n w2 && not (repeated s n w1 w2)) fits in
+      let earlier = both-left (earlierTerm s n w2) (not (repeated s n w1 w2)) rest in
+      let clear = not-true (repeated s n w1 w2) (both-right (earlierTerm s n w2) (not (repeated s n w1 w2)) rest) in
+      let below = ltb-true w1 (count v) (both-left (ltb w1 (count v)) (vocabulary.isRestriction (recordAt v w1 .kind)) function) in
+      record {
+        kind = e;
+        positive = function-positive w1 function;
+        function = below;
+        small = omega (arith, below, good .sized .most);
+        earlier = fits-inner n (applied w1 w2) fits;
+        inner = earlier-term s n w2 earlier (omega (arith, t .within));
+        alone = λ j h k a b.
+            let at = any-at (repeats s w1 w2) n clear j h in
+            let hit : repeats s w1 w2 j ≡ true = rw (eq-eqb _ 2 k, eq-eqb _ _ a, eq-eqb _ _ b) in
+            clash (cc);
+      }
+
+  pub term-record : (n : ℕ) → TermRecord s n → First s n ⊎ Applied v s n
+  term-record n t = at (term-kind (entryAt s n .w0) (t .term))
+    where
+      at : (entryAt s n .w0 ≡ 1) ⊎ (entryAt s n .w0 ≡ 2) → First s n ⊎ Applied v s n
+      at (inl e) = inl (first-record n t e)
+      at (inr e) = inr (applied-record n t e)
+
+  pub term-first : (n : ℕ) → First s n → termAt s n ≡ constant
+  term-first n t = term-eq n ∙ ap (λ (l : Line). termOf l (termAt s)) (line-first s n (t .kind))
+
+  pub term-applied : (n : ℕ) → Applied v s n → termAt s n ≡ apply (entryAt s n .w1) (termAt s (entryAt s n .w2))
+  term-applied n t = term-eq n ∙ ap (λ (l : Line). termOf l (termAt s)) (line-applied s n (t .kind))
+
+  -- the code of a function at a term record
+  module _ (i n : ℕ) (p : 0 < i) (h : i < functionLimit) (t : TermRecord s n) where
+    pub apply-valid : Valid s (codeOf i n)
+    apply-valid = let e : n ≡ codeOf i n / functionLimit = omega arith in inr (omega arith, subst (TermRecord s) e t)
+
+    pub apply-small : codeOf i n < termLimit
+    apply-small = omega (arith, t .within, f .sized .most)
+
+    pub apply-term : codeTerm s (codeOf i n) ≡ apply i (termAt s n)
+    unfolding codeTerm
+    apply-term =
+        let low : codeOf i n % functionLimit ≡ i = omega arith in
+        let high : codeOf i n / functionLimit ≡ n = omega arith in
+        rw (low, high, ne-eqb i 0 (λ z. omega arith))
+
+  -- the code of a term record
+  first-code : (n : ℕ) → First s n → codeAt s n ≡ 0
+  first-code n t = rw (t .function, t .inner)
+
+  pub code-valid : (n : ℕ) → TermRecord s n → Valid s (codeAt s n)
+  code-valid n t = at (term-record n t)
+    where
+      at : First s n ⊎ Applied v s n → Valid s (codeAt s n)
+      at (inl r) = inl (first-code n r)
+      at (inr r) = apply-valid (entryAt s n .w1) (entryAt s n .w2) (r .positive) (r .small) (r .inner)
+
+  pub code-small : (n : ℕ) → TermRecord s n → codeAt s n < termLimit
+  code-small n t = at (term-record n t)
+    where
+      at : First s n ⊎ Applied v s n → codeAt s n < termLimit
+      at (inl r) = omega (arith, first-code n r)
+      at (inr r) = apply-small (entryAt s n .w1) (entryAt s n .w2) (r .positive) (r .small) (r .inner)
+
+  pub code-term : (n : ℕ) → TermRecord s n → codeTerm s (codeAt s n) ≡ termAt s n
+  code-term n t = at (term-record n t)
+    where
+      at : First s n ⊎ Applied v s n → codeTerm s (codeAt s n) ≡ termAt s n
+      at (inl r) = ap (codeTerm s) (first-code n r) ∙ code-zero s ∙ sym (term-first n r)
+      at (inr r) =
+          apply-term (entryAt s n .w1) (entryAt s n .w2) (r .positive) (r .small) (r .inner) ∙ sym (term-applied n r)
+
+  module _ (n m : ℕ) (e : termAt s n ≡ termAt s m) where
+    -- two terms are one where their parts are
+    apply-unique : Applied v s n → Applied v s m → (termAt s (entryAt s n .w2) ≡ termAt s (entryAt s m .w2)
+        → entryAt s n .w2 ≡ entryAt s m .w2) → n ≡ m
+    apply-unique a b inner =
+        let both = sym (term-applied n a) ∙ e ∙ term-applied m b in
+        let function : entryAt s n .w1 ≡ entryAt s m .w1 = cc in
+        let term : termAt s (entryAt s n .w2) ≡ termAt s (entryAt s m .w2) = cc in
+        at (decLt n m) (decLt m n) function (inner term)
+      where
+        at : Dec (n < m) → Dec (m < n) → entryAt s n .w1 ≡ entryAt s m .w1 → entryAt s n .w2 ≡ entryAt s m .w2 → n ≡ m
+        at (yes h) d p q = absurd (b .alone n h (a .kind) p q)
+        at (no g) (yes h) p q = absurd (a .alone m h (b .kind) (sym p) (sym q))
+        at (no g) (no h) p q = omega arith
+
+    unique-step : First s n ⊎ Applied v s n → First s m ⊎ Applied v s m
+        → ((i j : ℕ) → i < n → TermRecord s i → TermRecord s j → termAt s i ≡ termAt s j → i ≡ j) → n ≡ m
+    unique-step (inl a) (inl b) h = a .number ∙ sym (b .number)
+    unique-step (inl a) (inr b) h = let z = sym (term-first n a) ∙ e ∙ term-applied m b in absurd (clash (cc))
+    unique-step (inr a) (inl b) h = let z = sym (term-applied n a) ∙ e ∙ term-first m b in absurd (clash (cc))
+    unique-step (inr a) (inr b) h = apply-unique a b (h (entryAt s n .w2) (entryAt s m .w2) (a .earlier) (a .inner) (b .inner))
+
+  unique-below : (k n m : ℕ) → n < k → TermRecord s n → TermRecord s m → termAt s n ≡ termAt s m → n ≡ m
+  unique-below zero n m h t u e = absurd (omega arith)
+  unique-below (suc k) n m h t u e =
+      unique-step n m e (term-record n t) (term-record m u) (λ i j l. unique-below k i j (omega arith))
+
+  pub term-unique : (n m : ℕ) → TermRecord s n → TermRecord s m → termAt s n ≡ termAt s m → n ≡ m
+  term-unique n m = unique-below (suc n) n m (omega arith)
+
+  -- a code that is not 0 is that of a function at a term record
+  code-apply : (c : ℕ) → 0 < c % functionLimit → codeTerm s c ≡ apply (c % functionLimit) (termAt s (c / functionLimit))
+  unfolding codeTerm
+  code-apply c p = rw (ne-eqb (c % functionLimit) 0 (λ z. omega arith))
+
+  code-unique : (c d : ℕ) → Valid s c → Valid s d → codeTerm s c ≡ codeTerm s d → c ≡ d
+  code-unique c d (inl a) (inl b) e = a ∙ sym b
+  code-unique c d (inl a) (inr b) e =
+      let z = sym (code-zero s) ∙ ap (codeTerm s) (sym a) ∙ e ∙ code-apply d (b .0) in
+      absurd (clash (cc))
+  code-unique c d (inr a) (inl b) e =
+      let z = sym (code-apply c (a .0)) ∙ e ∙ ap (codeTerm s) b ∙ code-zero s in
+      absurd (clash (cc))
+  code-unique c d (inr a) (inr b) e =
+      let both = sym (code-apply c (a .0)) ∙ e ∙ code-apply d (b .0) in
+      let function : c % functionLimit ≡ d % functionLimit = cc in
+      let term : termAt s (c / functionLimit) ≡ termAt s (d / functionLimit) = cc in
+      let inner = term-unique (c / functionLimit) (d / functionLimit) (a .1) (b .1) term in
+      omega arith
+
+  pub code-same : (c d : ℕ) → Valid s c → Valid s d → sameTerm (codeTerm s c) (codeTerm s d) ≡ eqb c d
+  code-same c d a b =
+      same-truth (sameTerm (codeTerm s c) (codeTerm s d)) (eqb c d)
+      (λ e. eq-eqb c d (code-unique c d a b (sameTerm-true (codeTerm s c) (codeTerm s d) e)))
+      (λ e. subst (λ (x : ℕ). sameTerm (codeTerm s c) (codeTerm s x) ≡ true) (eqb-true c d e) (sameTerm-refl (codeTerm s c)))

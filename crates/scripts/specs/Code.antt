@@ -1,0 +1,6 @@
+-- What only the code computes with. No promise to a caller speaks of it.
+pub mod Codes
+pub mod Machine
+pub mod Numbered
+pub mod Tested
+pub mod Ready

@@ -1,0 +1,60 @@
+-- What the code computes with: a step that was tested, and the outcome of a run over numbers.
+use Prim.Native.Nat.{ℕ, suc, _-_, _<_}
+use mathlib.Core.Path.{_≡_}
+use mathlib.Core.Bool.{Bool, _&&_, _||_}
+use mathlib.Core.List.{List, []}
+use lib.ListN.{length, getD}
+use lib.Dec.{ltb}
+use Rattle.records.specs.Outcome.{Outcome, Check, accepted, pass, _then_, require}
+use Rattle.records.specs.Answers.{checked}
+use Rattle.columns.specs.Code.Packed.{literals}
+use Rattle.scripts.specs.Steps.{Extension}
+use Rattle.scripts.specs.Format.{entryAt, nextStep, recordStep, chainFrom, chain}
+use Rattle.scripts.specs.Calculus.{frameLimit}
+use Rattle.scripts.specs.Run.{Frames, extendBy, meets, leaves, stepCheck, stepped, run, chainCheck}
+use Rattle.records.specs.Finite.{isNil}
+use Rattle.scripts.specs.Code.Codes.{opposed}
+use Rattle.scripts.specs.Code.Machine.{framesFrom}
+use Rattle.scripts.specs.Code.Numbered.{noNumber, numbered}
+use Rattle.scripts.specs.declared.run.Tested.{Tested}
+
+-- Rows 21 and 23 at an extension, where the goal and the number of frames are given.
+abbrev pub extensionCheck : List ℕ → List ℕ → ℕ → ℕ → ℕ → Extension ℕ → Check
+extensionCheck v s i goal depth e =
+    require (opposed (meets (numbered v s) e) goal) 21 i
+    then require (isNil (leaves (numbered v s) e) || ltb depth frameLimit) 23 i
+
+-- Row 22, where the goal is given.
+abbrev pub reducesTo : Frames ℕ → ℕ → ℕ → Bool
+reducesTo frames f goal =
+    ltb (suc f) (length frames) && opposed (getD (getD frames (length frames - suc f) []) 0 noNumber) goal
+
+-- An extension was tested: its answer; where it passed, the column's other literals, for which there is room.
+pub record ExtensionTested (v s : List ℕ) (i goal depth : ℕ) (e : Extension ℕ) (t : Tested) : Type 0 where
+  pub rows : checked (t .answer) ≡ extensionCheck v s i goal depth e
+  pub remainder : checked (t .answer) ≡ pass → literals (t .remainder) ≡ leaves (numbered v s) e
+  pub room : checked (t .answer) ≡ pass → 0 < t .remainder .first → depth < frameLimit
+
+-- The step of record i was tested: its answer; where it passed, the literals that extend the frames, none for a reduction.
+pub record StepTested (v s : List ℕ) (i : ℕ) (frames : Frames ℕ) (t : Tested) : Type 0 where
+  pub rows : checked (t .answer) ≡ stepCheck (numbered v s) i frames (recordStep s i)
+  pub after : checked (t .answer) ≡ pass
+      → extendBy (literals (t .remainder)) frames ≡ stepped (numbered v s) frames (recordStep s i)
+  pub room : checked (t .answer) ≡ pass → 0 < t .remainder .first → length frames < frameLimit
+  pub reduced : entryAt s i .w0 ≡ 5 → t .remainder .first ≡ 0
+
+-- The same where the frames are a machine's.
+abbrev pub TestedAt : List ℕ → List ℕ → ℕ → List ℕ → List ℕ → ℕ → Tested → Type 0
+TestedAt v s i table closed depth t = StepTested v s i (framesFrom table closed depth) t
+
+-- The steps after record i, and the outcome of a run over them.
+abbrev pub stepsAfter : List ℕ → ℕ → List ℕ
+stepsAfter s i = chainFrom s (nextStep s i)
+
+abbrev pub runAfter : List ℕ → List ℕ → Frames ℕ → ℕ → Outcome ℕ
+runAfter v s frames first =
+    run (numbered v s) (recordStep s) frames first (stepsAfter s first) then accepted (suc (length (stepsAfter s first)))
+
+-- The outcome of the chain.
+abbrev pub chainOutcome : List ℕ → List ℕ → Outcome ℕ
+chainOutcome v s = chainCheck (numbered v s) (recordStep s) (chain s) then accepted (length (chain s))

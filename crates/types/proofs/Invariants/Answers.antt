@@ -1,0 +1,171 @@
+-- What a set of types shows: how many there are, the first at which the terms differ, and the bitmap.
+--   count-start, count-hit, count-miss          numbers counted, one number further
+--   count-bound, count-cong, members-counted    how many there can be; tests that agree; the members of a set
+--   inBoth, first-..                            the first number in both of two sets, looked for in order
+--   tableOver, over-start, over-turn, over-length   a table written over the front of a list
+--   alive-counted, alive-first, alive-bitmap      what a table that holds the survivors shows of them
+--   size-word, verdict-same, byte-none   the number of types, the verdict and an empty byte as the code makes them
+--   cleared-start, cleared-length, cleared-turn, cleared-over   zeros written over the front of a list
+-- Assumes nothing.
+use Prim.Native.Nat.{ℕ, zero, suc, _+_, _-_, _*_, _%_, _^_, _≤_, _<_}
+use native.Mathlib.Omega.{arith}
+use native.Mathlib.Numerals.{add-one}
+use mathlib.Core.Path.{_≡_, refl, sym, ap, ap₂, _∙_}
+use mathlib.Core.Bool.{Bool, true, false, _&&_, and-false}
+use mathlib.Core.List.{List, [], _∷_, _++_}
+use lib.Dec.{ltb}
+use lib.Pow.{shl-exact}
+use lib.ListN.{length, getD, set, drop, length-append, length-drop, length-set}
+use Rattle.records.specs.Outcome.{Outcome, accepted}
+use Rattle.records.specs.Atoms.{atoms}
+use Rattle.records.specs.Finite.{digit, least, table, has, members, countBelow, number}
+use Rattle.records.proofs.Laws.Bits.{digit-small, number-cong}
+use Rattle.types.specs.Types.{types}
+use Rattle.types.specs.Survivors.{survivors, rounds}
+use Rattle.types.specs.Comparison.{Verdict, distinguishes, firstDistinguishing, verdictWith, verdict, atomLimit}
+use Rattle.types.specs.Comparison.{bitmapBytes}
+use Rattle.types.specs.Bitmap.{byteOf, bitmap}
+use Rattle.types.specs.Code.Words.{SameSet}
+use Rattle.types.specs.Code.Settling.{Differs, cleared}
+use Rattle.records.proofs.Laws.Tests.{both-true}
+use Rattle.records.proofs.Laws.Below.{least-is, least-end, least-cong, None, none-turn}
+use Rattle.records.proofs.Laws.Sets.{length-table, table-cong}
+use Rattle.types.proofs.Theorems.Survivors.{stage-length}
+
+module _ (test : ℕ → Bool) where
+  pub count-start : 0 ≡ countBelow test 0
+  unfolding countBelow
+  count-start = refl
+
+  pub count-hit : (t found : ℕ) → found ≡ countBelow test t → test t ≡ true → found + 1 ≡ countBelow test (t + 1)
+  unfolding countBelow
+  count-hit t found e q = rw (add-one t, e, q)
+
+  pub count-miss : (t found : ℕ) → found ≡ countBelow test t → test t ≡ false → found ≡ countBelow test (t + 1)
+  unfolding countBelow
+  count-miss t found e q = rw (add-one t, q) (omega arith)
+
+  pub count-bound : (n : ℕ) → countBelow test n ≤ n
+  unfolding countBelow
+  count-bound zero = omega arith
+  count-bound (suc n) = omega (arith, count-bound n, digit-small (test n))
+
+pub count-cong : (n : ℕ) (f g : ℕ → Bool) → ((t : ℕ) → t < n → f t ≡ g t) → countBelow f n ≡ countBelow g n
+unfolding countBelow
+count-cong zero f g h = refl
+count-cong (suc n) f g h = rw (count-cong n f g (λ t l. h t (omega arith)), h n (omega arith))
+
+-- counted from the front
+count-front : (n : ℕ) (test : ℕ → Bool) → countBelow test (suc n) ≡ digit (test 0) + countBelow (λ t. test (suc t)) n
+unfolding countBelow
+count-front zero test = omega arith
+count-front (suc n) test = let r = count-front n test in omega arith
+
+pub members-counted : (S : List Bool) → members S ≡ countBelow (has S) (length S)
+unfolding members countBelow
+members-counted [] = refl
+members-counted (b ∷ S) = ap (λ (x : ℕ). digit b + x) (members-counted S) ∙ sym (count-front (length S) (has (b ∷ S)))
+
+-- Whether a number is in both of two sets.
+abbrev pub inBoth : List Bool → List Bool → ℕ → Bool
+inBoth S R t = has S t && has R t
+
+module _ (S R : List Bool) (t : ℕ) where
+  pub first-out : None (inBoth S R) t → has S t ≡ false → None (inBoth S R) (t + 1)
+  first-out none e = none-turn (inBoth S R) t none (rw e)
+
+  pub first-other : None (inBoth S R) t → has R t ≡ false → None (inBoth S R) (t + 1)
+  first-other none e = none-turn (inBoth S R) t none (rw e (and-false (has S t)))
+
+  pub first-found : (n : ℕ) → t < n → None (inBoth S R) t → has S t ≡ true → has R t ≡ true → t ≡ least (inBoth S R) n
+  first-found n l none e q = sym (least-is n (inBoth S R) t l (both-true (has S t) (has R t) e q) none)
+
+  pub first-none : (n : ℕ) → n ≤ t → None (inBoth S R) t → n ≡ least (inBoth S R) n
+  first-none n l none = sym (least-end n (inBoth S R) (λ u h. none u (omega arith)))
+
+-- A table of n entries over the front of a list.
+abbrev pub tableOver : {A : Type 0} → (ℕ → A) → ℕ → List A → List A
+tableOver f n l = table n f ++ drop n l
+
+module _ {A : Type 0} where
+  pub over-start : (f : ℕ → A) (l : List A) → l ≡ tableOver f 0 l
+  unfolding table
+  over-start f l = refl
+
+  pub over-length : (f : ℕ → A) (n : ℕ) (l now : List A) → n ≤ length l → now ≡ tableOver f n l → length now ≡ length l
+  over-length f n l now h e =
+      ap length e ∙ length-append (table n f) (drop n l) ∙ omega (arith, length-table n f, length-drop n l)
+
+  over-next : (f : ℕ → A) (n : ℕ) (l : List A) → n < length l → set (tableOver f n l) n (f n) ≡ tableOver f (suc n) l
+  unfolding table
+  over-next f n [] h = absurd (omega arith)
+  over-next f zero (x ∷ l) h = refl
+  over-next f (suc n) (x ∷ l) h = ap (λ (r : List A). f 0 ∷ r) (over-next (λ i. f (suc i)) n l (omega arith))
+
+  pub over-turn : (f : ℕ → A) (n : ℕ) (l now : List A) (x : A) → n < length l → now ≡ tableOver f n l → x ≡ f n
+      → set now n x ≡ tableOver f (n + 1) l
+  over-turn f n l now x h e q = rw (e, q, add-one) (over-next f n l h)
+
+module _ (v : List ℕ) (alive : List Bool) (same : SameSet alive (survivors v)) where
+  pub alive-counted : countBelow (has alive) (types v) ≡ members (survivors v)
+  unfolding survivors
+  alive-counted =
+      count-cong (types v) (has alive) (has (survivors v)) (λ t l. same t)
+      ∙ sym (members-counted (survivors v) ∙ ap (countBelow (has (survivors v))) (stage-length v (rounds v)))
+
+  pub alive-first : (a b : ℕ) (differs : List Bool) → Differs v a b differs
+      → least (λ t. has alive t && getD differs t false) (types v) ≡ firstDistinguishing v a b
+  alive-first a b differs d =
+      least-cong (types v) (λ t. has alive t && getD differs t false) (distinguishes v a b)
+      (λ t l. ap₂ (λ (x y : Bool). x && y) (same t) (d t l))
+
+  pub alive-bitmap : table bitmapBytes (byteOf alive) ≡ bitmap v
+  unfolding bitmap
+  alive-bitmap =
+      table-cong bitmapBytes (byteOf alive) (byteOf (survivors v))
+      (λ n l. number-cong 8 (λ j. has alive (8 * n + j)) (λ j. has (survivors v) (8 * n + j)) (λ j k. same (8 * n + j)))
+
+-- The number of types as the code makes it.
+pub size-word : (v : List ℕ) (k : ℕ) → atoms v ≤ atomLimit → k ≡ atoms v → (1 * 2 ^ k) % 18446744073709551616 ≡ types v
+size-word v k few e =
+    shl-exact {a = 1} 1 k 64 (omega arith) (omega arith) ∙ omega (arith, ap (λ (n : ℕ). 2 ^ n) e)
+
+-- The verdict from its parts.
+pub verdict-same : (v : List ℕ) (a b element size found done : ℕ)
+    → element ≡ firstDistinguishing v a b → size ≡ types v → found ≡ members (survivors v) → done ≡ rounds v
+    → _≡_ {A = Outcome Verdict} (accepted (verdictWith (ltb element size) element found done)) (accepted (verdict v a b))
+unfolding verdict
+verdict-same v a b element size found done e s f d = rw (e, s, f, d)
+
+-- A byte with no bit.
+pub byte-none : (S : List Bool) (n : ℕ) → ((t : ℕ) → 8 * n ≤ t → has S t ≡ false) → byteOf S n ≡ 0
+unfolding number
+byte-none S n none = number-cong 8 (λ j. has S (8 * n + j)) (λ j. false) (λ j h. none (8 * n + j) (omega arith))
+
+module _ (l : List ℕ) (start : ℕ) where
+  pub cleared-start : l ≡ cleared l start (start - start)
+  unfolding cleared
+  cleared-start = let none : start - start ≡ 0 = omega arith in rw none
+
+  pub cleared-length : (n : ℕ) → length (cleared l start n) ≡ length l
+  unfolding cleared
+  cleared-length zero = refl
+  cleared-length (suc n) = length-set (cleared l start n) (start + n) 0 ∙ cleared-length n
+
+  pub cleared-turn : (n : ℕ) (now : List ℕ) → start ≤ n → now ≡ cleared l start (n - start)
+      → set now n 0 ≡ cleared l start (n + 1 - start)
+  unfolding cleared
+  cleared-turn n now h e =
+      let next : n + 1 - start ≡ suc (n - start) = omega arith in
+      let at : start + (n - start) ≡ n = omega arith in
+      rw (next, at, e)
+
+-- Zeros over the front of a list, where the table has them.
+pub cleared-over : (f : ℕ → ℕ) (l : List ℕ) (start n : ℕ) → start + n ≤ length l → ((i : ℕ) → start ≤ i → f i ≡ 0)
+    → cleared (tableOver f start l) start n ≡ tableOver f (start + n) l
+unfolding cleared
+cleared-over f l start zero h none = ap (λ (n : ℕ). tableOver f n l) (omega arith)
+cleared-over f l start (suc n) h none =
+    over-turn f (start + n) l (cleared (tableOver f start l) start n) 0 (omega arith)
+    (cleared-over f l start n (omega arith) none) (sym (none (start + n) (omega arith)))
+    ∙ ap (λ (n : ℕ). tableOver f n l) (omega arith)

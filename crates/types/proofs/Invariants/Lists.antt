@@ -1,0 +1,202 @@
+-- Lists in rising order, one turn after the other: of the members of a set, and of the numbers that pass a test.
+--   ListedBelow                                            the members below t, in a list that has room
+--   list-start, list-more, list-same                       none; one more; none here
+--   entries-none, entries-length, entry-kept, entry-last   numbers that pass, one further
+--   entry-sound, entry-found                               the entries are those that pass
+--   entry-number, entry-at                                 an entry's number is how many there are before it
+--   total-turn, fill-entry-kept, fill-entry-more           a table of what each entry is to hold
+-- Assumes nothing.
+use Prim.Native.Nat.{ℕ, zero, suc, _+_, _≤_, _<_}
+use native.Mathlib.Omega.{arith}
+use native.Mathlib.Decide.{ℕ-discrete, decLt}
+use native.Mathlib.Numerals.{add-one}
+use mathlib.Core.Path.{_≡_, refl, sym, ap, _∙_}
+use mathlib.Core.Bool.{Bool, true, false}
+use mathlib.Core.List.{List, [], _∷_}
+use mathlib.Core.Logic.{_⊎_, inl, inr}
+use lib.ListN.{length, getD, set, length-set, length-append, List·getD-append}
+use lib.Seq.{getD-set-same, getD-set-other, getD-append-seam}
+use Rattle.records.specs.Finite.{digit, has, appendIf, listBelow}
+use Rattle.records.proofs.Laws.Passed.{clash}
+use Rattle.types.proofs.Invariants.Tables.{Filled, fill-turn, fill-same}
+
+-- The members of a set below t, listed.
+pub record ListedBelow (room : ℕ) (S : List Bool) (list : List ℕ) (left t : ℕ) : Type 0 where
+  pub size : length list ≡ room
+  pub few : left ≤ t
+  pub inside : (j : ℕ) → j < left → getD list j 0 < t
+  pub members : (j : ℕ) → j < left → has S (getD list j 0) ≡ true
+  pub finds : (u : ℕ) → u < t → has S u ≡ true → (j : ℕ) × (j < left) × (getD list j 0 ≡ u)
+
+module _ (room : ℕ) (S : List Bool) (list : List ℕ) where
+  pub list-start : length list ≡ room → ListedBelow room S list 0 0
+  list-start e =
+      record {
+        size = e;
+        few = omega arith;
+        inside = λ j h. absurd (omega arith);
+        members = λ j h. absurd (omega arith);
+        finds = λ u h m. absurd (omega arith);
+      }
+
+  module _ (left t : ℕ) (l : ListedBelow room S list left t) where
+    pub list-more : t < room → has S t ≡ true → ListedBelow room S (set list left t) (left + 1) (t + 1)
+    list-more h e =
+        record {
+          size = length-set list left t ∙ l .size;
+          few = omega (arith, l .few);
+          inside = λ j k. inside-at j k (ℕ-discrete j left);
+          members = λ j k. members-at j k (ℕ-discrete j left);
+          finds = λ u k m. finds-at u k m (ℕ-discrete u t);
+        }
+      where
+        last : getD (set list left t) left 0 ≡ t
+        last = getD-set-same list left t 0 (omega (arith, l .size, l .few))
+
+        inside-at : (j : ℕ) → j < left + 1 → Dec (j ≡ left) → getD (set list left t) j 0 < t + 1
+        inside-at j k (yes q) = rw (q, last) (omega arith)
+        inside-at j k (no q) = rw (getD-set-other list left j t 0 q) (omega (arith, l .inside j (omega arith)))
+
+        members-at : (j : ℕ) → j < left + 1 → Dec (j ≡ left) → has S (getD (set list left t) j 0) ≡ true
+        members-at j k (yes q) = rw (q, last) e
+        members-at j k (no q) = rw (getD-set-other list left j t 0 q) (l .members j (omega arith))
+
+        Place : ℕ → Type 0
+        Place u = (j : ℕ) × (j < left + 1) × (getD (set list left t) j 0 ≡ u)
+
+        kept : (u : ℕ) → (j : ℕ) × (j < left) × (getD list j 0 ≡ u) → Place u
+        kept u f = (f .0, omega (arith, f .1), getD-set-other list left (f .0) t 0 (λ e. omega (arith, f .1)) ∙ f .2)
+
+        finds-at : (u : ℕ) → u < t + 1 → has S u ≡ true → Dec (u ≡ t) → Place u
+        finds-at u k m (yes q) = (left, omega arith, last ∙ sym q)
+        finds-at u k m (no q) = kept u (l .finds u (omega arith) m)
+
+    pub list-same : has S t ≡ false → ListedBelow room S list left (t + 1)
+    list-same e =
+        record {
+          size = l .size;
+          few = omega (arith, l .few);
+          inside = λ j k. omega (arith, l .inside j k);
+          members = l .members;
+          finds = λ u k m. at u k m (ℕ-discrete u t);
+        }
+      where
+        at : (u : ℕ) → u < t + 1 → has S u ≡ true → Dec (u ≡ t) → (j : ℕ) × (j < left) × (getD list j 0 ≡ u)
+        at u k m (yes q) = absurd (clash (cc))
+        at u k m (no q) = l .finds u (omega arith) m
+
+-- How many numbers below n pass a test; the m-th of them.
+abbrev pub entries : (ℕ → Bool) → ℕ → ℕ
+entries test n = length (listBelow test n)
+
+abbrev pub entry : (ℕ → Bool) → ℕ → ℕ → ℕ
+entry test n m = getD (listBelow test n) m 0
+
+-- Number i is below n and passes; it is an entry.
+pub record Entered (test : ℕ → Bool) (n i : ℕ) : Type 0 where
+  pub before : i < n
+  pub passes : test i ≡ true
+
+abbrev pub Placed : (ℕ → Bool) → ℕ → ℕ → Type 0
+Placed test n i = (m : ℕ) × (m < entries test n) × (entry test n m ≡ i)
+
+append-length : (b : Bool) (l : List ℕ) (n : ℕ) → length (appendIf b l n) ≡ length l + digit b
+append-length true l n = length-append l (n ∷ [])
+append-length false l n = omega arith
+
+append-kept : (b : Bool) (l : List ℕ) (n m : ℕ) → m < length l → getD (appendIf b l n) m 0 ≡ getD l m 0
+append-kept true l n m h = List·getD-append l (n ∷ []) 0 m h
+append-kept false l n m h = refl
+
+append-last : (b : Bool) (l : List ℕ) (n : ℕ) → b ≡ true → getD (appendIf b l n) (length l) 0 ≡ n
+append-last true l n e = getD-append-seam l n [] 0
+append-last false l n e = absurd (clash (cc))
+
+module _ (test : ℕ → Bool) where
+  pub entries-none : entries test 0 ≡ 0
+  unfolding listBelow
+  entries-none = refl
+
+  pub entries-length : (n : ℕ) → entries test (suc n) ≡ entries test n + digit (test n)
+  unfolding listBelow
+  entries-length n = append-length (test n) (listBelow test n) n
+
+  pub entry-kept : (n m : ℕ) → m < entries test n → entry test (suc n) m ≡ entry test n m
+  unfolding listBelow
+  entry-kept n m h = append-kept (test n) (listBelow test n) n m h
+
+  pub entry-last : (n : ℕ) → test n ≡ true → entry test (suc n) (entries test n) ≡ n
+  unfolding listBelow
+  entry-last n e = append-last (test n) (listBelow test n) n e
+
+  -- an entry one number further is an earlier one, or the number
+  abbrev Earlier : ℕ → ℕ → Type 0
+  Earlier n m = (m < entries test n) ⊎ ((entries test n ≡ m) × (test n ≡ true))
+
+  earlier : (n m : ℕ) → m < entries test (suc n) → Earlier n m
+  earlier n m h = at (test n) refl (entries-length n) (decLt m (entries test n))
+    where
+      at : (b : Bool) → test n ≡ b → entries test (suc n) ≡ entries test n + digit b
+          → Dec (m < entries test n) → Earlier n m
+      at b q l (yes k) = inl k
+      at true q l (no k) = inr (omega arith, q)
+      at false q l (no k) = absurd (omega arith)
+
+  newest : (n m : ℕ) → entries test n ≡ m → test n ≡ true → entry test (suc n) m ≡ n
+  newest n m e q = ap (entry test (suc n)) (sym e) ∙ entry-last n q
+
+  pub entry-sound : (n m : ℕ) → m < entries test n → Entered test n (entry test n m)
+  entry-sound zero m h = absurd (omega (arith, entries-none))
+  entry-sound (suc n) m h = at (earlier n m h) (entry-sound n m)
+    where
+      at : Earlier n m → (m < entries test n → Entered test n (entry test n m)) → Entered test (suc n) (entry test (suc n) m)
+      at (inl k) r =
+          let old = r k in
+          rw (entry-kept n m k) record { before = omega (arith, old .before); passes = old .passes }
+      at (inr e) r = rw (newest n m (e .0) (e .1)) record { before = omega arith; passes = e .1 }
+
+  pub entry-found : (n i : ℕ) → i < n → test i ≡ true → Placed test n i
+  entry-found zero i h e = absurd (omega arith)
+  entry-found (suc n) i h e = at (ℕ-discrete n i) (entry-found n i)
+    where
+      more : entries test (suc n) ≡ entries test n + digit (test n)
+      more = entries-length n
+
+      at : Dec (n ≡ i) → (i < n → test i ≡ true → Placed test n i) → Placed test (suc n) i
+      at (yes q) r =
+          let last : test n ≡ true = ap test q ∙ e in
+          (entries test n, omega (arith, more, ap digit last), entry-last n last ∙ q)
+      at (no q) r =
+          let old = r (omega arith) e in
+          (old .0, omega (arith, more, old .1), entry-kept n (old .0) (old .1) ∙ old .2)
+
+  -- an entry's number is how many there are before it
+  pub entry-number : (n m : ℕ) → m < entries test n → entries test (entry test n m) ≡ m
+  entry-number zero m h = absurd (omega (arith, entries-none))
+  entry-number (suc n) m h = at (earlier n m h) (entry-number n m)
+    where
+      at : Earlier n m → (m < entries test n → entries test (entry test n m) ≡ m) → entries test (entry test (suc n) m) ≡ m
+      at (inl k) r = ap (entries test) (entry-kept n m k) ∙ r k
+      at (inr e) r = ap (entries test) (newest n m (e .0) (e .1)) ∙ e .0
+
+  pub entry-at : (n i : ℕ) → i < n → test i ≡ true → entry test n (entries test i) ≡ i
+  entry-at n i h e =
+      let f = entry-found n i h e in
+      ap (entry test n) (ap (entries test) (sym (f .2)) ∙ entry-number n (f .0) (f .1)) ∙ f .2
+
+  -- One number further: of the entries below i there are n, and a table has what each is to hold.
+  module _ (n i : ℕ) (total : n ≡ entries test i) where
+    pub total-turn : (b : Bool) → test i ≡ b → n + digit b ≡ entries test (i + 1)
+    total-turn b e = rw (add-one i) (omega (arith, entries-length i, ap digit e))
+
+    module _ {A : Type 0} (d : A) (room : ℕ) (ask : ℕ → A) (l : List A) (f : Filled d room l (λ m. ask (entry test i m)) n) where
+      pub fill-entry-kept : Filled d room l (λ m. ask (entry test (i + 1) m)) n
+      fill-entry-kept =
+          rw (add-one i) (fill-same d room l (λ m. ask (entry test i m)) n f (λ m. ask (entry test (suc i) m))
+          (λ m k. ap ask (sym (entry-kept i m (omega arith)))))
+
+      pub fill-entry-more : (x : A) → n < room → test i ≡ true → x ≡ ask i
+          → Filled d room (set l n x) (λ m. ask (entry test (i + 1) m)) (n + 1)
+      fill-entry-more x free e q =
+          fill-turn d room l (λ m. ask (entry test (i + 1) m)) n x free fill-entry-kept
+          (q ∙ ap ask (sym (rw (add-one i) (newest i n (sym total) e))))

@@ -1,0 +1,2 @@
+-- Generic laws: the zeta transform, sums over the subsets of a word.
+pub mod Zeta

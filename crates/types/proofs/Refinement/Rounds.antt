@@ -1,0 +1,282 @@
+-- A round by removals, role after role, and the rounds one after the other.
+--   otherRoleWord-done, full-word                     the words of the other roles, and of all bits, as the code makes them
+--   AfterRoles, roles-start, roles-skip, roles-turn   what is left after the roles below r
+--   round-same, removes-same                          a round goes by the set, not by its table
+--   stage-ends, survivors-end, round-rests            a set that has nothing past the types; a round that removes nothing
+--   bits-few, reached-in, met-role, role-skipped      in an elimination: the words lie in the table of joins; one role's test
+--   fillerWord-in, joins-done                         the table of joins
+--   round-done, eliminating-on                        after all roles it is the round; the state after it
+--   AtStage, rests-survivors, stage-on, rounds-left   rounds one after the other
+-- Assumes nothing.
+use Prim.Native.Nat.{ℕ, zero, suc, _+_, _-_, _*_, _%_, _^_, _≤_, _<_}
+use native.Mathlib.Omega.{arith}
+use native.Mathlib.Numerals.{add-one}
+use native.Mathlib.Decide.{decLt}
+use mathlib.Core.Path.{_≡_, refl, sym, ap, ap₂, subst, _∙_}
+use mathlib.Core.Bool.{Bool, true, false, cond, not, _&&_, _||_, and-true}
+use mathlib.Core.List.{List}
+use lib.ListN.{getD}
+use lib.Dec.{eqb}
+use lib.Bits.{bitOr}
+use lib.Pow.{pow-mono, shl-exact}
+use borrow.Author.Tests.{not-true, not-false}
+use Rattle.records.specs.Format.{roleCount, count}
+use Rattle.records.specs.Finite.{anyBelow, allBelow, has, number}
+use Rattle.records.proofs.Laws.Passed.{clash, both-left, both-right, any-at}
+use Rattle.records.proofs.Laws.Search.{any-intro, any-elim, any-cong}
+use Rattle.records.proofs.Theorems.Accepted.{Accepted, accepted-vocabulary}
+use Rattle.types.specs.Types.{types, served}
+use Rattle.types.specs.Survivors.{satisfies, round, removes, stage, rounds, survivors}
+use Rattle.types.specs.Comparison.{atomLimit, typeLimit}
+use Rattle.types.specs.Code.Words.{width, otherRoleWord, fillerWord, reached, presentWord, zeta, roleServed, Roles}
+use Rattle.types.specs.Code.Words.{FillerWords, SameSet}
+use Rattle.types.specs.Code.Elimination.{otherRole, Enters, ZetaTo, Joins, metAt, Keeps, Eliminating, AfterRound}
+use Rattle.records.proofs.Laws.Tests.{same-truth, both-true, unless-false}
+use Rattle.records.proofs.Laws.Sets.{Within, table-at, table-past, table-cong}
+use Rattle.records.proofs.Laws.Bits.{number-cong}
+use Rattle.types.proofs.Theorems.Survivors.{has-table, Removing, stage-falls, rounds-is}
+use Rattle.types.proofs.Laws.Zeta.{zeta-cong}
+use Rattle.types.proofs.Invariants.Tables.{Ends}
+use Rattle.types.proofs.Refinement.Restrictions.{width-bound}
+use Rattle.types.proofs.Refinement.Words.{reached-small, fillerWord-small}
+use Rattle.types.proofs.Refinement.Served.{served-by-words, served-cong, role-unused}
+use Rattle.types.proofs.Invariants.Elimination.{keeps-all, keeps-both, keeps-cong, enumerates-less}
+
+pub otherRoleWord-done : (v roles : List ℕ) (bits role : ℕ) → bits ≡ width v → Roles v roles
+    → number bits (otherRole roles role) ≡ otherRoleWord v role
+unfolding otherRoleWord
+otherRoleWord-done v roles bits role e r = rw e (number-cong (width v) _ _ (λ m h. ap (λ (x : ℕ). not (eqb x role)) (r m h)))
+
+pub full-word : (bits : ℕ) → bits < 16 → (1 * 2 ^ bits) % 2 ^ 16 ≡ 2 ^ bits
+full-word bits h = shl-exact {a = 1} 1 bits 16 (omega arith) (omega arith) ∙ omega arith
+
+module _ (v : List ℕ) (S : List Bool) where
+  -- the roles below r are served at t
+  abbrev below : ℕ → ℕ → Bool
+  below r t = allBelow (roleServed v S t) r
+
+  -- What the roles below r leave of S.
+  abbrev pub AfterRoles : ℕ → List Bool → Bool → Type 0
+  AfterRoles r R removed = Keeps (below r) S R removed
+
+  pub roles-start : AfterRoles 0 S false
+  unfolding allBelow
+  roles-start = keeps-all (below 0) S (λ t. refl)
+
+  -- one role further
+  below-turn : (r t : ℕ) → below (r + 1) t ≡ (below r t && roleServed v S t r)
+  unfolding allBelow
+  below-turn r t = rw (add-one r)
+
+  module _ (r : ℕ) (R : List Bool) (removed : Bool) (w : AfterRoles r R removed) where
+    pub roles-skip : ((t : ℕ) → roleServed v S t r ≡ true) → AfterRoles (r + 1) R removed
+    roles-skip all =
+        keeps-cong (below r) (below (r + 1)) S R removed w
+        (λ t m. sym (below-turn r t ∙ rw (all t) (and-true (below r t))))
+
+    pub roles-turn : (after : List Bool) (found : Bool) (met : ℕ → Bool) → Keeps met R after found
+        → ((t : ℕ) → has S t ≡ true → met t ≡ roleServed v S t r) → AfterRoles (r + 1) after (removed || found)
+    roles-turn after found met z agrees =
+        keeps-cong (λ t. below r t && met t) (below (r + 1)) S after (removed || found)
+        (keeps-both (below r) met S R removed w after found z)
+        (λ t m. ap (λ (x : Bool). below r t && x) (agrees t m) ∙ sym (below-turn r t))
+
+module _ (v : List ℕ) (S R : List Bool) (same : SameSet S R) where
+  pub round-same : round v S ≡ round v R
+  round-same = table-cong (types v) _ _ (λ t h. ap₂ _&&_ (same t) (served-cong v S R t (λ s k. same s)))
+
+  pub removes-same : removes v S ≡ removes v R
+  removes-same =
+      any-cong (λ t. has S t && not (served v S t)) (λ t. has R t && not (served v R t)) (types v)
+      (λ t h. ap₂ (λ (x y : Bool). x && not y) (same t) (served-cong v S R t (λ s k. same s)))
+
+module _ (v : List ℕ) where
+  -- a round, below the types and past them
+  round-at : (S : List Bool) (t : ℕ) → t < types v → has (round v S) t ≡ (has S t && served v S t)
+  round-at S t h = table-at (types v) (λ t. has S t && served v S t) false t h
+
+  round-ends : (S : List Bool) → Ends (round v S) (types v)
+  round-ends S t h = table-past (types v) (λ t. has S t && served v S t) false t h
+
+  -- no stage has a number past the types
+  pub stage-ends : (n : ℕ) → Ends (stage v n) (types v)
+  unfolding stage
+  stage-ends zero t h = table-past (types v) (satisfies v) false t h
+  stage-ends (suc n) t h = round-ends (stage v n) t h
+
+  pub survivors-end : Ends (survivors v) (types v)
+  unfolding survivors
+  survivors-end = stage-ends (rounds v)
+
+  -- a round that removes nothing leaves the set as it was
+  pub round-rests : (S : List Bool) → Ends S (types v) → removes v S ≡ false → SameSet (round v S) S
+  round-rests S ends e t = at (decLt t (types v))
+    where
+      stays : (a b : Bool) → (a && not b) ≡ false → (a && b) ≡ a
+      stays true b q = not-false b q
+      stays false b q = refl
+
+      at : Dec (t < types v) → has (round v S) t ≡ has S t
+      at (yes h) =
+          round-at S t h ∙ stays (has S t) (served v S t) (any-at (λ t. has S t && not (served v S t)) (types v) e t h)
+      at (no h) = round-ends S t (omega arith) ∙ sym (ends t (omega arith))
+
+module _ {v : List ℕ} {bits : ℕ} {masks held live : List ℕ} {left : ℕ} {alive : List Bool}
+    (s : Eliminating v bits masks held live left alive) where
+  pub good : Accepted v
+  good = accepted-vocabulary v (count v) (s .accepts)
+
+  pub bits-few : bits ≤ atomLimit
+  bits-few = omega (arith, s .wide, s .few, width-bound v)
+
+  member-below : (t : ℕ) → has alive t ≡ true → t < types v
+  member-below t e = at (decLt t (types v))
+    where
+      at : Dec (t < types v) → t < types v
+      at (yes h) = h
+      at (no h) = let none = s .ends t (omega arith) in absurd (clash (cc))
+
+  -- a word of so many bits is in the table of joins
+  word-in : (x : ℕ) → x < 2 ^ width v → x < typeLimit
+  word-in x h = omega (arith, pow-mono {i = width v} {j = atomLimit} (omega (arith, s .few, width-bound v)))
+
+  pub reached-in : (r t : ℕ) → r < roleCount v → has alive t ≡ true → bitOr (getD held t 0) (getD masks r 0) < typeLimit
+  reached-in r t h m =
+      rw (s .masked r h, s .held-words t (member-below t m)) (word-in (reached v t r) (reached-small v t r))
+
+  pub met-role : (table : List ℕ) → Joins v alive table → (r t : ℕ) → r < roleCount v → has alive t ≡ true
+      → metAt table (getD masks r 0) held t ≡ roleServed v alive t r
+  met-role table c r t h m =
+      rw (s .masked r h, s .held-words t (member-below t m), c (reached v t r) (reached-small v t r))
+
+  pub role-skipped : (r t : ℕ) → r < roleCount v → getD masks r 0 ≡ 2 ^ bits - 1 → roleServed v alive t r ≡ true
+  role-skipped r t h e = role-unused v alive t r (sym (s .masked r h) ∙ e ∙ ap (λ (n : ℕ). 2 ^ n - 1) (s .wide))
+
+  pub round-done : (r : ℕ) (R : List Bool) (removed : Bool) → r ≡ roleCount v → AfterRoles v alive r R removed
+      → AfterRound v alive R removed
+  round-done r R removed e roles =
+      record { size = w .size; leaves = λ t. at t (decLt t (types v)); reports = same-truth _ _ onward back }
+    where
+      w : Keeps (served v alive) alive R removed
+      w =
+          keeps-cong (below v alive r) (served v alive) alive R removed roles
+          (λ t m. sym (served-by-words v good alive t ∙ ap (λ (n : ℕ). below v alive n t) (sym e)))
+
+      at : (t : ℕ) → Dec (t < types v) → has R t ≡ has (round v alive) t
+      at t (yes h) = w .kept t ∙ sym (round-at v alive t h)
+      at t (no h) =
+          w .kept t ∙ ap (λ (x : Bool). x && served v alive t) (s .ends t (omega arith)) ∙ sym (round-ends v alive t (omega arith))
+
+      unserved : ℕ → Bool
+      unserved t = has alive t && not (served v alive t)
+
+      onward : removed ≡ true → removes v alive ≡ true
+      onward r =
+          let f = w .less r in
+          any-intro unserved (types v) (f .0) (member-below (f .0) (f .1)) (both-true _ _ (f .1) (ap not (f .2)))
+
+      back : removes v alive ≡ true → removed ≡ true
+      back e =
+          let f = any-elim unserved (types v) e in
+          let m = both-left (has alive (f .0)) (not (served v alive (f .0))) (f .2) in
+          let n = not-true (served v alive (f .0)) (both-right (has alive (f .0)) (not (served v alive (f .0))) (f .2)) in
+          unless-false removed (λ r. let k = w .same r (f .0) m in clash (cc))
+
+  pub eliminating-on : (R : List Bool) (removed : Bool) → AfterRound v alive R removed
+      → Eliminating v bits masks held live left R
+  eliminating-on R removed a =
+      record {
+        accepts = s .accepts;
+        few = s .few;
+        wide = s .wide;
+        masked = s .masked;
+        held-words = s .held-words;
+        listed = enumerates-less live left alive R within (s .listed);
+        ends = λ t h. a .leaves t ∙ round-ends v alive t h;
+        size = a .size ∙ s .size;
+      }
+    where
+      within : Within R alive
+      within t h =
+          both-left (has alive t) (served v alive t)
+          (has-table (types v) (λ t. has alive t && served v alive t) t (sym (a .leaves t) ∙ h) .1)
+
+  module _ (filling : List ℕ) (o : FillerWords v filling) where
+    pub fillerWord-in : (t : ℕ) → has alive t ≡ true → getD filling t 0 < typeLimit
+    fillerWord-in t m = rw (o t (member-below t m)) (word-in (fillerWord v t) (fillerWord-small v t))
+
+    -- the words entered are those of the set
+    present-listed : (first : List ℕ) (words : ℕ) → Enters filling live alive left words first → (x : ℕ) → x < words
+        → getD first x 0 ≡ presentWord v alive x
+    present-listed first words enters x h = enters x h ∙ ap (λ (b : Bool). cond b x 0) (same-truth _ _ onward back)
+      where
+        listed : ℕ → Bool
+        listed i = has alive (getD live i 0) && eqb (getD filling (getD live i 0) 0) x
+
+        all : ℕ → Bool
+        all t = has alive t && eqb (fillerWord v t) x
+
+        has-word : (t : ℕ) → t < types v → (has alive t && eqb (getD filling t 0) x) ≡ all t
+        has-word t k = ap (λ (y : ℕ). has alive t && eqb y x) (o t k)
+
+        onward : anyBelow listed left ≡ true → anyBelow all (types v) ≡ true
+        onward e =
+            let f = any-elim listed left e in
+            let t = getD live (f .0) 0 in
+            let k = member-below t (both-left (has alive t) (eqb (getD filling t 0) x) (f .2)) in
+            any-intro all (types v) t k (sym (has-word t k) ∙ f .2)
+
+        back : anyBelow all (types v) ≡ true → anyBelow listed left ≡ true
+        back e =
+            let f = any-elim all (types v) e in
+            let g = s .listed .finds (f .0) (both-left (has alive (f .0)) (eqb (fillerWord v (f .0)) x) (f .2)) in
+            any-intro listed left (g .0) (g .1)
+            (subst (λ (t : ℕ). (has alive t && eqb (getD filling t 0) x) ≡ true) (sym (g .2)) (has-word (f .0) (f .1) ∙ f .2))
+
+    pub joins-done : (words : ℕ) (first last : List ℕ) → words ≡ 2 ^ bits → Enters filling live alive left words first
+        → ZetaTo bits (2 ^ bits) first last → Joins v alive last
+    joins-done words first last e enters zeta-step x h =
+        let k : x < 2 ^ bits = omega (arith, ap (λ (n : ℕ). 2 ^ n) (s .wide)) in
+        zeta-step .right x k
+        ∙ zeta-cong (λ y. getD first y 0) (presentWord v alive) bits x
+        (λ y l. present-listed first words enters y (omega arith))
+        ∙ ap (λ (n : ℕ). zeta (presentWord v alive) n x) (s .wide)
+
+-- What stands after some rounds that each removed something.
+pub record AtStage (v : List ℕ) (alive : List Bool) (done : ℕ) : Type 0 where
+  pub same : SameSet alive (stage v done)
+  pub before : Removing v done
+
+module _ {v : List ℕ} {alive : List Bool} {done : ℕ} (w : AtStage v alive done) (R : List Bool) (removed : Bool)
+    (a : AfterRound v alive R removed) where
+  -- the round by the code is the round of the paper
+  stage-removes : removed ≡ removes v (stage v done)
+  stage-removes = a .reports ∙ removes-same v alive (stage v done) (w .same)
+
+  pub rests-survivors : removed ≡ false → SameSet R (survivors v) × (done ≡ rounds v)
+  unfolding survivors
+  rests-survivors e =
+      let end = rounds-is v done (sym stage-removes ∙ e) (w .before) in
+      let ends : Ends alive (types v) = λ t h. w .same t ∙ stage-ends v done t h in (
+        λ t. a .leaves t ∙ round-rests v alive ends (sym (a .reports) ∙ e) t ∙ w .same t ∙ ap (λ (n : ℕ). has (stage v n) t) end,
+        end,
+      )
+
+  removing-on : removed ≡ true → Removing v (done + 1)
+  removing-on e m h = at (decLt m done)
+    where
+      at : Dec (m < done) → removes v (stage v m) ≡ true
+      at (yes l) = w .before m l
+      at (no l) = let last : m ≡ done = omega arith in ap (λ (n : ℕ). removes v (stage v n)) last ∙ sym stage-removes ∙ e
+
+  pub rounds-left : removed ≡ true → done + 1 ≤ types v
+  rounds-left e = omega (arith, stage-falls v (done + 1) (removing-on e))
+
+  pub stage-on : removed ≡ true → AtStage v R (done + 1)
+  unfolding stage
+  stage-on e =
+      record {
+        same = λ t. a .leaves t ∙ ap (λ (S : List Bool). has S t)
+            (round-same v alive (stage v done) (w .same) ∙ ap (stage v) (sym (add-one done)));
+        before = removing-on e;
+      }

@@ -1,0 +1,57 @@
+-- `types::type_data::describe` meets its contract. Each part is taken from the table of truths.
+-- Assumes nothing.
+use Prim.Native.Nat.{_-_}
+use native.Mathlib.Omega.{arith}
+use mathlib.Core.Path.{refl}
+use denote.Ref.{now}
+use Rattle.types.proofs.Refinement.TypeData.{few-records, listing-bounded, describe-done}
+use Rattle.types.proofs.type_data.describe.Statement.{statement}
+use Rattle.types.proofs.type_data.describe.Tie as tie
+
+-- what was prepared before the table of truths was filled
+abbrev start : tie.After-truths → tie.Start
+start c = c .before .before .before .before .before
+
+truths-requires : tie.Need-truths-requires
+truths-requires c κs =
+    let s = c .before .before .before .before in
+    let p = s .pre .0 in
+    (p .query .accepts, (p .query .few, (p .query .counts, (p .decoded, (p .placed, s .pre .1)))))
+
+words-of-requires : tie.Need-words-of-requires
+words-of-requires c κs = listing-bounded _ _ _ _ (start (c .before) .pre .0)
+
+statements-hold-requires : tie.Need-statements-hold-requires
+statements-hold-requires c κs =
+    let p = start (c .before .before .before) .pre .0 in (
+      omega (arith, p .stated .few, few-records _ _ _ _ p),
+      λ j h. omega (arith, p .stated .within j h, few-records _ _ _ _ p),
+    )
+
+element-copy-out-t19 : tie.Need-element-copy-out-t19
+element-copy-out-t19 c =
+    let p = start (c .before .before .before .before) .pre .0 in
+    omega (arith, p .query .first, few-records _ _ _ _ p)
+
+element-copy-out-t22 : tie.Need-element-copy-out-t22
+element-copy-out-t22 c =
+    let p = start (c .before .before .before .before .before) .pre .0 in
+    omega (arith, p .query .second, few-records _ _ _ _ p)
+
+returns : tie.Need-returns
+returns c =
+    let stated = c .before .before in
+    let worded = stated .before .before in
+    let truths-made = worded .before .before in
+    let a = start truths-made .args in
+    let d = truths-made .truths .ensures in
+    let w = worded .words-of .ensures in (
+      describe-done (now (a .v)) (a .plan) (now (a .code)) (now (a .statements)) (start truths-made .pre .0) (a .t)
+          (truths-made .truths .last .1 .1 .1 .1 .1 .0) d _ _ _ _ (stated .statements-hold .ensures) refl (w .0) (w .1),
+      d .size,
+    )
+
+pub describe-spec : {M : Type 1} → statement M
+describe-spec =
+    tie.close
+    (tie.spec truths-requires words-of-requires statements-hold-requires element-copy-out-t19 element-copy-out-t22 returns)

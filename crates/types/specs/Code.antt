@@ -1,0 +1,5 @@
+-- What only the code computes with. No promise to a caller speaks of it.
+pub mod Rules
+pub mod Words
+pub mod Settling
+pub mod Elimination

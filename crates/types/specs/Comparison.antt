@@ -1,0 +1,64 @@
+-- The comparison: rows 10 to 12 and the answer.
+use Prim.Native.Nat.{ℕ, _^_}
+use mathlib.Core.Bool.{Bool, true, false, Bool·beq, not, _&&_}
+use mathlib.Core.List.{List}
+use lib.Dec.{ltb, leb}
+use Rattle.records.specs.Outcome.{Outcome, Check, accepted, _then_, require}
+use Rattle.records.specs.Format.{recordAt, count}
+use Rattle.records.specs.Kinds.{isTerm}
+use Rattle.records.specs.Check.{vocabularyCheck}
+use Rattle.records.specs.Atoms.{atoms}
+use Rattle.records.specs.Finite.{least, has, members}
+use Rattle.types.specs.Types.{types, truth}
+use Rattle.types.specs.Survivors.{survivors, rounds}
+
+-- "Equal or Different with the smallest survivor at which the two terms differ; with either go the number of survivors and of
+-- rounds that removed something".
+pub data Verdict : Type 0 where
+  equal : ℕ → ℕ → Verdict
+  different : ℕ → ℕ → ℕ → Verdict
+
+-- The terms a and b differ at survivor t.
+abbrev pub distinguishes : List ℕ → ℕ → ℕ → ℕ → Bool
+distinguishes v a b t = has (survivors v) t && not (Bool·beq (truth v t a) (truth v t b))
+
+-- the smallest survivor at which they differ, or 2^k
+abbrev pub firstDistinguishing : List ℕ → ℕ → ℕ → ℕ
+firstDistinguishing v a b = least (distinguishes v a b) (types v)
+
+abbrev pub verdictWith : Bool → ℕ → ℕ → ℕ → Verdict
+verdictWith true element survivors rounds = different element survivors rounds
+verdictWith false element survivors rounds = equal survivors rounds
+
+unfoldable pub verdict : List ℕ → ℕ → ℕ → Verdict
+verdict v a b = verdictWith (ltb (firstDistinguishing v a b) (types v)) (firstDistinguishing v a b) (members (survivors v)) (rounds v)
+
+-- The bounds of rows 11 and 12: the atoms of a vocabulary that is compared, so its types, and the bytes of the bitmap, which
+-- has a bit for each type.
+abbrev pub atomLimit : ℕ
+atomLimit = 12
+
+abbrev pub typeLimit : ℕ
+typeLimit = 2 ^ atomLimit
+
+abbrev pub bitmapBytes : ℕ
+bitmapBytes = 512
+
+-- Row 10, "Query A, then B": "no term record", place the number
+abbrev pub termCheck : List ℕ → ℕ → Check
+termCheck v x = require (ltb x (count v) && isTerm (recordAt v x .kind)) 10 x
+
+-- Row 11: "k over 12", place k
+abbrev pub atomsCheck : List ℕ → Check
+atomsCheck v = require (leb (atoms v) atomLimit) 11 (atoms v)
+
+-- Row 12: "under 512 bytes lent"
+abbrev pub lentCheck : ℕ → Check
+lentCheck lent = require (leb bitmapBytes lent) 12 0
+
+-- "The order for a comparison is 1 to 8, 10, 11, 12".
+abbrev pub queryCheck : List ℕ → ℕ → ℕ → ℕ → Check
+queryCheck v a b lent = termCheck v a then termCheck v b then atomsCheck v then lentCheck lent
+
+unfoldable pub comparison : List ℕ → ℕ → ℕ → ℕ → Outcome Verdict
+comparison v a b lent = vocabularyCheck v then queryCheck v a b lent then accepted (verdict v a b)
