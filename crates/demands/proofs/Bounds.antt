@@ -1,6 +1,7 @@
 -- Bounds on what the calls answer, from their tables: what a caller needs to pack an answer into a word.
 --   Near, Small, SmallVerdict                         a refusal, and an answer, whose numbers are small
---   Bounded, bounded-append, bounded-turns            each row that is reached is near; of more rows, and of rows in turn
+--   AllNear, near-append, near-turns                  each row is near: of more rows, and of rows in turn
+--   Bounded, near-bounded, bounded-append             each row that is reached is near
 --   refusal-near, small                               so a refusal is near, and with a small value the answer small
 --   vocabulary-small, record-small                    the count or place is at most 512; the offset or place 4,096 or the number
 --   most, comparison-small                            the verdict's numbers are at most 2^12
@@ -10,12 +11,12 @@ use Prim.Native.Nat.{ℕ, zero, suc, _+_, _-_, _*_, _≤_, _<_, max}
 use native.Mathlib.Omega.{arith}
 use mathlib.Core.Path.{_≡_, refl, sym, subst, _∙_}
 use mathlib.Core.Bool.{Bool, true, false, not}
-use mathlib.Core.List.{List, [], _∷_, _++_}
-use lib.ListN.{length, getD, drop}
+use mathlib.Core.List.{List, [], _∷_, _++_, tail}
+use lib.ListN.{getD, drop}
 use lib.Seq.{getD-take, getD-drop}
 use lib.Dec.{ltb}
 use borrow.Author.Tests.{ltb-true}
-use Rattle.records.specs.Outcome.{Outcome, Check, accepted, refused, pass, _then_, require}
+use Rattle.records.specs.Outcome.{Outcome, Check, accepted, refused, _then_, require}
 use Rattle.records.specs.Format.{recordSize, recordLimit, count}
 use Rattle.records.specs.Check.{lengthFits, vocabularyCheck}
 use Rattle.records.specs.Call.{recordCall}
@@ -34,11 +35,12 @@ use Rattle.types.proofs.Theorems.Comparison.{counts, different-first}
 use Rattle.scripts.specs.Format.{entrySize, entryLimit, partAt, entryAt, entries, queryOf, firstStep, chain}
 use Rattle.scripts.specs.Form as script
 use Rattle.scripts.specs.Run.{scriptCheck}
-use Rattle.scripts.proofs.Theorems.Form.{OnChain, length-sized, keeps-form, chain-ahead, chain-few}
-use Rattle.demands.specs.Table.{Row, rowsInTurn, recordRows, vocabularyTable, comparisonTable, entryRows, formTable}
-use Rattle.demands.specs.Table.{OpenFrames, framesAfter, stepRows, laterRows, chainTable, NoneApplies, Refuses, Follows}
-use Rattle.demands.proofs.Rows.{first, none-passed, refuses-first}
-use Rattle.demands.proofs.Tables.{form-is, vocabulary-follows, record-follows, comparison-follows, script-follows}
+use Rattle.scripts.proofs.Theorems.Form.{OnChain, KeepsForm, length-sized, keeps-form, chain-ahead, chain-few}
+use Rattle.demands.specs.Table.{Row, row, rowsInTurn, recordRows, nextRows, vocabularyTable, recordTable, termRow}
+use Rattle.demands.specs.Table.{comparisonTable, entryRows, firstStepRow, nextStepRows, formTable, OpenFrames, framesAfter}
+use Rattle.demands.specs.Table.{stepRows, laterRows, chainTable, NoneApplies, Refuses, Follows}
+use Rattle.demands.proofs.Rows.{first, row-passed, refuses-first}
+use Rattle.demands.proofs.Tables.{form-passed, vocabulary-follows, record-follows, comparison-follows, script-follows}
 
 -- A refusal's number is not 0 and fits a byte, and its place is at most m.
 abbrev pub Near : ℕ → ℕ → ℕ → Type 0
@@ -55,19 +57,21 @@ SmallVerdict m (accepted (equal s n)) = (s ≤ typeLimit) × (n ≤ typeLimit)
 SmallVerdict m (accepted (different t s n)) = (t < typeLimit) × (s ≤ typeLimit) × (n ≤ typeLimit)
 SmallVerdict m (refused n p) = Near m n p
 
--- Each row is near, if it is reached.
+-- Each row is near; each row that is reached is near.
+abbrev AllNear : ℕ → List Row → Type 0
+AllNear m rows = All (λ r. Near m (r .number) (r .place)) rows
+
 abbrev Bounded : ℕ → List Row → Type 0
 Bounded m [] = Unit {0}
 Bounded m (r ∷ rows) = Near m (r .number) (r .place) × (r .applies ≡ false → Bounded m rows)
 
--- what was not refused
-fits : (b : Bool) (n p : ℕ) → not b ≡ false → require b n p ≡ pass
-fits true n p e = refl
-fits false n p e = absurd (clash (cc))
-
 -- row 1
 measured : (v : List ℕ) → not (lengthFits v) ≡ false → Sized v
-measured v q = length-passed v (fits (lengthFits v) 1 0 q)
+measured v q = length-passed v (row-passed (lengthFits v) 1 0 q)
+
+-- row 13
+few-entries : (s : List ℕ) → not (script.lengthFits s) ≡ false → entries s ≤ entryLimit
+few-entries s q = omega (arith, length-sized s (row-passed (script.lengthFits s) 13 0 q) .most)
 
 none-right : (xs ys : List Row) → NoneApplies (xs ++ ys) → NoneApplies ys
 none-right [] ys h = h
@@ -78,17 +82,24 @@ none-left [] ys h = tt
 none-left (r ∷ xs) ys h = (h .0, none-left xs ys (h .1))
 
 module _ (m : ℕ) where
+  near-append : (xs ys : List Row) → AllNear m xs → AllNear m ys → AllNear m (xs ++ ys)
+  near-append [] ys h k = k
+  near-append (r ∷ xs) ys h k = (h .0, near-append xs ys (h .1) k)
+
+  near-turns : (rows : ℕ → List Row) (n i : ℕ) → i + n ≤ m → ((k : ℕ) → k ≤ m → AllNear m (rows k))
+      → AllNear m (rowsInTurn rows i n)
+  unfolding rowsInTurn
+  near-turns rows zero i h each = tt
+  near-turns rows (suc n) i h each =
+      near-append (rows i) (rowsInTurn rows (suc i) n) (each i (omega arith)) (near-turns rows n (suc i) (omega arith) each)
+
+  near-bounded : (rows : List Row) → AllNear m rows → Bounded m rows
+  near-bounded [] h = tt
+  near-bounded (r ∷ rows) h = (h .0, λ _. near-bounded rows (h .1))
+
   bounded-append : (xs ys : List Row) → Bounded m xs → (NoneApplies xs → Bounded m ys) → Bounded m (xs ++ ys)
   bounded-append [] ys h k = k tt
   bounded-append (r ∷ xs) ys h k = (h .0, λ q. bounded-append xs ys (h .1 q) (λ none. k (q, none)))
-
-  bounded-turns : (rows : ℕ → List Row) (n i : ℕ) → i + n ≤ m → ((k : ℕ) → k ≤ m → Bounded m (rows k))
-      → Bounded m (rowsInTurn rows i n)
-  unfolding rowsInTurn
-  bounded-turns rows zero i h each = tt
-  bounded-turns rows (suc n) i h each =
-      bounded-append (rows i) (rowsInTurn rows (suc i) n) (each i (omega arith))
-      (λ _. bounded-turns rows n (suc i) (omega arith) each)
 
   first-near : (rows : List Row) (n p : ℕ) → Bounded m rows → first rows ≡ refused n p → Near m n p
   first-near [] n p h e = absurd (clash (cc))
@@ -111,60 +122,45 @@ module _ (m : ℕ) where
   small {rows} {value} {answer = accepted x} f h k = let w = f .accepted-only x refl in omega (arith, k (w .0), w .1)
   small {rows} {value} {answer = refused n p} f h k = refusal-near rows n p h (f .refused-only n p refl)
 
-  vocabulary-bounded : recordLimit ≤ m → (v : List ℕ) → Bounded m (vocabularyTable v)
-  vocabulary-bounded large v = (
-    omega arith,
-    λ q.
-        let sized = measured v q in (
-          omega arith,
-          λ _.
-              bounded-append (rowsInTurn (recordRows v) 1 (count v - 1)) _
-              (bounded-turns (recordRows v) (count v - 1) 1 (omega arith) (λ i h.
-              (omega arith, λ _. (omega arith, λ _. (omega arith, λ _. (omega arith, λ _. (omega arith, λ _. tt)))))))
-              (λ _. (omega arith, λ _. bounded-turns _ (count v - 1) 1 (omega arith) (λ i h. (omega arith, λ _. tt)))),
-        ),
-  )
+  -- the rows after 1, where the length is as it should be
+  vocabulary-near : recordLimit ≤ m → (v : List ℕ) → Sized v → AllNear m (tail (vocabularyTable v))
+  vocabulary-near large v sized =
+      let turns = near-turns (recordRows v) (count v - 1) 1 (omega arith) (λ i h. omega arith) in
+      let links = near-turns (nextRows v) (count v - 1) 1 (omega arith) (λ i h. omega arith) in
+      (omega arith, near-append (rowsInTurn (recordRows v) 1 (count v - 1)) _ turns (omega arith, links))
 
-  form-bounded : (v s : List ℕ) → entryLimit ≤ m → queryOf s .a ≤ m → queryOf s .b ≤ m → Bounded m (formTable v s)
-  form-bounded v s large a b = (
-    omega arith,
-    λ q.
-        let sized = length-sized s (fits (script.lengthFits s) 13 0 q) in (
-          omega arith,
-          λ _. (
-            omega arith,
-            λ _. (
-              omega arith,
-              λ _. (
-                omega arith,
-                λ _.
-                    bounded-append (rowsInTurn (entryRows v s) 1 (entries s - 1)) _
-                    (bounded-turns (entryRows v s) (entries s - 1) 1 (omega arith) (λ i h.
-                    (omega arith, λ _. (omega arith, λ _. (omega arith, λ _. (omega arith, λ _. tt))))))
-                    (λ _. (omega arith, λ _. bounded-turns _ (entries s - 1) 1 (omega arith) (λ i h. (omega arith, λ _. tt)))),
-              ),
-            ),
-          ),
-        ),
-  )
+  vocabulary-bounded : recordLimit ≤ m → (v : List ℕ) → Bounded m (vocabularyTable v)
+  vocabulary-bounded large v =
+      (omega arith, λ q. near-bounded (tail (vocabularyTable v)) (vocabulary-near large v (measured v q)))
+
+  -- a script has few records, and its query's numbers are small
+  module _ (v s : List ℕ) (large : entryLimit ≤ m) (a : queryOf s .a ≤ m) (b : queryOf s .b ≤ m) where
+    form-near : entries s ≤ entryLimit → AllNear m (tail (formTable v s))
+    form-near few =
+        let turns = near-turns (entryRows v s) (entries s - 1) 1 (omega arith) (λ i h. omega arith) in
+        let links = near-turns (nextStepRows s) (entries s - 1) 1 (omega arith) (λ i h. omega arith) in
+        let entered = rowsInTurn (entryRows v s) 1 (entries s - 1) in
+        let linked = firstStepRow s ∷ rowsInTurn (nextStepRows s) 1 (entries s - 1) in
+        let rest = near-append entered linked turns (omega arith, links) in
+        (omega arith, (omega arith, (omega arith, (omega arith, rest))))
+
+    form-bounded : Bounded m (formTable v s)
+    form-bounded = (omega arith, λ q. near-bounded (tail (formTable v s)) (form-near (few-entries s q)))
 
   module _ (v s : List ℕ) where
-    later-bounded : (is : List ℕ) (frames : OpenFrames v s) (last : ℕ) → last ≤ m → All (λ i. i ≤ m) is
-        → Bounded m (laterRows v s frames last is)
+    later-near : (is : List ℕ) (frames : OpenFrames v s) (last : ℕ) → last ≤ m → All (λ i. i ≤ m) is
+        → AllNear m (laterRows v s frames last is)
     unfolding laterRows
-    later-bounded [] frames last h all = (omega arith, λ _. tt)
-    later-bounded (i ∷ is) frames last h all =
-        let near = all .0 in
-        bounded-append (stepRows v s frames i) (laterRows v s (framesAfter v s frames i) i is)
-        (omega arith, λ _. (omega arith, λ _. (omega arith, λ _. (omega arith, λ _. (omega arith, λ _. tt)))))
-        (λ _. later-bounded is (framesAfter v s frames i) i near (all .1))
+    later-near [] frames last h all = omega arith
+    later-near (i ∷ is) frames last h all =
+        let next = framesAfter v s frames i in
+        near-append (stepRows v s frames i) (laterRows v s next i is) (omega (arith, all .0))
+        (later-near is next i (all .0) (all .1))
 
-    chain-bounded : (is : List ℕ) → All (λ i. i ≤ m) is → Bounded m (chainTable v s is)
+    chain-near : (is : List ℕ) → All (λ i. i ≤ m) is → AllNear m (chainTable v s is)
     unfolding chainTable
-    chain-bounded [] all = (omega arith, λ _. tt)
-    chain-bounded (i ∷ is) all =
-        let near = all .0 in
-        (omega arith, λ _. later-bounded is (framesAfter v s [] i) i near (all .1))
+    chain-near [] all = omega arith
+    chain-near (i ∷ is) all = (omega (arith, all .0), later-near is (framesAfter v s [] i) i (all .0) (all .1))
 
 pub vocabulary-small : (v : List ℕ) → Small recordLimit (vocabularyCheck v)
 vocabulary-small v =
@@ -173,10 +169,11 @@ vocabulary-small v =
 
 pub record-small : (v : List ℕ) (n : ℕ) → Small (max (recordSize * recordLimit) n) (recordCall v n)
 record-small v n =
-    small (max (recordSize * recordLimit) n) (record-follows v n) (omega arith, λ _. (omega arith, λ _. tt))
+    let m = max (recordSize * recordLimit) n in
+    small m (record-follows v n) (near-bounded m (recordTable v n) (omega arith))
     (λ none.
     let sized = measured v (none .0) in
-    let below = ltb-true n (count v) (require-passed (ltb n (count v)) 9 n (fits (ltb n (count v)) 9 n (none .1 .0))) in
+    let below = ltb-true n (count v) (require-passed (ltb n (count v)) 9 n (row-passed (ltb n (count v)) 9 n (none .1 .0))) in
     omega arith)
 
 members-types : (v : List ℕ) → members (survivors v) ≤ types v
@@ -205,8 +202,8 @@ module _ (v : List ℕ) (a b lent : ℕ) where
   comparison-bounded =
       bounded-append most (vocabularyTable v) _ (vocabulary-bounded most (omega arith) v) (λ none.
       let sized = measured v (none .0) in
-      let few : atoms v ≤ recordLimit = omega (arith, rank-bound v (count v)) in
-      (omega arith, λ _. (omega arith, λ _. (omega arith, λ _. (omega arith, λ _. tt)))))
+      near-bounded most (termRow v a ∷ termRow v b ∷ row 11 (atoms v) _ ∷ row 12 0 _ ∷ [])
+      (omega (arith, rank-bound v (count v))))
 
   pub comparison-small : SmallVerdict most (comparison v a b lent)
   comparison-small = at (comparison v a b lent) refl
@@ -221,27 +218,28 @@ module _ (v : List ℕ) (a b lent : ℕ) where
 abbrev pub mostPlace : List ℕ → ℕ
 mostPlace s = max entryLimit (max (queryOf s .a) (queryOf s .b))
 
--- numbers of the chain of a keeps-form script
+-- numbers of the chain of a script that keeps the form
 chain-within : (m : ℕ) (s : List ℕ) (is : List ℕ) → entries s ≤ m → All (OnChain s) is → All (λ i. i ≤ m) is
 chain-within m s [] h a = tt
 chain-within m s (i ∷ is) h a = (omega (arith, a .0 .within), chain-within m s is h (a .1))
+
+-- where no row of the form applies
+kept-form : (v s : List ℕ) → NoneApplies (vocabularyTable v ++ formTable v s) → KeepsForm v s
+kept-form v s none =
+    keeps-form v s (form-passed v s (none-right (vocabularyTable v) (formTable v s) none))
 
 pub script-small : (v s : List ℕ) → Small (mostPlace s) (scriptCheck v s)
 script-small v s =
     let m = mostPlace s in
     let begun = vocabularyTable v ++ formTable v s in
-    let passed : NoneApplies begun → script.formCheck v s ≡ pass
-    = λ none. sym (form-is v s .same) ∙ none-passed (formTable v s) (none-right (vocabularyTable v) (formTable v s) none) in
+    let form = form-bounded m v s (omega arith) (omega arith) (omega arith) in
+    let rows = bounded-append m (vocabularyTable v) _ (vocabulary-bounded m (omega arith) v) (λ _. form) in
     small m (script-follows v s)
-    (bounded-append m begun _
-    (bounded-append m (vocabularyTable v) _ (vocabulary-bounded m (omega arith) v)
-    (λ _. form-bounded m v s (omega arith) (omega arith) (omega arith)))
-    (λ none.
-    let f = keeps-form v s (passed none) in
-    chain-bounded m v s (chain s) (chain-within m s (chain s) (omega (arith, f .sized .most)) (chain-ahead v s f))))
-    (λ none.
-    let f = keeps-form v s (passed (none-left begun _ none)) in
-    omega (arith, f .sized .most, chain-few s (firstStep s)))
+    (bounded-append m begun _ rows (λ none.
+    let f = kept-form v s none in
+    let chained = chain-within m s (chain s) (omega (arith, f .sized .most)) (chain-ahead v s f) in
+    near-bounded m (chainTable v s (chain s)) (chain-near m v s (chain s) chained)))
+    (λ none. omega (arith, kept-form v s (none-left begun _ none) .sized .most, chain-few s (firstStep s)))
 
 header-byte : (s : List ℕ) (i : ℕ) → i < entrySize → ((j : ℕ) → getD s j 0 < 256) → getD (partAt s 0) i 0 < 256
 header-byte s i h bytes =

@@ -1,11 +1,13 @@
 -- The three demands, proved: specs/Demands.antt states them.
 -- Assumes nothing.
 use lib.ListN.{length}
+use Rattle.records.specs.Format.{count}
 use Rattle.types.specs.Comparison.{verdict}
 use Rattle.types.proofs.Theorems.Verdicts.{answers-always}
 use Rattle.scripts.proofs.Theorems.Scripts.{checked-parts, accepted-derives, derives-accepted, accepted-within}
 use Rattle.demands.specs.Demands.{Demand1, Demand2, Demand3}
-use Rattle.demands.proofs.Tables.{vocabulary-follows, record-follows, comparison-follows, script-follows}
+use Rattle.demands.proofs.Tables.{form-passed, term-passed, vocabulary-follows, record-follows}
+use Rattle.demands.proofs.Tables.{comparison-follows, script-follows}
 use Rattle.demands.proofs.Denials.{right-verdict}
 
 pub demand-1 : Demand1
@@ -22,14 +24,16 @@ demand-1 =
 pub demand-2 : Demand2
 demand-2 =
     record {
-      exact = λ v s m e form. record {
+      exact = λ v s good kept. record {
         only = λ n h. (accepted-derives v s n h, checked-parts v s n h .counted);
-        always = derives-accepted v s m e form;
+        always = derives-accepted v s (count v) (vocabulary-follows v .accepted-always good) (form-passed v s kept);
       };
       means = accepted-within;
     }
 
 pub demand-3 : Demand3
-demand-3 v a b m lent e s t few room =
-    let answers = answers-always v a b (length lent) m e s t few room in
+demand-3 v a b lent good s t few room =
+    let accepts = vocabulary-follows v .accepted-always good in
+    let answers =
+    answers-always v a b (length lent) (count v) accepts (term-passed v a s) (term-passed v b t) few room in
     record { answer = verdict v a b; answers = answers; right = right-verdict v a b lent (verdict v a b) answers }

@@ -1,9 +1,9 @@
--- Rows as checks (Rows), each call is its table (Tables), what is shown apart has no script (Denials); the demands (Demands), what
--- the calls return (Returns), the samples (Samples).
+-- Rows as checks (Rows); each call is its table (Tables), from which its answers are bounded (Bounds); what is shown apart has no
+-- script (Denials); the demands (Demands), what the calls return (Returns), the samples (Samples).
 pub mod Rows
 pub mod Tables
+pub mod Bounds
 pub mod Denials
 pub mod Demands
 pub mod Returns
-pub mod Bounds
 pub mod Samples

@@ -4,7 +4,7 @@
 use Prim.Native.Nat.{ℕ, _+_, _≤_}
 use native.Mathlib.Omega.{arith}
 use mathlib.Core.Path.{_≡_, refl, sym, ap, _∙_}
-use mathlib.Core.List.{List, []}
+use mathlib.Core.List.{List}
 use lib.ListN.{length, length-take, length-drop}
 use Rattle.records.specs.Outcome.{Outcome, accepted, refused}
 use Rattle.records.specs.Check.{vocabularyCheck}
@@ -28,7 +28,7 @@ use Rattle.scripts.specs.Answers as scripts
 use Rattle.scripts.specs.declared.answers.Judged.{Judged}
 use Rattle.scripts.specs.declared.answers.Judged.the-variants as judged
 use Rattle.scripts.proofs.Theorems.Scripts.{checked-parts, accepted-derives, accepted-within}
-use Rattle.demands.specs.Returns.{VocabularyReturns, OffsetReturns, RecordReturns, handed, empty, Settled}
+use Rattle.demands.specs.Returns.{VocabularyReturns, OffsetReturns, RecordReturns, handed, empty, EitherAnswer}
 use Rattle.demands.specs.Returns.{ComparisonReturns, ScriptReturns}
 use Rattle.demands.proofs.Tables.{vocabulary-follows, record-follows, comparison-follows, script-follows}
 use Rattle.demands.proofs.Denials.{right-verdict}
@@ -54,7 +54,7 @@ record-returns v number part e = at (recordCall v number) refl e
 module _ (v : List ℕ) (a b : ℕ) (before after : List ℕ) where
   settled : (x : Verdict) (alive done : ℕ) → comparison v a b (length before) ≡ accepted x
       → after ≡ written (comparison v a b (length before)) v before → alive ≡ members (survivors v) → done ≡ rounds v
-      → Settled v a b before after alive done
+      → EitherAnswer v a b before after alive done
   settled x alive done e w c d =
       record {
         none = comparison-follows v a b (length before) .accepted-only x e .0;

@@ -1,6 +1,7 @@
 -- A list of rows as a check, and what follows from that.
 --   first                                   the refusal of the first row that applies
---   append-is, row-is, plain-is, last-is, turns-are   rows are the checks that they are made of
+--   Tries, append-is, row-is, plain-is, last-is, turns-are   rows are the checks that they are made of
+--   none-passed, row-passed, refuses-first  no row applies; a row does not; the first that applies
 --   follows                                 a call that tries its rows and then has a value follows them
 -- Assumes nothing.
 use Prim.Native.Nat.{ℕ, zero, suc}
@@ -64,6 +65,11 @@ passed-none (r ∷ rows) e = at (r .applies) refl e (passed-none rows)
         → (first rows ≡ pass → NoneApplies rows) → (r .applies ≡ false) × NoneApplies rows
     at true q h more = absurd (clash (cc))
     at false q h more = (q, more h)
+
+-- a row that does not apply, where its condition is that something is not so
+pub row-passed : (b : Bool) (n p : ℕ) → not b ≡ false → require b n p ≡ pass
+row-passed true n p e = refl
+row-passed false n p e = absurd (clash (cc))
 
 pub refuses-first : (rows : List Row) (n p : ℕ) → Refuses rows n p → first rows ≡ refused n p
 refuses-first rows n p r =

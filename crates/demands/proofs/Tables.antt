@@ -1,6 +1,7 @@
 -- Each call is its table: it tries the rows in their order and then has a value.
---   records-are, form-is, chain-is                        rows 1 to 8; 13 to 19; 20 to 25
---   vocabulary-follows, record-follows, comparison-follows, script-follows    the four calls
+--   records-are, form-is, chain-is    rows 1 to 8; 13 to 19; 20 to 25
+--   term-passed, form-passed          what row 10, and what the form, lets through
+--   vocabulary-follows, record-follows, comparison-follows, script-follows   the four calls
 -- Assumes nothing.
 use Prim.Native.Nat.{ℕ, _*_, _-_}
 use mathlib.Core.Path.{_≡_, refl, sym, _∙_}
@@ -8,7 +9,7 @@ use mathlib.Core.Bool.{_&&_}
 use mathlib.Core.List.{List, [], _∷_}
 use lib.ListN.{length}
 use lib.Dec.{ltb, leb}
-use Rattle.records.specs.Outcome.{Outcome, Check, accepted, refused, _then_, require}
+use Rattle.records.specs.Outcome.{Outcome, Check, accepted, refused, pass, _then_, require}
 use Rattle.records.specs.Format.{recordAt, count, firstStatement}
 use Rattle.records.specs.Kinds.{sortsOf, isTerm}
 use Rattle.records.specs.Check.{lengthFits, lengthCheck, headerFits, kindFits, rowFits, recordCheck, linkFits, nextFits}
@@ -20,9 +21,11 @@ use Rattle.scripts.specs.Format.{entryAt, entries, queryOf, firstStep, lineOf, 
 use Rattle.scripts.specs.Form as script
 use Rattle.records.specs.Finite.{isNil}
 use Rattle.scripts.specs.Run.{isStart, connects, reduces, hasRoom, stepCheck, run, chainCheck, writtenOut, stepAt, scriptCheck}
-use Rattle.demands.specs.Table.{Row, recordRows, vocabularyTable, recordTable, termRow, comparisonTable, entryRows}
-use Rattle.demands.specs.Table.{Follows, formTable, OpenFrames, framesAfter, stepRows, laterRows, chainTable, scriptTable}
-use Rattle.demands.proofs.Rows.{then-assoc, Tries, follows, append-is, row-is, plain-is, last-is, turns-are}
+use Rattle.demands.specs.Table.{Row, Follows, recordRows, nextRows, vocabularyTable, recordTable, termRow}
+use Rattle.demands.specs.Table.{comparisonTable, entryRows, nextStepRows, formTable, OpenFrames, framesAfter, stepRows}
+use Rattle.demands.specs.Table.{laterRows, chainTable, scriptTable, TermOf, InForm}
+use Rattle.demands.proofs.Rows.{then-assoc, none-passed, row-passed, Tries, follows}
+use Rattle.demands.proofs.Rows.{append-is, row-is, plain-is, last-is, turns-are}
 
 -- what comes after the vocabulary check comes after its rows
 after-count : {B C : Type 0} (v : List ℕ) (b : Outcome B) (c : Outcome C)
@@ -52,7 +55,7 @@ module _ (v : List ℕ) where
       (row-is (headerFits (recordAt v 0)) 2 0
       (append-is (turns-are (recordRows v) (recordCheck v) (count v - 1) 1 record-rows-are)
       (row-is (linkFits v 0 (firstStatement v)) 8 0
-      (turns-are _ (linkCheck v) (count v - 1) 1 (λ i. last-is (nextFits v i) 8 i)))))
+      (turns-are (nextRows v) (linkCheck v) (count v - 1) 1 (λ i. last-is (nextFits v i) 8 i)))))
 
   pub vocabulary-follows : Follows (vocabularyTable v) (count v) (vocabularyCheck v)
   unfolding vocabularyCheck
@@ -66,6 +69,9 @@ module _ (v : List ℕ) where
 
   term-is : (x : ℕ) {rows : List Row} {c : Check} → Tries rows c → Tries (termRow v x ∷ rows) (termCheck v x then c)
   term-is x = row-is (ltb x (count v) && isTerm (recordAt v x .kind)) 10 x
+
+  pub term-passed : (x : ℕ) → TermOf v x → termCheck v x ≡ pass
+  term-passed x h = row-passed (ltb x (count v) && isTerm (recordAt v x .kind)) 10 x (h .0)
 
   pub comparison-follows : (a b lent : ℕ) → Follows (comparisonTable v a b lent) (verdict v a b) (comparison v a b lent)
   unfolding comparison
@@ -82,17 +88,20 @@ module _ (v s : List ℕ) where
       (row-is (script.unusedFits e) 16 i
       (row-is (script.termFits v s i (lineOf e)) 17 i (last-is (script.lineFits v s i (lineOf e)) 18 i)))
 
-  pub form-is : Tries (formTable v s) (script.formCheck v s)
+  form-is : Tries (formTable v s) (script.formCheck v s)
   unfolding script.formCheck script.linkCheck
   form-is =
       let entered = turns-are (entryRows v s) (script.entryCheck v s) (entries s - 1) 1 entry-rows-are in
-      let linked = turns-are _ (script.linkCheck s) (entries s - 1) 1 (λ i. last-is (script.nextFits s i) 19 i) in
+      let linked = turns-are (nextStepRows s) (script.linkCheck s) (entries s - 1) 1 (λ i. last-is (script.nextFits s i) 19 i) in
       let b = queryOf s .b in
       let asked = term-is v (queryOf s .a) (last-is (ltb b (count v) && isTerm (recordAt v b .kind)) 10 b) in
       row-is (script.lengthFits s) 13 0
       (row-is (script.headerFits (entryAt s 0)) 14 0
       (append-is asked
       (append-is (row-is (ltb 1 (entries s)) 17 1 entered) (row-is (script.linkFits s 0 (firstStep s)) 19 0 linked))))
+
+  pub form-passed : InForm v s → script.formCheck v s ≡ pass
+  form-passed kept = sym (form-is .same) ∙ none-passed (formTable v s) kept
 
   step-rows-are : (frames : OpenFrames v s) (i : ℕ)
       → Tries (stepRows v s frames i) (stepCheck (writtenOut v (queryOf s)) i frames (stepAt s i))

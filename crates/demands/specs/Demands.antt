@@ -5,19 +5,19 @@ use mathlib.Core.Path.{_≡_}
 use mathlib.Core.Bool.{true, not}
 use mathlib.Core.List.{List, [], map}
 use lib.ListN.{length}
-use Rattle.records.specs.Outcome.{accepted, refused, pass}
+use Rattle.records.specs.Outcome.{accepted, refused}
 use Rattle.records.specs.Format.{count}
 use Rattle.records.specs.Check.{vocabularyCheck}
 use Rattle.records.specs.Call.{recordCall, recordPart}
 use Rattle.records.specs.Atoms.{atoms}
 use Rattle.types.specs.Meaning.{Interpretation, Element, belongs, Model, AlwaysEqual, AlwaysWithin}
-use Rattle.types.specs.Comparison.{Verdict, equal, different, verdict, termCheck, comparison}
+use Rattle.types.specs.Comparison.{Verdict, equal, different, verdict, comparison}
 use Rattle.types.specs.Bitmap.{written, readBack}
 use Rattle.scripts.specs.Format.{queryOf, chain}
-use Rattle.scripts.specs.Form.{formCheck}
 use Rattle.scripts.specs.Calculus.{Derives}
 use Rattle.scripts.specs.Run.{stepAt, scriptCheck}
 use Rattle.demands.specs.Table.{vocabularyTable, recordTable, comparisonTable, scriptTable, Follows}
+use Rattle.demands.specs.Table.{AcceptedVocabulary, TermOf, InForm}
 
 -- Demand 1: "Every call ends on every input, refuses unfit input itself by a fixed number and place, and a refusal alters no
 -- lent byte." Each call follows its table; otherwise it answers the number of records, the record's offset, the verdict, the
@@ -45,7 +45,7 @@ pub record Exact (v s : List ℕ) : Type 0 where
 -- Demand 2: that, and "acceptance means that the first term lies within the second in every finite interpretation satisfying the
 -- statements", whoever proposed the script and whatever the bytes are.
 pub record Demand2 : Type 0 where
-  pub exact : (v s : List ℕ) (m : ℕ) → vocabularyCheck v ≡ accepted m → formCheck v s ≡ pass → Exact v s
+  pub exact : (v s : List ℕ) → AcceptedVocabulary v → InForm v s → Exact v s
   pub means : (v s : List ℕ) (n : ℕ) → scriptCheck v s ≡ accepted n → AlwaysWithin v (queryOf s .a) (queryOf s .b)
 
 -- No script that asks whether a lies within b is accepted.
@@ -76,8 +76,8 @@ pub record Decided (v : List ℕ) (a b : ℕ) (lent : List ℕ) : Type 0 where
   pub right : Right v a b (written (comparison v a b (length lent)) v lent) answer
 
 -- Demand 3: "For any two terms of an accepted vocabulary of at most 12 atoms, with at least 512 bytes lent, the comparison"
--- decides that. A term is what row 10 lets through.
+-- decides that.
 abbrev pub Demand3 : Type 0
 Demand3 =
-    (v : List ℕ) (a b m : ℕ) (lent : List ℕ) → vocabularyCheck v ≡ accepted m → termCheck v a ≡ pass → termCheck v b ≡ pass
-    → atoms v ≤ 12 → 512 ≤ length lent → Decided v a b lent
+    (v : List ℕ) (a b : ℕ) (lent : List ℕ) → AcceptedVocabulary v → TermOf v a → TermOf v b → atoms v ≤ 12 → 512 ≤ length lent
+    → Decided v a b lent

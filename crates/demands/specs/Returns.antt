@@ -17,12 +17,13 @@ use Rattle.types.specs.declared.answers.Compared.the-variants as compared
 use Rattle.scripts.specs.Format.{queryOf, chain}
 use Rattle.scripts.specs.declared.answers.Judged.{Judged}
 use Rattle.scripts.specs.declared.answers.Judged.the-variants as judged
-use Rattle.demands.specs.Table.{vocabularyTable, recordTable, comparisonTable, scriptTable, NoneApplies, Refuses}
+use Rattle.demands.specs.Table.{vocabularyTable, recordTable, comparisonTable, scriptTable, AcceptedVocabulary}
+use Rattle.demands.specs.Table.{NoneApplies, Refuses}
 use Rattle.demands.specs.Demands.{ChainDerives, Shown}
 
 -- The vocabulary check "answers the number of records, header included".
 abbrev pub VocabularyReturns : List ℕ → Counted → Type 0
-VocabularyReturns v (counted.Records n) = NoneApplies (vocabularyTable v) × (n ≡ count v)
+VocabularyReturns v (counted.Records n) = AcceptedVocabulary v × (n ≡ count v)
 VocabularyReturns v (counted.Refused n p) = Refuses (vocabularyTable v) n p
 
 -- The offset of a record.
@@ -36,9 +37,9 @@ pub data RecordReturns (v : List ℕ) (number : ℕ) (part : List ℕ) : Type 0 
       → RecordReturns v number part
   empty : (n p : ℕ) → Refuses (recordTable v number) n p → part ≡ [] → RecordReturns v number part
 
--- What goes with either answer of the comparison: "the number of survivors and of rounds that removed something", and the lent
--- bytes after the call, the survivors in "the first 512 bytes .. ; later bytes keep their content".
-pub record Settled (v : List ℕ) (a b : ℕ) (before after : List ℕ) (alive done : ℕ) : Type 0 where
+-- What goes with either answer of the comparison: "the number of survivors and of rounds that removed something", and the bytes
+-- after the call, the survivors "in the first 512 bytes, the rest of which are 0; later bytes keep their content".
+pub record EitherAnswer (v : List ℕ) (a b : ℕ) (before after : List ℕ) (alive done : ℕ) : Type 0 where
   pub none : NoneApplies (comparisonTable v a b (length before))
   pub counted : alive ≡ members (survivors v)
   pub elapsed : done ≡ rounds v
@@ -48,9 +49,9 @@ pub record Settled (v : List ℕ) (a b : ℕ) (before after : List ℕ) (alive d
 -- show it by the element. Refused: the bytes are as they were.
 abbrev pub ComparisonReturns : List ℕ → ℕ → ℕ → List ℕ → List ℕ → Compared → Type 0
 ComparisonReturns v a b before after (compared.Equal alive done) =
-    AlwaysEqual v a b × Settled v a b before after alive done
+    AlwaysEqual v a b × EitherAnswer v a b before after alive done
 ComparisonReturns v a b before after (compared.Different t alive done) =
-    (AlwaysEqual v a b → ⊥) × Shown (readBack v after) v a b t × Settled v a b before after alive done
+    (AlwaysEqual v a b → ⊥) × Shown (readBack v after) v a b t × EitherAnswer v a b before after alive done
 ComparisonReturns v a b before after (compared.Refused n p) =
     Refuses (comparisonTable v a b (length before)) n p × (after ≡ before)
 

@@ -105,8 +105,8 @@ S₇ = asking 4 3 2 (constant (start 1 3 (extension 5 0 1 1 4 (extension 0 0 1 0
 abbrev pub S₈ : List ℕ
 S₈ = asking 4 3 2 (constant (start 1 3 (extension 5 0 1 1 0 [])))
 
--- "query 2 within 1: start 0; owner 2, column 1, x = a, position 0; owner 1, column 0, x = f2(a), position 0", where that x, f2(a)
--- or a, is left open
+-- "query 2 within 1: start 0; owner 2, column 1, x = a, position 0; owner 1, column 0, x = f2(a), position 0", the last x, of
+-- which there are two, left open
 abbrev pub S₉ : ℕ → List ℕ
 S₉ x = asking 2 1 3 (constant (function 2 1 (start 0 4 (extension 2 1 1 0 5 (extension 1 0 x 0 0 [])))))
 

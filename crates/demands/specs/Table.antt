@@ -30,6 +30,16 @@ unfoldable pub rowsInTurn : (ℕ → List Row) → ℕ → ℕ → List Row
 rowsInTurn rows i zero = []
 rowsInTurn rows i (suc n) = rows i ++ rowsInTurn rows (suc i) n
 
+-- The rows, in the paper's order; a line between bars is the paper's.
+
+-- | Vocabulary length | 1 | under 8, over 4,096 or no multiple of 8 | 0 |
+abbrev pub lengthRow : List ℕ → Row
+lengthRow v = row 1 0 (not (lengthFits v))
+
+-- | Its header | 2 | kind, second byte, role count or next | 0 |
+abbrev pub headerRow : List ℕ → Row
+headerRow v = row 2 0 (not (headerFits (recordAt v 0)))
+
 -- | Each record in turn | 3 | kind not 1 to 9, or second byte | record |
 -- | | 4 | unused field not zero | record |
 -- | | 5 | term number | record |
@@ -45,41 +55,42 @@ recordRows v i =
     ∷ row 7 i (not (rowFits v i 7 (sortsOf (r .kind)) r))
     ∷ []
 
--- | Vocabulary length | 1 | under 8, over 4,096 or no multiple of 8 | 0 |
--- | Its header | 2 | kind, second byte, role count or next | 0 |
 -- | Header A, then each statement's next | 8 | not 0 and not a later statement | record |
-abbrev pub vocabularyTable : List ℕ → List Row
-vocabularyTable v =
-    row 1 0 (not (lengthFits v))
-    ∷ row 2 0 (not (headerFits (recordAt v 0)))
-    ∷ rowsInTurn (recordRows v) 1 (count v - 1)
-    ++ row 8 0 (not (linkFits v 0 (firstStatement v)))
-    ∷ rowsInTurn (λ i. row 8 i (not (nextFits v i)) ∷ []) 1 (count v - 1)
+abbrev pub headerLinkRow : List ℕ → Row
+headerLinkRow v = row 8 0 (not (linkFits v 0 (firstStatement v)))
+
+abbrev pub nextRows : List ℕ → ℕ → List Row
+nextRows v i = row 8 i (not (nextFits v i)) ∷ []
 
 -- | Record call, after 1 | 9 | number past the end | number |
-abbrev pub recordTable : List ℕ → ℕ → List Row
-recordTable v number = row 1 0 (not (lengthFits v)) ∷ row 9 number (not (ltb number (count v))) ∷ []
+abbrev pub numberRow : List ℕ → ℕ → Row
+numberRow v number = row 9 number (not (ltb number (count v)))
 
 -- | Query A, then B | 10 | no term record | number |
 abbrev pub termRow : List ℕ → ℕ → Row
 termRow v x = row 10 x (not (ltb x (count v) && isTerm (recordAt v x .kind)))
 
 -- | Comparison | 11 | k over 12 | k |
+abbrev pub atomsRow : List ℕ → Row
+atomsRow v = row 11 (atoms v) (not (leb (atoms v) 12))
+
 -- | | 12 | under 512 bytes lent | 0 |
--- "The order for a comparison is 1 to 8, 10, 11, 12"
-abbrev pub comparisonTable : List ℕ → ℕ → ℕ → ℕ → List Row
-comparisonTable v a b lent =
-    vocabularyTable v
-    ++ termRow v a
-    ∷ termRow v b
-    ∷ row 11 (atoms v) (not (leb (atoms v) 12))
-    ∷ row 12 0 (not (leb 512 lent))
-    ∷ []
+abbrev pub lentRow : ℕ → Row
+lentRow lent = row 12 0 (not (leb 512 lent))
+
+-- | Script length, after 1 to 8 | 13 | under 16, over 32,768 or no multiple of 16 | 0 |
+abbrev pub scriptLengthRow : List ℕ → Row
+scriptLengthRow s = row 13 0 (not (script.lengthFits s))
+
+-- | Script header, then 10 | 14 | w0, or w4 to w7 | 0 |
+abbrev pub scriptHeaderRow : List ℕ → Row
+scriptHeaderRow s = row 14 0 (not (script.headerFits (entryAt s 0)))
 
 -- | Each script record in turn | 15 | kind not 1 to 5 | record |
 -- | | 16 | unused word not zero | record |
 -- | | 17 | term rule; record 1 absent or not the constant | record, 1 if absent |
--- | | 18 | start's w1 over 1; extension's owner, column or position not one that exists, .. | record |
+-- | | 18 | start's w1 over 1; extension's owner, column or position not one that exists, w3 or a needed w4 not an earlier term
+-- record, w3 not 1 for owner 0, w4 not 0 without y, or a statement off the chain | record |
 abbrev pub entryRows : List ℕ → List ℕ → ℕ → List Row
 entryRows v s i =
     let e = entryAt s i in
@@ -89,22 +100,18 @@ entryRows v s i =
     ∷ row 18 i (not (script.lineFits v s i (lineOf e)))
     ∷ []
 
--- "A script keeps the form when none of 13, 14, 10 and 15 to 19 applies"
--- | Script length, after 1 to 8 | 13 | under 16, over 32,768 or no multiple of 16 | 0 |
--- | Script header, then 10 | 14 | w0, or w4 to w7 | 0 |
--- | w3, then each step's next | 19 | not 0 and not a later step | record |
-abbrev pub formTable : List ℕ → List ℕ → List Row
-formTable v s =
-    row 13 0 (not (script.lengthFits s))
-    ∷ row 14 0 (not (script.headerFits (entryAt s 0)))
-    ∷ termRow v (queryOf s .a)
-    ∷ termRow v (queryOf s .b)
-    ∷ row 17 1 (not (ltb 1 (entries s)))
-    ∷ rowsInTurn (entryRows v s) 1 (entries s - 1)
-    ++ row 19 0 (not (script.linkFits s 0 (firstStep s)))
-    ∷ rowsInTurn (λ i. row 19 i (not (script.nextFits s i)) ∷ []) 1 (entries s - 1)
+-- Row 17, where there is no record 1.
+abbrev pub absentRow : List ℕ → Row
+absentRow s = row 17 1 (not (ltb 1 (entries s)))
 
--- Along the chain of a script: the steps are read, and the frames kept, as specs/Run of scripts says.
+-- | w3, then each step's next | 19 | not 0 and not a later step | record |
+abbrev pub firstStepRow : List ℕ → Row
+firstStepRow s = row 19 0 (not (script.linkFits s 0 (firstStep s)))
+
+abbrev pub nextStepRows : List ℕ → ℕ → List Row
+nextStepRows s i = row 19 i (not (script.nextFits s i)) ∷ []
+
+-- Along the chain of a script, the steps are read and the frames kept as Run of scripts says.
 module _ (v s : List ℕ) where
   abbrev pub OpenFrames : Type 0
   OpenFrames = Frames (Literal SkolemTerm)
@@ -133,12 +140,46 @@ module _ (v s : List ℕ) where
   laterRows frames last [] = row 24 last (not (isNil frames)) ∷ []
   laterRows frames last (i ∷ rest) = stepRows frames i ++ laterRows (framesAfter frames i) i rest
 
-  -- The first step has to be a start, and then none of the others applies.
+  -- The first step has to be a start, and then none of the others applies to it.
   unfoldable pub chainTable : List ℕ → List Row
   chainTable [] = row 20 0 true ∷ []
   chainTable (i ∷ rest) = row 20 i (not (isStart (stepAt s i))) ∷ laterRows (framesAfter [] i) i rest
 
--- The order "for a script check [is] 1 to 8, 13, 14, 10, then 15 on"
+-- The tables of the calls. The vocabulary check:
+abbrev pub vocabularyTable : List ℕ → List Row
+vocabularyTable v =
+    lengthRow v
+    ∷ headerRow v
+    ∷ rowsInTurn (recordRows v) 1 (count v - 1)
+    ++ headerLinkRow v
+    ∷ rowsInTurn (nextRows v) 1 (count v - 1)
+
+-- The record call, "after 1":
+abbrev pub recordTable : List ℕ → ℕ → List Row
+recordTable v number = lengthRow v ∷ numberRow v number ∷ []
+
+-- "The order for a comparison is 1 to 8, 10, 11, 12":
+abbrev pub comparisonTable : List ℕ → ℕ → ℕ → ℕ → List Row
+comparisonTable v a b lent =
+    vocabularyTable v
+    ++ termRow v a
+    ∷ termRow v b
+    ∷ atomsRow v
+    ∷ lentRow lent
+    ∷ []
+
+-- "for a script check 1 to 8, 13, 14, 10, then 15 on", of which 13 to 19 are the form:
+abbrev pub formTable : List ℕ → List ℕ → List Row
+formTable v s =
+    scriptLengthRow s
+    ∷ scriptHeaderRow s
+    ∷ termRow v (queryOf s .a)
+    ∷ termRow v (queryOf s .b)
+    ∷ absentRow s
+    ∷ rowsInTurn (entryRows v s) 1 (entries s - 1)
+    ++ firstStepRow s
+    ∷ rowsInTurn (nextStepRows s) 1 (entries s - 1)
+
 abbrev pub scriptTable : List ℕ → List ℕ → List Row
 scriptTable v s = vocabularyTable v ++ formTable v s ++ chainTable v s (chain s)
 
@@ -146,6 +187,18 @@ scriptTable v s = vocabularyTable v ++ formTable v s ++ chainTable v s (chain s)
 abbrev pub NoneApplies : List Row → Type 0
 NoneApplies [] = Unit {0}
 NoneApplies (r ∷ rows) = (r .applies ≡ false) × NoneApplies rows
+
+-- "A vocabulary is accepted when no refusal of the vocabulary check applies to it (here 1 to 8)"
+abbrev pub AcceptedVocabulary : List ℕ → Type 0
+AcceptedVocabulary v = NoneApplies (vocabularyTable v)
+
+-- "its terms are its records of kinds 1 to 8": row 10 does not apply.
+abbrev pub TermOf : List ℕ → ℕ → Type 0
+TermOf v x = NoneApplies (termRow v x ∷ [])
+
+-- "A script keeps the form when none of 13, 14, 10 and 15 to 19 applies"
+abbrev pub InForm : List ℕ → List ℕ → Type 0
+InForm v s = NoneApplies (formTable v s)
 
 -- "The first that applies in table order is given": a row with number n and place p applies, and none before it does.
 pub record Refuses (rows : List Row) (n p : ℕ) : Type 0 where

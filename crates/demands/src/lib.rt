@@ -1,6 +1,6 @@
-// The library's calls: those of the crates below, with the three demands as their contracts. Each says that the answer is that of
-// the paper's definition, what follows for a caller (specs/Returns.antt), and that lent bytes are as before, or what is there now.
-// That every call ends, on every input, is part of what the prover checks.
+// The library's calls: those of the crates below, with the three demands as their contracts. Each says that the answer is the
+// definition's, what that tells a caller (specs/Returns.antt), and what the lent bytes are after the call. Only the comparison is
+// lent bytes that it may write. That a call ends on every input is part of what the prover checks of every function.
 use records::answers::Counted;
 use records::answers::Located;
 use scripts::answers::Judged;
