@@ -1,9 +1,3 @@
--- Rows as checks (Rows); each call is its table (Tables), from which its answers are bounded (Bounds); what is shown apart has no
--- script (Denials); the demands (Demands), what the calls return (Returns), the samples (Samples).
-pub mod Rows
-pub mod Tables
-pub mod Bounds
-pub mod Denials
-pub mod Demands
-pub mod Returns
-pub mod Samples
+-- Proofs that belong to no one function; those of a function stand in the folder of its name.
+mod Laws
+pub mod Theorems

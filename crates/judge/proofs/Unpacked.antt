@@ -1,9 +1,9 @@
 -- The numbers can be taken apart again: from the bits of an answer follow the refusal's number and its place, or the value.
---   Unpacked          what the bits of a packed outcome are
---   unpacked          a small outcome can be taken apart
---   check-unpacked    the vocabulary check's
---   record-unpacked   the record call's
---   script-unpacked   the script check's
+--   Unpacked                     what the bits of a packed outcome are
+--   unpacked                     a small outcome can be taken apart
+--   check-unpacked               the vocabulary check's
+--   record-unpacked              the record call's
+--   script-unpacked              the script check's
 --   Verdicts, compare-unpacked   the comparison's
 -- Assumes nothing.
 use Prim.Native.Nat.{ℕ, _*_, _/_, _%_, _^_, _<_, max}
@@ -18,8 +18,8 @@ use Rattle.records.specs.Call.{recordCall}
 use Rattle.records.proofs.Laws.Passed.{clash}
 use Rattle.types.specs.Comparison.{Verdict, equal, different, comparison}
 use Rattle.scripts.specs.Run.{scriptCheck}
-use Rattle.demands.proofs.Bounds.{Small, SmallVerdict, vocabulary-small, record-small, most, comparison-small, mostPlace}
-use Rattle.demands.proofs.Bounds.{script-small, query-below}
+use Rattle.demands.proofs.Theorems.Bounds.{Small, SmallVerdict, vocabulary-small, record-small, most, comparison-small, mostPlace}
+use Rattle.demands.proofs.Theorems.Bounds.{script-small, query-below}
 use Rattle.judge.specs.Packed.{numberOf, valueOf, packed, packedVerdict}
 
 pub record Unpacked (o : Outcome ℕ) : Type 0 where

@@ -3,7 +3,7 @@
 use mathlib.Core.Path.{refl}
 use denote.Ref.{now}
 use borrow.Author.Needs.{needs}
-use Rattle.demands.proofs.Returns.{script-returns}
+use Rattle.demands.proofs.Theorems.Returns.{script-returns}
 use Rattle.demands.proofs.check_script.Statement.{statement}
 use Rattle.demands.proofs.check_script.Tie as tie
 

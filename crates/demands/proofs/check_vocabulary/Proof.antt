@@ -3,7 +3,7 @@
 use mathlib.Core.Path.{refl}
 use denote.Ref.{now}
 use borrow.Author.Needs.{needs}
-use Rattle.demands.proofs.Returns.{vocabulary-returns}
+use Rattle.demands.proofs.Theorems.Returns.{vocabulary-returns}
 use Rattle.demands.proofs.check_vocabulary.Statement.{statement}
 use Rattle.demands.proofs.check_vocabulary.Tie as tie
 

@@ -3,7 +3,7 @@
 use mathlib.Core.Path.{refl}
 use denote.Ref.{now}
 use borrow.Author.Needs.{needs}
-use Rattle.demands.proofs.Returns.{comparison-returns}
+use Rattle.demands.proofs.Theorems.Returns.{comparison-returns}
 use Rattle.demands.proofs.compare.Statement.{statement}
 use Rattle.demands.proofs.compare.Tie as tie
 

@@ -3,7 +3,7 @@
 use mathlib.Core.Path.{refl}
 use denote.Ref.{now}
 use borrow.Author.Needs.{needs}
-use Rattle.demands.proofs.Returns.{offset-returns}
+use Rattle.demands.proofs.Theorems.Returns.{offset-returns}
 use Rattle.demands.proofs.find_record.Statement.{statement}
 use Rattle.demands.proofs.find_record.Tie as tie
 

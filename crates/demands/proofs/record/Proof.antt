@@ -3,7 +3,7 @@
 use mathlib.Core.Path.{refl}
 use denote.Ref.{now}
 use borrow.Author.Needs.{needs}
-use Rattle.demands.proofs.Returns.{record-returns}
+use Rattle.demands.proofs.Theorems.Returns.{record-returns}
 use Rattle.demands.proofs.record.Statement.{statement}
 use Rattle.demands.proofs.record.Tie as tie
 

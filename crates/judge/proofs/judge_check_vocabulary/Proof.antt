@@ -7,7 +7,7 @@ use borrow.Author.Needs.{needs}
 use Rattle.records.specs.Format.{recordLimit}
 use Rattle.records.specs.Answers.{counted}
 use Rattle.records.specs.declared.answers.Counted.{Counted}
-use Rattle.demands.proofs.Bounds.{Small, vocabulary-small}
+use Rattle.demands.proofs.Theorems.Bounds.{Small, vocabulary-small}
 use Rattle.judge.proofs.judge_check_vocabulary.Statement.{statement}
 use Rattle.judge.proofs.judge_check_vocabulary.Tie as tie
 

@@ -6,7 +6,7 @@ use mathlib.Core.Path.{_≡_, sym, ap, _∙_, subst}
 use lib.ListN.{length}
 use borrow.Author.Needs.{needs}
 use denote.Ref.{now}
-use Rattle.demands.proofs.Bounds.{SmallVerdict, most, comparison-small}
+use Rattle.demands.proofs.Theorems.Bounds.{SmallVerdict, most, comparison-small}
 use Rattle.types.specs.Answers.{compared}
 use Rattle.types.specs.Comparison.{comparison}
 use Rattle.types.specs.declared.answers.Compared.{Compared}

@@ -8,7 +8,7 @@ use borrow.Author.Needs.{needs}
 use Rattle.records.specs.Format.{recordSize, recordLimit}
 use Rattle.records.specs.Answers.{located}
 use Rattle.records.specs.declared.answers.Located.{Located}
-use Rattle.demands.proofs.Bounds.{Small, record-small}
+use Rattle.demands.proofs.Theorems.Bounds.{Small, record-small}
 use Rattle.judge.proofs.judge_record.Statement.{statement}
 use Rattle.judge.proofs.judge_record.Tie as tie
 

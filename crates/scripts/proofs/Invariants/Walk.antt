@@ -1,9 +1,9 @@
 -- The walk along the chain of steps.
---   standing, reached, step-ahead    where a walk stands, by the links
---   chain-at, chain-end   the chain from a step, and from 0
---   next-reached, walk-falls         the next step; what is left of the walk falls
---   Walk, walk-start, walk-next      what was run and what is left is the run
---   walk-refused, walk-done          the answer at a refusal, and at the end
+--   standing, reached, step-ahead   where a walk stands, by the links
+--   chain-at, chain-end             the chain from a step, and from 0
+--   next-reached, walk-falls        the next step; what is left of the walk falls
+--   Walk, walk-start, walk-next     what was run and what is left is the run
+--   walk-refused, walk-done         the answer at a refusal, and at the end
 -- Assumes nothing.
 use Prim.Native.Nat.{ℕ, zero, suc, _+_, _≤_, _<_}
 use native.Mathlib.Omega.{arith}

@@ -6,7 +6,7 @@
 --   link-onward, next-onward                 row 19: a link, and a step's next, lead onward
 --   keeps-form                               what a passed form tells of a script
 --   step-listed, line-step, step-fits        row 18: a step uses what is listed; at a record; at a record of the chain
---   chain-few   the length of the chain
+--   chain-few                                the length of the chain
 --   OnChain, chain-ahead                     the chain has steps alone
 --   steps-listed, chain-listed               each of these uses what is listed
 -- Assumes nothing.

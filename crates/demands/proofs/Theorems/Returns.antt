@@ -30,8 +30,8 @@ use Rattle.scripts.specs.declared.answers.Judged.the-variants as judged
 use Rattle.scripts.proofs.Theorems.Scripts.{checked-parts, accepted-derives, accepted-within}
 use Rattle.demands.specs.Returns.{VocabularyReturns, OffsetReturns, RecordReturns, handed, empty, EitherAnswer}
 use Rattle.demands.specs.Returns.{ComparisonReturns, ScriptReturns}
-use Rattle.demands.proofs.Tables.{vocabulary-follows, record-follows, comparison-follows, script-follows}
-use Rattle.demands.proofs.Denials.{right-verdict}
+use Rattle.demands.proofs.Theorems.Tables.{vocabulary-follows, record-follows, comparison-follows, script-follows}
+use Rattle.demands.proofs.Theorems.Denials.{right-verdict}
 
 pub vocabulary-returns : (v : List ℕ) (r : Counted) → records.counted r ≡ vocabularyCheck v → VocabularyReturns v r
 vocabulary-returns v (counted.Records n) e = vocabulary-follows v .accepted-only n (sym e)

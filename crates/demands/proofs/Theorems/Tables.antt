@@ -1,6 +1,6 @@
 -- Each call is its table: it tries the rows in their order and then has a value.
---   records-are, form-is, chain-is    rows 1 to 8; 13 to 19; 20 to 25
---   term-passed, form-passed          what row 10, and what the form, lets through
+--   records-are, form-is, chain-is                                           rows 1 to 8; 13 to 19; 20 to 25
+--   term-passed, form-passed                                                 what row 10, and what the form, lets through
 --   vocabulary-follows, record-follows, comparison-follows, script-follows   the four calls
 -- Assumes nothing.
 use Prim.Native.Nat.{ℕ, _*_, _-_}
@@ -24,8 +24,8 @@ use Rattle.scripts.specs.Run.{isStart, connects, reduces, hasRoom, stepCheck, r
 use Rattle.demands.specs.Table.{Row, Follows, recordRows, nextRows, vocabularyTable, recordTable, termRow}
 use Rattle.demands.specs.Table.{comparisonTable, entryRows, nextStepRows, formTable, OpenFrames, framesAfter, stepRows}
 use Rattle.demands.specs.Table.{laterRows, chainTable, scriptTable, TermOf, InForm}
-use Rattle.demands.proofs.Rows.{then-assoc, none-passed, row-passed, Tries, follows}
-use Rattle.demands.proofs.Rows.{append-is, row-is, plain-is, last-is, turns-are}
+use Rattle.demands.proofs.Laws.Rows.{then-assoc, none-passed, row-passed, Tries, follows}
+use Rattle.demands.proofs.Laws.Rows.{append-is, row-is, plain-is, last-is, turns-are}
 
 -- what comes after the vocabulary check comes after its rows
 after-count : {B C : Type 0} (v : List ℕ) (b : Outcome B) (c : Outcome C)

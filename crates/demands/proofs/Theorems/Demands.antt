@@ -6,9 +6,9 @@ use Rattle.types.specs.Comparison.{verdict}
 use Rattle.types.proofs.Theorems.Verdicts.{answers-always}
 use Rattle.scripts.proofs.Theorems.Scripts.{checked-parts, accepted-derives, derives-accepted, accepted-within}
 use Rattle.demands.specs.Demands.{Demand1, Demand2, Demand3}
-use Rattle.demands.proofs.Tables.{form-passed, term-passed, vocabulary-follows, record-follows}
-use Rattle.demands.proofs.Tables.{comparison-follows, script-follows}
-use Rattle.demands.proofs.Denials.{right-verdict}
+use Rattle.demands.proofs.Theorems.Tables.{form-passed, term-passed, vocabulary-follows, record-follows}
+use Rattle.demands.proofs.Theorems.Tables.{comparison-follows, script-follows}
+use Rattle.demands.proofs.Theorems.Denials.{right-verdict}
 
 pub demand-1 : Demand1
 demand-1 =

@@ -1,11 +1,11 @@
 -- Bounds on what the calls answer, from their tables: what a caller needs to pack an answer into a word.
---   Near, Small, SmallVerdict                         a refusal, and an answer, whose numbers are small
---   AllNear, near-append, near-turns                  each row is near: of more rows, and of rows in turn
---   Bounded, near-bounded, bounded-append             each row that is reached is near
---   refusal-near, small                               so a refusal is near, and with a small value the answer small
---   vocabulary-small, record-small                    the count or place is at most 512; the offset or place 4,096 or the number
---   most, comparison-small                            the verdict's numbers are at most 2^12
---   mostPlace, script-small, query-below              the steps or place are at most 2,048, or a number of the query, of 16 bits
+--   Near, Small, SmallVerdict               a refusal, and an answer, whose numbers are small
+--   AllNear, near-append, near-turns        each row is near: of more rows, and of rows in turn
+--   Bounded, near-bounded, bounded-append   each row that is reached is near
+--   refusal-near, small                     so a refusal is near, and with a small value the answer small
+--   vocabulary-small, record-small          the count or place is at most 512; the offset or place 4,096 or the number
+--   most, comparison-small                  the verdict's numbers are at most 2^12
+--   mostPlace, script-small, query-below    the steps or place are at most 2,048, or a number of the query, of 16 bits
 -- Assumes nothing.
 use Prim.Native.Nat.{ℕ, zero, suc, _+_, _-_, _*_, _≤_, _<_, max}
 use native.Mathlib.Omega.{arith}
@@ -39,8 +39,8 @@ use Rattle.scripts.proofs.Theorems.Form.{OnChain, KeepsForm, length-sized, keep
 use Rattle.demands.specs.Table.{Row, row, rowsInTurn, recordRows, nextRows, vocabularyTable, recordTable, termRow}
 use Rattle.demands.specs.Table.{comparisonTable, entryRows, firstStepRow, nextStepRows, formTable, OpenFrames, framesAfter}
 use Rattle.demands.specs.Table.{stepRows, laterRows, chainTable, NoneApplies, Refuses, Follows}
-use Rattle.demands.proofs.Rows.{first, row-passed, refuses-first}
-use Rattle.demands.proofs.Tables.{form-passed, vocabulary-follows, record-follows, comparison-follows, script-follows}
+use Rattle.demands.proofs.Laws.Rows.{first, row-passed, refuses-first}
+use Rattle.demands.proofs.Theorems.Tables.{form-passed, vocabulary-follows, record-follows, comparison-follows, script-follows}
 
 -- A refusal's number is not 0 and fits a byte, and its place is at most m.
 abbrev pub Near : ℕ → ℕ → ℕ → Type 0

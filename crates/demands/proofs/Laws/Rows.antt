@@ -1,8 +1,8 @@
 -- A list of rows as a check, and what follows from that.
---   first                                   the refusal of the first row that applies
+--   first                                                    the refusal of the first row that applies
 --   Tries, append-is, row-is, plain-is, last-is, turns-are   rows are the checks that they are made of
---   none-passed, row-passed, refuses-first  no row applies; a row does not; the first that applies
---   follows                                 a call that tries its rows and then has a value follows them
+--   none-passed, row-passed, refuses-first                   no row applies; a row does not; the first that applies
+--   follows                                                  a call that tries its rows and then has a value follows them
 -- Assumes nothing.
 use Prim.Native.Nat.{ℕ, zero, suc}
 use mathlib.Core.Path.{_≡_, refl, sym, ap, _∙_}

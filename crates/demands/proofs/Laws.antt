@@ -1,0 +1,2 @@
+-- Generic laws: rows of a table as checks.
+pub mod Rows
