@@ -1,4 +1,5 @@
--- The three demands, as statements over the definitions of the crates below and nothing else; proofs/Theorems/Demands.antt proves each.
+-- The three demands, as statements over the definitions of the crates below and nothing else; proofs/Theorems/Demands.antt
+-- proves each.
 -- The contracts of src/lib.rt carry them to the calls; Returns.antt says what they come to there.
 use Prim.Native.Nat.{ℕ, _*_, _≤_}
 use mathlib.Core.Path.{_≡_}

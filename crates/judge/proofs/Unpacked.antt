@@ -45,7 +45,8 @@ pub check-unpacked : (v : List ℕ) → Unpacked (vocabularyCheck v)
 check-unpacked v = unpacked recordLimit (vocabularyCheck v) (omega arith) (vocabulary-small v)
 
 pub record-unpacked : (v : List ℕ) (number : ℕ) → number < 2 ^ 32 → Unpacked (recordCall v number)
-record-unpacked v number h = unpacked (max (recordSize * recordLimit) number) (recordCall v number) (omega arith) (record-small v number)
+record-unpacked v number h = unpacked (max (recordSize * recordLimit) number) (recordCall v number) (omega arith)
+    (record-small v number)
 
 -- of a script that consists of bytes
 pub script-unpacked : (v s : List ℕ) → ((i : ℕ) → getD s i 0 < 256) → Unpacked (scriptCheck v s)

@@ -55,7 +55,8 @@ module _ {A L : Type 0} (g : Setting A L) where
   abbrev pub goal : Frames L → L
   goal frames = goalOf (getD frames 0 [])
 
-  -- The literal at an extension's position, and the others of its column: Calculus' `connectedLiteral` and `remainder`, over any literals.
+  -- The literal at an extension's position, and the others of its column: Calculus' `connectedLiteral` and `remainder`, over
+  -- any literals.
   abbrev pub meets : Extension A → L
   meets e = getD (g .uses e) (e .position) (g .nothing)
 

@@ -31,7 +31,8 @@ verdictWith true element survivors rounds = different element survivors rounds
 verdictWith false element survivors rounds = equal survivors rounds
 
 unfoldable pub verdict : List ℕ → ℕ → ℕ → Verdict
-verdict v a b = verdictWith (ltb (firstDistinguishing v a b) (types v)) (firstDistinguishing v a b) (members (survivors v)) (rounds v)
+verdict v a b =
+    let t = firstDistinguishing v a b in verdictWith (ltb t (types v)) t (members (survivors v)) (rounds v)
 
 -- The bounds of rows 11 and 12: the atoms of a vocabulary that is compared, so its types, and the bytes of the bitmap, which
 -- has a bit for each type.

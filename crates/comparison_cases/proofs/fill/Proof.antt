@@ -1,4 +1,5 @@
--- `comparison_cases::fill` is safe and ends. The measure is the number of bytes that are left. From turn to turn the buffer keeps its length. Assumes nothing.
+-- `comparison_cases::fill` is safe and ends. The measure is the number of bytes that are left. From turn to turn the buffer
+-- keeps its length. Assumes nothing.
 use mathlib.Core.Path.{_≡_, refl, _∙_}
 use Prim.Native.Nat.{_-_}
 use native.Mathlib.Omega.{arith}

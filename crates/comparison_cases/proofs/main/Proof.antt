@@ -1,4 +1,5 @@
--- `comparison_cases::main` is safe and ends. The measure is the number of turns that are left. Nothing has to hold from turn to turn. Assumes nothing.
+-- `comparison_cases::main` is safe and ends. The measure is the number of turns that are left. Nothing has to hold from turn
+-- to turn. Assumes nothing.
 use native.Mathlib.Omega.{arith}
 use Rattle.comparison_cases.proofs.main.Statement.{statement}
 use Rattle.comparison_cases.proofs.main.Tie as tie

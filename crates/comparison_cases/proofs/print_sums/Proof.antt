@@ -1,4 +1,5 @@
--- `comparison_cases::print_sums` is safe and ends. The measure is the number of bytes that are left. Nothing has to hold from turn to turn. Assumes nothing.
+-- `comparison_cases::print_sums` is safe and ends. The measure is the number of bytes that are left. Nothing has to hold from
+-- turn to turn. Assumes nothing.
 use Prim.Native.Nat.{_-_}
 use native.Mathlib.Omega.{arith}
 use lib.ListN.{length}

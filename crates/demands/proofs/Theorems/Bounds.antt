@@ -37,10 +37,11 @@ use Rattle.scripts.specs.Form as script
 use Rattle.scripts.specs.Run.{scriptCheck}
 use Rattle.scripts.proofs.Theorems.Form.{OnChain, KeepsForm, length-sized, keeps-form, chain-ahead, chain-few}
 use Rattle.demands.specs.Table.{Row, row, rowsInTurn, recordRows, nextRows, vocabularyTable, recordTable, termRow}
-use Rattle.demands.specs.Table.{comparisonTable, entryRows, firstStepRow, nextStepRows, formTable, OpenFrames, framesAfter}
-use Rattle.demands.specs.Table.{stepRows, laterRows, chainTable, NoneApplies, Refuses, Follows}
+use Rattle.demands.specs.Table.{comparisonTable, entryRows, firstStepRow, nextStepRows, formTable, OpenFrames}
+use Rattle.demands.specs.Table.{framesAfter, stepRows, laterRows, chainTable, NoneApplies, Refuses, Follows}
 use Rattle.demands.proofs.Laws.Rows.{first, row-passed, refuses-first}
-use Rattle.demands.proofs.Theorems.Tables.{form-passed, vocabulary-follows, record-follows, comparison-follows, script-follows}
+use Rattle.demands.proofs.Theorems.Tables.{form-passed, vocabulary-follows, record-follows, comparison-follows}
+use Rattle.demands.proofs.Theorems.Tables.{script-follows}
 
 -- A refusal's number is not 0 and fits a byte, and its place is at most m.
 abbrev pub Near : ℕ → ℕ → ℕ → Type 0

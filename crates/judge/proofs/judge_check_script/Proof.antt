@@ -23,7 +23,8 @@ small c o e =
 -- a place is at most a number of the query, and that has 16 bits
 query : (c : tie.After-check-script) → let s = now (c .before .before .before .args .script) in
     (queryOf s .a < 2 ^ 16) × (queryOf s .b < 2 ^ 16)
-query c = query-below (now (c .before .before .before .args .script)) (λ i. omega (arith, c .before .shared-slice-known2 .given i))
+query c = query-below (now (c .before .before .before .args .script))
+    (λ i. omega (arith, c .before .shared-slice-known2 .given i))
 
 pack-requires : tie.Need-pack-requires
 pack-requires c κs =

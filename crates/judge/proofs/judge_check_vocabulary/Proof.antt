@@ -24,11 +24,13 @@ pack-requires-2 : tie.Need-pack-requires-2
 pack-requires-2 c κs = omega (arith, small (c .before .before .before) _ (c .before .answer2 .given .1))
 
 returns : tie.Need-returns
-returns c = rw (← c .before .before .before .before .check-vocabulary .ensures .0, c .before .before .answer .given .1) (omega arith)
+returns c = rw (← c .before .before .before .before .check-vocabulary .ensures .0, c .before .before .answer .given .1)
+    (omega arith)
 
 returns-2 : tie.Need-returns-2
 returns-2 c =
-    rw (← c .before .before .before .before .check-vocabulary .ensures .0, c .before .before .answer2 .given .1) (c .pack2 .ensures)
+    rw (← c .before .before .before .before .check-vocabulary .ensures .0, c .before .before .answer2 .given .1)
+    (c .pack2 .ensures)
 
 pub judge-check-vocabulary-spec : {M : Type 1} → statement M
 judge-check-vocabulary-spec =

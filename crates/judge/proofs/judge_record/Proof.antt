@@ -1,4 +1,5 @@
--- `judge::judge_record` meets its contract. The answer's offset is below 4,096 and its place a 32-bit number, so that it fits its bits.
+-- `judge::judge_record` meets its contract. The answer's offset is below 4,096 and its place a 32-bit number, so that it fits
+-- its bits.
 -- Assumes nothing.
 use Prim.Native.Nat.{_*_, max}
 use native.Mathlib.Omega.{arith}

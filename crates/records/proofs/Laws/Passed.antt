@@ -76,9 +76,11 @@ pub record Sized (v : List ℕ) : Type 0 where
 pub length-passed : (v : List ℕ) → lengthCheck v ≡ pass → Sized v
 length-passed v e =
     let fit : lengthFits v ≡ true = require-passed (lengthFits v) 1 0 e in
-    let rest = both-right (leb recordSize (length v)) (leb (length v) (recordSize * recordLimit) && eqb (length v % recordSize) 0) fit in
+    let rest = both-right (leb recordSize (length v))
+    (leb (length v) (recordSize * recordLimit) && eqb (length v % recordSize) 0) fit in
     record {
-      least = leb-true _ _ (both-left (leb recordSize (length v)) (leb (length v) (recordSize * recordLimit) && eqb (length v % recordSize) 0) fit);
+      least = leb-true _ _ (both-left (leb recordSize (length v))
+          (leb (length v) (recordSize * recordLimit) && eqb (length v % recordSize) 0) fit);
       most = leb-true _ _ (both-left (leb (length v) (recordSize * recordLimit)) (eqb (length v % recordSize) 0) rest);
       whole = eqb-true _ _ (both-right (leb (length v) (recordSize * recordLimit)) (eqb (length v % recordSize) 0) rest);
     }

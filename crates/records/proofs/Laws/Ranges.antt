@@ -88,7 +88,8 @@ restriction-kind k e = at (ℕ-discrete k 7)
 
     at : Dec (k ≡ 7) → (k ≡ 7) ⊎ (k ≡ 8)
     at (yes q) = inl q
-    at (no q) = inr (omega (arith, leb-true 7 k (both-left (leb 7 k) (leb k 8) both), leb-true k 8 (both-right (leb 7 k) (leb k 8) both)))
+    at (no q) = inr (omega
+        (arith, leb-true 7 k (both-left (leb 7 k) (leb k 8) both), leb-true k 8 (both-right (leb 7 k) (leb k 8) both)))
 
 pub atom-range : (k : ℕ) → isAtom k ≡ (eqb k 3 || (leb 7 k && leb k 8))
 atom-range =

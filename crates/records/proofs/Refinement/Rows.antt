@@ -118,7 +118,11 @@ module _ (v : List ℕ) (i : ℕ) (s : Sorts) (r : Record) where
       let b = fault-known v i (s .b) (r .b) in
       let c = fault-known v i (s .next) (r .next) in
       let free-row : (n : ℕ) → n < 8 → free i inA inB inNext n ≡ rowFits v i n s r
-      = λ n h. rw (clear-fault v i n (s .a) (r .a) h, clear-fault v i n (s .b) (r .b) h, clear-fault v i n (s .next) (r .next) h) in
+      = λ n h. rw (
+        clear-fault v i n (s .a) (r .a) h,
+        clear-fault v i n (s .b) (r .b) h,
+        clear-fault v i n (s .next) (r .next) h,
+      ) in
       first-row i inA inB inNext
       (omega (arith, a .0, b .0, c .0))
       (λ h. omega (arith, a .1 (omega arith), b .1 (omega arith), c .1 (omega arith)))
@@ -172,9 +176,13 @@ module _ (v : List ℕ) (i : ℕ) (s : Sorts) (r : Record) (e : rowsCheck v i s 
       at true q = refl
       at false q = absurd (omega (arith, row-small sort))
 
-  pub rows-passed : (fieldFits v i (s .a) (r .a) ≡ true) × (fieldFits v i (s .b) (r .b) ≡ true) × (fieldFits v i (s .next) (r .next) ≡ true)
-  rows-passed =
-      (unfaulted (s .a) (r .a) (omega (arith, none)), unfaulted (s .b) (r .b) (omega (arith, none)), unfaulted (s .next) (r .next) (omega (arith, none)))
+  pub rows-passed : (fieldFits v i (s .a) (r .a) ≡ true) × (fieldFits v i (s .b) (r .b) ≡ true) ×
+      (fieldFits v i (s .next) (r .next) ≡ true)
+  rows-passed = (
+    unfaulted (s .a) (r .a) (omega (arith, none)),
+    unfaulted (s .b) (r .b) (omega (arith, none)),
+    unfaulted (s .next) (r .next) (omega (arith, none)),
+  )
 
 -- The sorts told by the kind.
 pub rows-at : (v : List ℕ) (i : ℕ) (r : Record) (s : Sorts) (o : Check)

@@ -144,7 +144,8 @@ module _ (v : List ℕ) (i : ℕ) where
   linked : (x : ℕ) → linkFits v i x ≡ true → Linked v i x
   linked x e = at (eqb x 0) refl e
     where
-      at : (z : Bool) → eqb x 0 ≡ z → (z || (ltb i x && (ltb x (count v) && isStatement (recordAt v x .kind)))) ≡ true → Linked v i x
+      at : (z : Bool) → eqb x 0 ≡ z → (z || (ltb i x && (ltb x (count v) && isStatement (recordAt v x .kind)))) ≡ true
+          → Linked v i x
       at true q h = inl (eqb-true x 0 q)
       at false q h =
           let rest = both-right (ltb i x) (ltb x (count v) && isStatement (recordAt v x .kind)) h in
@@ -234,7 +235,8 @@ well-formed-vocabulary v e =
     = λ i p h. turn-at (recordCheck v) (count v - 1) 1 (c .0) i p (omega arith) in
     record {
       sized = sized;
-      header = eqb-true (r .kind) 16 (both-left (eqb (r .kind) 16) (eqb (r .second) 1 && (leb (r .b) roleLimit && eqb (r .next) 0)) fit);
+      header = eqb-true (r .kind) 16
+          (both-left (eqb (r .kind) 16) (eqb (r .second) 1 && (leb (r .b) roleLimit && eqb (r .next) 0)) fit);
       roles = leb-true (r .b) roleLimit (both-left (leb (r .b) roleLimit) (eqb (r .next) 0) roles);
       fields = λ i p h. record-held v i (passed i p h);
       labels = λ i j p h q k same.

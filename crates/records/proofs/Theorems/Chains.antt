@@ -30,7 +30,8 @@ module _ (v : List ℕ) (good : Accepted v) where
   chain-ends n h = follow-ends (nextStatement v) (IsStatement v) (count v) (good .rises) n (firstStatement v) (good .first) h
 
   pub chain-rises : Rising 0 (chain v)
-  chain-rises = follow-rises (nextStatement v) (IsStatement v) (count v) (good .rises) (count v) 0 (firstStatement v) (good .first)
+  chain-rises = follow-rises (nextStatement v) (IsStatement v) (count v) (good .rises) (count v) 0 (firstStatement v)
+      (good .first)
 
   pub chain-statement : (j : ℕ) → chained v j ≡ true → Later v 0 j
   chain-statement j o =

@@ -1,4 +1,5 @@
--- `script_cases::main` is safe and ends. The measure is the number of turns that are left. Nothing has to hold from turn to turn. Assumes nothing.
+-- `script_cases::main` is safe and ends. The measure is the number of turns that are left. Nothing has to hold from turn to
+-- turn. Assumes nothing.
 use native.Mathlib.Omega.{arith}
 use Rattle.script_cases.proofs.main.Statement.{statement}
 use Rattle.script_cases.proofs.main.Tie as tie

@@ -48,5 +48,6 @@ module _ (v s : List ℕ) (good : Accepted v) (f : KeepsForm v s) where
 pub numbers-agree : (v s : List ℕ) → Accepted v → KeepsForm v s
     → chainCheck (numbered v s) (recordStep s) (chain s) ≡ chainCheck (writtenOut v (queryOf s)) (stepAt s) (chain s)
 numbers-agree v s good f =
-    chain-same (numbered v s) (writtenOut v (queryOf s)) (termAt s) (Denotes s) (numbers-alike v s good f) (recordStep s) (chain s)
+    chain-same (numbered v s) (writtenOut v (queryOf s)) (termAt s) (Denotes s) (numbers-alike v s good f) (recordStep s)
+    (chain s)
     (chain-corresponds v s good f (chain s) (chain-ahead v s f))

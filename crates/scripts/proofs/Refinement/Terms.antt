@@ -203,7 +203,8 @@ module _ (v s : List ℕ) (good : Accepted v) (f : KeepsForm v s) where
       let rest = both-right (isFunction v w1) (earlierTerm s n w2 && not (repeated s n w1 w2)) fits in
       let earlier = both-left (earlierTerm s n w2) (not (repeated s n w1 w2)) rest in
       let clear = not-true (repeated s n w1 w2) (both-right (earlierTerm s n w2) (not (repeated s n w1 w2)) rest) in
-      let below = ltb-true w1 (count v) (both-left (ltb w1 (count v)) (vocabulary.isRestriction (recordAt v w1 .kind)) function) in
+      let below = ltb-true w1 (count v)
+      (both-left (ltb w1 (count v)) (vocabulary.isRestriction (recordAt v w1 .kind)) function) in
       record {
         kind = e;
         positive = function-positive w1 function;

@@ -65,7 +65,8 @@ module _ (v : List ℕ) (q : Query) where
           succeeded = r .succeeded;
         }
 
-    read-extension : (e : Extension SkolemTerm) → length frames < frameLimit → PositionExists v q e → connectedLiteral v q e ≡ complement l
+    read-extension : (e : Extension SkolemTerm) → length frames < frameLimit → PositionExists v q e → connectedLiteral v q e
+        ≡ complement l
         → (r : Reading v q (remainder v q e) ((l ∷ c) ∷ frames) list) → Reading v q c frames (r .rest)
         → Reading v q (l ∷ c) frames (extension e ∷ list)
     unfolding steps height

@@ -77,7 +77,8 @@ module _ (I : Interpretation) (v : List ℕ) (k : Choice I) where
       not-false (truthOf l) (sym (complement-truth l) ∙ sym (ap truthOf p) ∙ met)
 
   module _ (q : Query) (none : NoneHolds I k v q) where
-    extended-true : (l : Literal SkolemTerm) (e : Extension SkolemTerm) → PositionExists v q e → connectedLiteral v q e ≡ complement l
+    extended-true : (l : Literal SkolemTerm) (e : Extension SkolemTerm) → PositionExists v q e → connectedLiteral v q e
+        ≡ complement l
         → (truthOf l ≡ false → allTrue (remainder v q e) ≡ true) → truthOf l ≡ true
     extended-true l e h p above = unless-false (truthOf l) (λ f.
         let met : truthOf (connectedLiteral v q e) ≡ true = ap truthOf p ∙ complement-truth l ∙ ap not f in

@@ -1,8 +1,8 @@
 -- The run of a chain as a test of its steps, with no numbers and places: what it takes to pass.
---   passes, passes-true                  whether a check passes; a check that does is `pass`
---   passes-then, passes-require          a check and the next; a row
---   stepPasses, succeeds, chainSucceeds                  a step passes at some frames; steps do in turn, and leave no frame; those of a chain do
---   step-fits, run-succeeds, chain-succeeds   rows 20 to 23 and 25 at a step; the run; the check of a chain
+--   passes, passes-true                         whether a check passes; a check that does is `pass`
+--   passes-then, passes-require                 a check and the next; a row
+--   stepPasses, succeeds, chainSucceeds         a step passes at some frames; steps do in turn; a chain does
+--   step-passes, run-succeeds, chain-succeeds   rows 20 to 23 and 25 at a step; the run; the check of a chain
 -- Assumes nothing.
 use Prim.Native.Nat.{ℕ}
 use mathlib.Core.Path.{_≡_, refl, _∙_}
@@ -44,17 +44,18 @@ module _ {A L : Type 0} (g : Setting A L) where
   chainSucceeds [] = false
   chainSucceeds (step ∷ rest) = isStart step && succeeds rest (stepped g [] step)
 
-  step-fits : (i : ℕ) (frames : Frames L) (step : Step A) → passes (stepCheck g i frames step) ≡ stepPasses frames step
+  step-passes : (i : ℕ) (frames : Frames L) (step : Step A) → passes (stepCheck g i frames step) ≡ stepPasses frames step
   unfolding stepCheck
-  step-fits i frames step = simp (passes-then, passes-require)
+  step-passes i frames step = simp (passes-then, passes-require)
 
   module _ (steps : ℕ → Step A) where
-    run-succeeds : (is : List ℕ) (frames : Frames L) (last : ℕ) → passes (run g steps frames last is) ≡ succeeds (map steps is) frames
+    run-succeeds : (is : List ℕ) (frames : Frames L) (last : ℕ) → passes (run g steps frames last is) ≡ succeeds
+        (map steps is) frames
     unfolding run succeeds
     run-succeeds [] frames last = passes-require (isNil frames) 24 last
     run-succeeds (i ∷ is) frames last =
         passes-then (stepCheck g i frames (steps i)) _
-        ∙ rw (step-fits i frames (steps i), run-succeeds is (stepped g frames (steps i)) i)
+        ∙ rw (step-passes i frames (steps i), run-succeeds is (stepped g frames (steps i)) i)
 
     pub chain-succeeds : (is : List ℕ) → passes (chainCheck g steps is) ≡ chainSucceeds (map steps is)
     unfolding chainCheck

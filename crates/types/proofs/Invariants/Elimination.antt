@@ -1,9 +1,9 @@
 -- One turn of the loops of type elimination, over plain values.
---   list-enumerates, enumerates-less                              a list of the members of a set enumerates it and each smaller set
---   Entered, enter-start, enter-more, enter-same              the words of the fillers at members, each at its own place
---   keeps-all, keeps-both                                     what tests keep of a set: one that all pass, two in a row
---   keeps-within, keeps-cong                                  it is within the set; a test that says the same
---   RemovedBelow, remove-start, remove-out, remove-kept, remove-end      the members that fail a test, removed
+--   list-enumerates, enumerates-less               a list of members enumerates a set and smaller ones
+--   Entered, enter-start, enter-more, enter-same   the words of the fillers at members, each at its own place
+--   keeps-all, keeps-both                          what tests keep of a set: one that all pass, two in a row
+--   keeps-within, keeps-cong                       it is within the set; a test that says the same
+--   RemovedBelow, remove-start, .., remove-end     the members that fail a test, removed
 -- Assumes nothing.
 use Prim.Native.Nat.{ℕ, _+_, _≤_, _<_}
 use native.Mathlib.Omega.{arith}

@@ -165,7 +165,8 @@ module _ {v : List ℕ} {bits : ℕ} {masks held live : List ℕ} {left : ℕ} {
       at : (t : ℕ) → Dec (t < types v) → has R t ≡ has (round v alive) t
       at t (yes h) = w .kept t ∙ sym (round-at v alive t h)
       at t (no h) =
-          w .kept t ∙ ap (λ (x : Bool). x && served v alive t) (s .ends t (omega arith)) ∙ sym (round-ends v alive t (omega arith))
+          w .kept t ∙ ap (λ (x : Bool). x && served v alive t) (s .ends t (omega arith)) ∙ sym
+          (round-ends v alive t (omega arith))
 
       unserved : ℕ → Bool
       unserved t = has alive t && not (served v alive t)

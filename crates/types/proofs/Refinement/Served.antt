@@ -93,13 +93,15 @@ module _ (v : List ℕ) where
 
   -- the bits of the two words that the test compares
   Agree : List Bool → ℕ → ℕ → ℕ → Type 0
-  Agree S t r j = (bit (joins v S (reached v t r)) j || bit (otherRoleWord v r) j) ≡ (bit (restrictionWord v t) j || bit (otherRoleWord v r) j)
+  Agree S t r j = (bit (joins v S (reached v t r)) j || bit (otherRoleWord v r) j) ≡
+      (bit (restrictionWord v t) j || bit (otherRoleWord v r) j)
 
   role-by-bits : (S : List Bool) (t r : ℕ) → ((j : ℕ) → j < width v → Agree S t r j) → roleServed v S t r ≡ true
   unfolding Agree
   role-by-bits S t r e =
       let x = reached v t r in
-      let small = or-lt (width v) (joins v S x) (otherRoleWord v r) (joins-small v S x (reached-small v t r)) (otherRoleWord-small v r) in
+      let small = or-lt (width v) (joins v S x) (otherRoleWord v r) (joins-small v S x (reached-small v t r))
+      (otherRoleWord-small v r) in
       eq-eqb (bitOr (joins v S x) (otherRoleWord v r)) x
       (bits-same (width v) (bitOr (joins v S x) (otherRoleWord v r)) x small (reached-small v t r)
       (λ j h. bit-or (joins v S x) (otherRoleWord v r) j ∙ e j h ∙ sym (bit-or (restrictionWord v t) (otherRoleWord v r) j)))
@@ -109,7 +111,8 @@ module _ (v : List ℕ) where
   role-bits S t r j e =
       let x = reached v t r in
       let same = eqb-true (bitOr (joins v S x) (otherRoleWord v r)) x e in
-      sym (bit-or (joins v S x) (otherRoleWord v r) j) ∙ ap (λ (y : ℕ). bit y j) same ∙ bit-or (restrictionWord v t) (otherRoleWord v r) j
+      sym (bit-or (joins v S x) (otherRoleWord v r) j) ∙ ap (λ (y : ℕ). bit y j) same ∙ bit-or (restrictionWord v t)
+      (otherRoleWord v r) j
 
   pub served-role : (S : List Bool) (t r : ℕ) → served v S t ≡ true → roleServed v S t r ≡ true
   unfolding Agree
@@ -125,7 +128,8 @@ module _ (v : List ℕ) where
   restriction-met S t m h e =
       let x = reached v t (role m) in
       let bits = role-bits S t (role m) m e in
-      let own : bit (otherRoleWord v (role m)) m ≡ false = otherRoleWord-bit v (role m) m h ∙ ap not (eq-eqb (role m) (role m) refl) in
+      let own : bit (otherRoleWord v (role m)) m ≡ false = otherRoleWord-bit v (role m) m h ∙ ap not
+      (eq-eqb (role m) (role m) refl) in
       met-bit S t m h
       ∙ implies-true (bit (restrictionWord v t) m) (seen S t m)
       (λ w. filler-witness S t m h (joins-elim v S x m

@@ -86,7 +86,8 @@ agree f g h true true = h .3
 
 -- where an atom's own place has its truth already
 pub rule-evaluates : (r : Record) (n : ℕ) (f : ℕ → Bool)
-    → select (ruleOf (r .kind)) (f (firstOf (r .kind) (r .a) n)) (f (secondOf (r .kind) (r .b))) ≡ evaluate (constructOf r) (f n) f
+    → select (ruleOf (r .kind)) (f (firstOf (r .kind) (r .a) n)) (f (secondOf (r .kind) (r .b))) ≡ evaluate (constructOf r)
+    (f n) f
 unfolding kindOf shapeOf select bit
 rule-evaluates r n f = at (decLt (r .kind) 10)
   where

@@ -110,7 +110,8 @@ module _ (v : List ℕ) (plan : Plan) (code statements : List ℕ) (p : Prepared
         → apart ≡ not (Bool·beq (getD done (plan .a) false) (getD done (plan .b) false))
         → x ≡ wordAt done (listing .places) (listing .signs) (listing .count)
         → y ≡ wordAt done (listing .fillers) (listing .signs) (listing .count)
-        → _≡_ {A = TypeData} record { satisfies = fit; differs = apart; held = x; filling = y } (typeDataAt v (plan .a) (plan .b) t)
+        → _≡_ {A = TypeData} record { satisfies = fit; differs = apart; held = x; filling = y }
+        (typeDataAt v (plan .a) (plan .b) t)
     unfolding restrictionWord fillerWord
     describe-done fit apart x y e f g h =
         rw (

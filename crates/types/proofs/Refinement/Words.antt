@@ -47,7 +47,8 @@ module _ (v : List ℕ) where
   pub reached-bit : (t r m : ℕ) → m < width v
       → bit (reached v t r) m ≡ (wants v t (restriction v m) || apart v r (restriction v m))
   reached-bit t r m h =
-      bit-or (restrictionWord v t) (otherRoleWord v r) m ∙ ap₂ (λ (a b : Bool). a || b) (restrictionWord-bit t m h) (otherRoleWord-bit r m h)
+      bit-or (restrictionWord v t) (otherRoleWord v r) m ∙ ap₂ (λ (a b : Bool). a || b) (restrictionWord-bit t m h)
+      (otherRoleWord-bit r m h)
 
   pub restrictionWord-small : (t : ℕ) → restrictionWord v t < 2 ^ width v
   unfolding restrictionWord
@@ -79,7 +80,8 @@ module _ (v : List ℕ) where
   presentWord-intro : (S : List Bool) (s : ℕ) → s < types v → has S s ≡ true → presentWord v S (fillerWord v s) ≡ fillerWord v s
   presentWord-intro S s l e =
       let hit : filling S (fillerWord v s) s ≡ true = rw (e, eq-eqb (fillerWord v s) (fillerWord v s) refl) in
-      let found : anyBelow (filling S (fillerWord v s)) (types v) ≡ true = any-intro (filling S (fillerWord v s)) (types v) s l hit in
+      let found : anyBelow (filling S (fillerWord v s)) (types v) ≡ true = any-intro (filling S (fillerWord v s))
+      (types v) s l hit in
       rw found
 
   pub joins-intro : (S : List Bool) (x j : ℕ) → x < 2 ^ width v → Fills v S x j → bit (joins v S x) j ≡ true

@@ -42,7 +42,10 @@ module _ (v : List ℕ) (a b lent : ℕ) where
       at : Answered v a b lent x → Decided v a b x
           → ((s n : ℕ) → x ≡ equal s n → AlwaysEqual v a b) × (AlwaysEqual v a b → x ≡ equal (members (survivors v)) (rounds v))
       at c (same none q) = (λ s n h. indistinct-equal v (c .good) a b none, λ always. q)
-      at c (apart l q) = (λ s n h. absurd (clash (cc)), λ always. absurd (distinguishes-unequal v (c .good) a b (c .few) l always))
+      at c (apart l q) = (
+        λ s n h. absurd (clash (cc)),
+        λ always. absurd (distinguishes-unequal v (c .good) a b (c .few) l always),
+      )
 
   -- "They .. are the interpretation written, with either answer": its elements are the survivors, and if there is one, it
   -- satisfies the statements.

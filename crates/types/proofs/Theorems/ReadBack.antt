@@ -55,7 +55,9 @@ module _ (v rest : List ℕ) where
 module _ (v : List ℕ) (good : Accepted v) (few : atoms v ≤ atomLimit) (rest : List ℕ) where
   pub read-agrees : (i t : ℕ) → has (survivors v) t ≡ true → belongs (readBack v (bitmap v ++ rest)) v i t ≡ truth v t i
   read-agrees =
-      canonical-agrees v good (survivors v) (survivors-serving v .serves) (readBack v (bitmap v ++ rest)) (readBack-canonical v rest few)
+      canonical-agrees v good (survivors v) (survivors-serving v .serves) (readBack v (bitmap v ++ rest))
+      (readBack-canonical v rest few)
 
   pub read-model : (t : ℕ) → has (survivors v) t ≡ true → Model (readBack v (bitmap v ++ rest)) v
-  read-model = canonical-model v good (survivors v) (survivors-serving v) (readBack v (bitmap v ++ rest)) (readBack-canonical v rest few)
+  read-model = canonical-model v good (survivors v) (survivors-serving v) (readBack v (bitmap v ++ rest))
+      (readBack-canonical v rest few)

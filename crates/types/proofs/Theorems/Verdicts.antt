@@ -5,7 +5,7 @@
 --   First, named-first                              the element that Different names
 --   distinguishes-survivor, distinguishes-differ, indistinct-same    what a type that distinguishes the terms is
 --   indistinct-equal                                  terms that no survivor distinguishes are equal in every model
---   Apart, distinguishes-shown, distinguishes-unequal             terms that a survivor distinguishes are apart in the interpretation read back
+--   Apart, distinguishes-shown, distinguishes-unequal             terms that a survivor distinguishes are apart
 -- Assumes nothing.
 use Prim.Native.Nat.{ℕ, _≤_, _<_}
 use native.Mathlib.Omega.{arith}
@@ -104,7 +104,8 @@ never-not false e = clash (cc)
 -- No survivor parts the terms and the answer is Equal, or there is a smallest one and it is named.
 pub data Decided (v : List ℕ) (a b : ℕ) (x : Verdict) : Type 0 where
   same : ((t : ℕ) → t < types v → distinguishes v a b t ≡ false) → x ≡ equal (members (survivors v)) (rounds v) → Decided v a b x
-  apart : firstDistinguishing v a b < types v → x ≡ different (firstDistinguishing v a b) (members (survivors v)) (rounds v) → Decided v a b x
+  apart : firstDistinguishing v a b < types v → x ≡ different (firstDistinguishing v a b) (members (survivors v)) (rounds v)
+      → Decided v a b x
 
 verdict-decided : (v : List ℕ) (a b : ℕ) (x : Verdict) → verdict v a b ≡ x → Decided v a b x
 unfolding verdict
@@ -114,7 +115,8 @@ verdict-decided v a b x e = at (ltb (firstDistinguishing v a b) (types v)) refl 
         → verdictWith z (firstDistinguishing v a b) (members (survivors v)) (rounds v) ≡ x → Decided v a b x
     at true q h = apart (ltb-true (firstDistinguishing v a b) (types v) q) (sym h)
     at false q h =
-        same (λ t l. least-before (types v) (distinguishes v a b) t (omega (arith, ltb-false (firstDistinguishing v a b) (types v) q))) (sym h)
+        same (λ t l. least-before (types v) (distinguishes v a b) t
+        (omega (arith, ltb-false (firstDistinguishing v a b) (types v) q))) (sym h)
 
 pub decided : (v : List ℕ) (a b lent : ℕ) (x : Verdict) → comparison v a b lent ≡ accepted x → Decided v a b x
 decided v a b lent x e = verdict-decided v a b x (answered v a b lent x e .answer)

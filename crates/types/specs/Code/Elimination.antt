@@ -41,7 +41,8 @@ pub record Eliminating (v : List ℕ) (bits : ℕ) (masks held live : List ℕ) 
   pub ends : (t : ℕ) → types v ≤ t → has alive t ≡ false
   pub size : length alive ≡ typeLimit
 
--- x itself where one of the first n types listed is in the set and has it as its word of fillers, else 0; a table of that below a bound.
+-- x itself where one of the first n types listed is in the set and has it as its word of fillers, else 0; a table of that
+-- below a bound.
 abbrev pub presentAmong : List ℕ → List ℕ → List Bool → ℕ → ℕ → ℕ
 presentAmong filling live S n x = cond (anyBelow (λ i. has S (getD live i 0) && eqb (getD filling (getD live i 0) 0) x) n) x 0
 

@@ -62,7 +62,8 @@ abbrev pub differ : List ℕ → ℕ → ℕ → ℕ → Bool
 differ v a b t = not (Bool·beq (truth v t a) (truth v t b))
 
 abbrev pub typeDataAt : List ℕ → ℕ → ℕ → ℕ → TypeData
-typeDataAt v a b t = record { satisfies = satisfies v t; differs = differ v a b t; held = restrictionWord v t; filling = fillerWord v t }
+typeDataAt v a b t =
+    record { satisfies = satisfies v t; differs = differ v a b t; held = restrictionWord v t; filling = fillerWord v t }
 
 abbrev pub Differs : List ℕ → ℕ → ℕ → List Bool → Type 0
 Differs v a b differs = (t : ℕ) → t < types v → getD differs t false ≡ differ v a b t

@@ -30,8 +30,8 @@ signed false x = x
 abbrev pub negated : List ℕ → ℕ → Bool
 negated v i = eqb (recordAt v i .kind) 8
 
--- Bit m: whether restriction m holds at t, so that t needs a witness; whether its filler holds at s, so that s may be one; whether
--- the restriction is of another role. Kind 8 is negated.
+-- Bit m: whether restriction m holds at t, so that t needs a witness; whether its filler holds at s, so that s may be one;
+-- whether the restriction is of another role. Kind 8 is negated.
 unfoldable pub restrictionWord : List ℕ → ℕ → ℕ
 restrictionWord v t = number (width v) (λ m. signed (negated v (restriction v m)) (truth v t (restriction v m)))
 

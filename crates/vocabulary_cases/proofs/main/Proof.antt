@@ -1,4 +1,5 @@
--- `vocabulary_cases::main` is safe and ends. The measure is the number of turns that are left. Nothing has to hold from turn to turn. Assumes nothing.
+-- `vocabulary_cases::main` is safe and ends. The measure is the number of turns that are left. Nothing has to hold from turn
+-- to turn. Assumes nothing.
 use native.Mathlib.Omega.{arith}
 use Rattle.vocabulary_cases.proofs.main.Statement.{statement}
 use Rattle.vocabulary_cases.proofs.main.Tie as tie

@@ -1,4 +1,5 @@
--- `vocabulary_cases::print_bytes` is safe and ends. The measure is the number of bytes that are left. Nothing has to hold from turn to turn. Assumes nothing.
+-- `vocabulary_cases::print_bytes` is safe and ends. The measure is the number of bytes that are left. Nothing has to hold
+-- from turn to turn. Assumes nothing.
 use Prim.Native.Nat.{_-_}
 use native.Mathlib.Omega.{arith}
 use lib.ListN.{length}

@@ -18,7 +18,8 @@ unfolding recordCall
 returns-2 c =
     then-fine _ _ _ _ (c .before .before .before .before .before .before .check-length .ensures)
     (c .before .before .before .before .enum-told .given .1)
-    (then-refused-as _ _ _ _ _ _ _ (c .locate-after2 .ensures) (c .before .before .before .pass-if .ensures) (c .before .enum-told4 .given .1))
+    (then-refused-as _ _ _ _ _ _ _ (c .locate-after2 .ensures) (c .before .before .before .pass-if .ensures)
+    (c .before .enum-told4 .given .1))
 
 returns-3 : tie.Need-returns-3
 unfolding recordCall

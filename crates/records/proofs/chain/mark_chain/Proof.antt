@@ -1,4 +1,5 @@
--- `records::chain::mark_chain` meets its contract. The loop's invariant: what is marked, and what is still to be walked, is the chain.
+-- `records::chain::mark_chain` meets its contract. The loop's invariant: what is marked, and what is still to be walked, is
+-- the chain.
 -- The walk ends since the chain of an accepted vocabulary rises.
 -- Assumes nothing.
 mod Marks
@@ -23,7 +24,8 @@ good : (c : tie.Start Inv-loop μ-loop) → Accepted (now (c .args .v))
 good c = well-formed-vocabulary (now (c .args .v)) (c .pre)
 
 -- the statement that the walk stands at
-here : (c : tie.In-loop Inv-loop μ-loop) → Later (now (c .before .before .before .before .before .args .v)) 0 (c .before .loop .at)
+here : (c : tie.In-loop Inv-loop μ-loop) → Later (now (c .before .before .before .before .before .args .v)) 0
+    (c .before .loop .at)
 here c = standing _ (good (c .before .before .before .before .before)) _ _ (c .before .loop .inv) (c .loop-test .taken)
 
 read-at-requires : tie.Need-read-at-requires Inv-loop μ-loop

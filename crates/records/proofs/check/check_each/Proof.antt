@@ -1,4 +1,5 @@
--- `records::check::check_each` meets its contract. The loop's invariant: the records from `i` on decide, and `roles` is the header's count.
+-- `records::check::check_each` meets its contract. The loop's invariant: the records from `i` on decide, and `roles` is the
+-- header's count.
 -- Assumes nothing.
 use Prim.Native.Nat.{_-_}
 use native.Mathlib.Omega.{arith}
@@ -31,8 +32,11 @@ returns c =
     (c .enum-told2 .given .1) ∙ sym (c .before .before .before .before .loop .inv .0)
 
 loop-again : tie.Need-loop-again Inv-loop μ-loop
-loop-again c =
-    (c .before .before .before .before .loop .inv .0 ∙ turn-passed _ _ _ _ (c .before .before .before .loop-test .taken) (c .before .before .check-record .ensures) (c .enum-told .given .1), c .before .before .before .before .loop .inv .1)
+loop-again c = (
+  c .before .before .before .before .loop .inv .0 ∙ turn-passed _ _ _ _ (c .before .before .before .loop-test .taken)
+      (c .before .before .check-record .ensures) (c .enum-told .given .1),
+  c .before .before .before .before .loop .inv .1,
+)
 
 returns-2 : tie.Need-returns-2 Inv-loop μ-loop
 returns-2 c = sym (c .before .loop .inv .0 ∙ turns-end _ _ _ (c .loop-test .left))

@@ -9,8 +9,12 @@ use Rattle.records.proofs.check.check_link.Tie as tie
 returns : tie.Need-returns
 unfolding linkCheck
 returns c =
-    c .pass-if .ensures ∙ rw
-    (c .before .link-fits .ensures, ← c .before .before .before .before .read-at .ensures, ← c .before .before .before .is-statement .ensures, c .before .before .if1 .taken)
+    c .pass-if .ensures ∙ rw (
+      c .before .link-fits .ensures,
+      ← c .before .before .before .before .read-at .ensures,
+      ← c .before .before .before .is-statement .ensures,
+      c .before .before .if1 .taken,
+    )
 
 returns-2 : tie.Need-returns-2
 unfolding linkCheck

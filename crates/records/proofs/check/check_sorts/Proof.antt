@@ -11,7 +11,8 @@ returns : tie.Need-returns
 returns c =
     let all = c .before in
     let args = all .before .before .args in
-    rows-fit (now (args .v)) (args .i) (sorts (args .a) (args .b) (args .next)) (args .f) _ (all .fields-fit .ensures) (c .if1 .taken)
+    rows-fit (now (args .v)) (args .i) (sorts (args .a) (args .b) (args .next)) (args .f) _ (all .fields-fit .ensures)
+    (c .if1 .taken)
 
 returns-2 : tie.Need-returns-2
 returns-2 c =
@@ -21,7 +22,8 @@ returns-2 c =
     let test = a .before in
     let all = test .before in
     let args = all .before .before .args in
-    rows-unfit (now (args .v)) (args .i) (sorts (args .a) (args .b) (args .next)) (args .f) _ _ _ _ _ (all .fields-fit .ensures) (test .if1 .left)
+    rows-unfit (now (args .v)) (args .i) (sorts (args .a) (args .b) (args .next)) (args .f) _ _ _ _ _ (all .fields-fit .ensures)
+    (test .if1 .left)
     (a .field-fits .ensures) (b .field-fits2 .ensures) (next .field-fits3 .ensures) (c .first-fault .ensures)
 
 pub check-sorts-spec : {M : Type 1} → statement M

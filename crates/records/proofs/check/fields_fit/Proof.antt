@@ -11,7 +11,8 @@ returns c = and-first-false _ _ _ (c .before .field-fits .ensures) (c .if1 .take
 returns-2 : tie.Need-returns-2
 returns-2 c =
     let first = c .before .before in
-    and-first-true _ _ _ _ (first .before .field-fits .ensures) (first .if1 .left) (and-first-false _ _ _ (c .before .field-fits2 .ensures) (c .if2 .taken))
+    and-first-true _ _ _ _ (first .before .field-fits .ensures) (first .if1 .left)
+    (and-first-false _ _ _ (c .before .field-fits2 .ensures) (c .if2 .taken))
 
 returns-3 : tie.Need-returns-3
 returns-3 c =

@@ -12,13 +12,19 @@ returns-2 c = simp (eq-eqb _ _ (c .before .before .if1 .left), ne-eqb _ _ (c .if
 
 returns-3 : tie.Need-returns-3
 returns-3 c =
-    simp
-    (eq-eqb _ _ (c .before .before .before .before .if1 .left), eq-eqb _ _ (c .before .before .if2 .left), lt-leb _ _ (c .if3 .taken))
+    simp (
+      eq-eqb _ _ (c .before .before .before .before .if1 .left),
+      eq-eqb _ _ (c .before .before .if2 .left),
+      lt-leb _ _ (c .if3 .taken),
+    )
 
 returns-4 : tie.Need-returns-4
 returns-4 c =
-    rw
-    (eq-eqb _ _ (c .before .before .before .before .before .if1 .left), eq-eqb _ _ (c .before .before .before .if2 .left), le-leb _ _ (c .before .if3 .left))
+    rw (
+      eq-eqb _ _ (c .before .before .before .before .before .if1 .left),
+      eq-eqb _ _ (c .before .before .before .if2 .left),
+      le-leb _ _ (c .before .if3 .left),
+    )
 
 pub header-fits-spec : {M : Type 1} → statement M
 header-fits-spec = tie.close (tie.spec returns returns-2 returns-3 returns-4)

@@ -1,4 +1,5 @@
--- `records::check::is_labelled` meets its contract. The loop's invariant: `found` is whether a record below `j` is a name with this label.
+-- `records::check::is_labelled` meets its contract. The loop's invariant: `found` is whether a record below `j` is a name
+-- with this label.
 -- Assumes nothing.
 use Prim.Native.Nat.{_-_, _≤_}
 use native.Mathlib.Omega.{arith}
@@ -26,8 +27,10 @@ loop-again c =
     let a = c .before .before .before .before .before .args in (
       omega arith,
       ⊎-elim
-          (λ w. w .1 ∙ any-hit (named (now (a .v)) (a .label)) (c .before .before .before .loop .j) (sym (c .before .is-named .ensures) ∙ w .0 .taken))
-          (λ w. w .1 ∙ any-miss (named (now (a .v)) (a .label)) (c .before .before .before .loop .j) _ (c .before .before .before .loop .inv .1) (sym (c .before .is-named .ensures) ∙ w .0 .left))
+          (λ w. w .1 ∙ any-hit (named (now (a .v)) (a .label)) (c .before .before .before .loop .j)
+          (sym (c .before .is-named .ensures) ∙ w .0 .taken))
+          (λ w. w .1 ∙ any-miss (named (now (a .v)) (a .label)) (c .before .before .before .loop .j) _
+          (c .before .before .before .loop .inv .1) (sym (c .before .is-named .ensures) ∙ w .0 .left))
           (c .if1 .came),
     )
 

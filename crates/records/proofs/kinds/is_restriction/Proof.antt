@@ -13,7 +13,8 @@ returns-2 : tie.Need-returns-2
 returns-2 c = let k = c .before .args .kind in rw (restriction-range k, lt-leb 7 k (omega arith))
 
 returns-3 : tie.Need-returns-3
-returns-3 c = let k = c .before .before .args .kind in rw (restriction-range k, le-leb 7 k (omega arith), lt-leb k 8 (omega arith))
+returns-3 c = let k = c .before .before .args .kind in rw
+    (restriction-range k, le-leb 7 k (omega arith), lt-leb k 8 (omega arith))
 
 pub is-restriction-spec : {M : Type 1} → statement M
 is-restriction-spec = tie.close (tie.spec returns returns-2 returns-3)

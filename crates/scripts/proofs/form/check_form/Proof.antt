@@ -80,7 +80,8 @@ check-links-requires c κs = ap (λ (e : Entry). e .w3) (queried (c .before .bef
 returns-4 : tie.Need-returns-4
 returns-4 c =
     past-query (c .before .before .before .before) _
-    (then-fine _ _ _ _ (c .before .before .before .check-entries .ensures) (c .before .enum-told5 .given .1) (c .check-links .ensures))
+    (then-fine _ _ _ _ (c .before .before .before .check-entries .ensures) (c .before .enum-told5 .given .1)
+    (c .check-links .ensures))
 
 pub check-form-spec : {M : Type 1} → statement M
 check-form-spec =

@@ -50,25 +50,29 @@ past-unused : (c : tie.After-enum-told3) (o : Check)
 past-unused c o h =
     let p = c .before .before in
     past-kind (p .before .before) o
-    (then-fine _ _ _ _ (require-test _ _ _ _ _ (p .pass-if2 .ensures) (p .before .unused-fits .ensures)) (c .enum-told3 .given .1) h)
+    (then-fine _ _ _ _ (require-test _ _ _ _ _ (p .pass-if2 .ensures) (p .before .unused-fits .ensures))
+    (c .enum-told3 .given .1) h)
 
 returns : tie.Need-returns
 returns c =
     let p = c .before .before in
-    then-refused _ _ _ _ _ (require-test _ _ _ _ _ (p .pass-if .ensures) (p .before .kind-fits .ensures)) (c .enum-told2 .given .1)
+    then-refused _ _ _ _ _ (require-test _ _ _ _ _ (p .pass-if .ensures) (p .before .kind-fits .ensures))
+    (c .enum-told2 .given .1)
     ∙ read-rows (p .before .before)
 
 returns-2 : tie.Need-returns-2
 returns-2 c =
     let p = c .before .before in
     past-kind (p .before .before) _
-    (then-refused _ _ _ _ _ (require-test _ _ _ _ _ (p .pass-if2 .ensures) (p .before .unused-fits .ensures)) (c .enum-told4 .given .1))
+    (then-refused _ _ _ _ _ (require-test _ _ _ _ _ (p .pass-if2 .ensures) (p .before .unused-fits .ensures))
+    (c .enum-told4 .given .1))
 
 returns-3 : tie.Need-returns-3
 returns-3 c =
     let p = c .before .before in
     past-unused (p .before .before) _
-    (then-refused _ _ _ _ _ (require-test _ _ _ _ _ (p .pass-if3 .ensures) (p .before .term-fits .ensures)) (c .enum-told6 .given .1))
+    (then-refused _ _ _ _ _ (require-test _ _ _ _ _ (p .pass-if3 .ensures) (p .before .term-fits .ensures))
+    (c .enum-told6 .given .1))
 
 returns-4 : tie.Need-returns-4
 returns-4 c =

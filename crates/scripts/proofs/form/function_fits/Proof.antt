@@ -36,7 +36,8 @@ returns-3 c =
 returns-4 : tie.Need-returns-4
 returns-4 c =
     and-first-true _ _ _ _ (c .before .before .before .before .is-function .ensures) (c .before .before .before .if2 .left)
-    (and-first-true _ _ _ _ (c .before .before .is-earlier-term .ensures) (c .before .if3 .left) (ap not (c .is-repeated .ensures)))
+    (and-first-true _ _ _ _ (c .before .before .is-earlier-term .ensures) (c .before .if3 .left)
+    (ap not (c .is-repeated .ensures)))
     ∙ applies (c .before .before .before .before .before)
 
 pub function-fits-spec : {M : Type 1} → statement M

@@ -13,10 +13,12 @@ returns : tie.Need-returns
 returns c = and-first-false _ _ _ (c .before .is-earlier-term .ensures) (c .if1 .taken)
 
 returns-2 : tie.Need-returns-2
-returns-2 c = and-first-true _ _ _ _ (c .before .before .is-earlier-term .ensures) (c .before .if1 .left) (rw (ne-eqb _ _ (c .if2 .taken)))
+returns-2 c = and-first-true _ _ _ _ (c .before .before .is-earlier-term .ensures) (c .before .if1 .left)
+    (rw (ne-eqb _ _ (c .if2 .taken)))
 
 returns-3 : tie.Need-returns-3
-returns-3 c = and-first-true _ _ _ _ (c .before .before .is-earlier-term .ensures) (c .before .if1 .left) (rw (eq-eqb _ _ (c .if2 .left)))
+returns-3 c = and-first-true _ _ _ _ (c .before .before .is-earlier-term .ensures) (c .before .if1 .left)
+    (rw (eq-eqb _ _ (c .if2 .left)))
 
 pub x-fits-spec : {M : Type 1} → statement M
 x-fits-spec = tie.close (tie.spec is-earlier-term-requires returns returns-2 returns-3)

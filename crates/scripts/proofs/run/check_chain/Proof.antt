@@ -55,7 +55,8 @@ read-entry-requires c κs = omega (arith, first c .within)
 
 -- it is a start
 started : (c : tie.After-enum-told3) → begun c .read-entry .result .w0 ≡ 3
-started c = eqb-true _ 3 (require-passed _ _ _ (checked-fine _ _ (c .before .before .pass-if2 .ensures) (c .enum-told3 .given .1)))
+started c = eqb-true _ 3
+    (require-passed _ _ _ (checked-fine _ _ (c .before .before .pass-if2 .ensures) (c .enum-told3 .given .1)))
 
 -- of one of the two query columns
 column : (c : tie.After-enum-told3) → begun c .read-entry .result .w1 ≤ 1

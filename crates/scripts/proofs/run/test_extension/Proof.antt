@@ -81,7 +81,8 @@ returns c =
     let same = ap checked (c .no-frame .ensures .0) in
     let no = not-passed _ _ _ refused in
     record {
-      rows = same ∙ then-refused _ _ (row23 (start (found (c .before .before .before)))) _ _ (connected (c .before .before .before)) refused;
+      rows = same ∙ then-refused _ _ (row23 (start (found (c .before .before .before)))) _ _
+          (connected (c .before .before .before)) refused;
       remainder = λ q. absurd (no (sym same ∙ q));
       room = λ q. absurd (no (sym same ∙ q));
     }

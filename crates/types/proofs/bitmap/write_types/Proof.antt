@@ -1,4 +1,5 @@
--- `types::bitmap::write_types` meets its contract. The loop's invariant: the first `n` bytes of the bitmap stand over what was lent.
+-- `types::bitmap::write_types` meets its contract. The loop's invariant: the first `n` bytes of the bitmap stand over what
+-- was lent.
 -- Assumes nothing.
 use Prim.Native.Nat.{ℕ, _-_, _≤_}
 use native.Mathlib.Omega.{arith}

@@ -58,7 +58,8 @@ returns-3 c =
     let first = accepted-at query .before .before in
     let a = start first .args in
     decided-call (now (a .v)) (a .a) (a .b) (now (a .lent)) _ _ (first .check-vocabulary .ensures)
-    (accepted-at query .enum-told .given .1) _ (query .check-query .ensures) (passed .enum-told3 .given .1) (decided .decide .result) _
+    (accepted-at query .enum-told .given .1) _ (query .check-query .ensures) (passed .enum-told3 .given .1)
+    (decided .decide .result) _
     (decided .decide .ensures .0) (decided .decide .ensures .1)
 
 pub compare-spec : {M : Type 1} → statement M

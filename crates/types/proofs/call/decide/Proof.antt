@@ -76,7 +76,8 @@ returns c =
           ∙ alive-first v alive (e .alive-at) (a .a) (a .b) (s .settle .last .1 .1 .1 .1 .1 .0) (e .differs-at)) (size s)
           (some .count-alive .ensures ∙ ap (countBelow (has alive)) (size s) ∙ alive-counted v alive (e .alive-at))
           (e .rounds-at),
-      wrote .write-bitmap .ensures ∙ ap (λ (l : List ℕ). l ++ drop bitmapBytes (now (a .lent))) (alive-bitmap v alive (e .alive-at)),
+      wrote .write-bitmap .ensures ∙ ap (λ (l : List ℕ). l ++ drop bitmapBytes (now (a .lent)))
+          (alive-bitmap v alive (e .alive-at)),
     )
 
 pub decide-spec : {M : Type 1} → statement M

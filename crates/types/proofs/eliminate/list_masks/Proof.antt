@@ -56,7 +56,8 @@ loop-again : tie.Need-loop-again Inv-loop μ-loop
 loop-again c =
     let loop = c .before .before .loop in
     let start = c .before .before .before .before .before in
-    let made = c .other-roles .ensures ∙ otherRoleWord-done (now (start .args .v)) (now (start .args .roles)) (start .args .bits) (loop .role)
+    let made = c .other-roles .ensures ∙ otherRoleWord-done (now (start .args .v)) (now (start .args .roles))
+    (start .args .bits) (loop .role)
     (start .pre .1 .1 .0) (start .pre .1 .1 .1) in
     (omega (arith, below (c .before)), fill-turn 0 roleLimit _ _ _ _ (inside (c .before)) (loop .inv .1) made)
 

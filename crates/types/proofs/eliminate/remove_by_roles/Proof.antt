@@ -82,7 +82,8 @@ loop-again c =
       omega (arith, below turn),
       ⊎-elim
           (λ z. rw (z .4, z .5 ∙ z .3 .ensures)
-          (roles-turn _ _ _ _ _ w _ _ _ (z .2 .ensures) (λ t m. met-role s (now (start .args .joins)) (start .pre .1) _ t (below turn) m)))
+          (roles-turn _ _ _ _ _ w _ _ _ (z .2 .ensures)
+          (λ t m. met-role s (now (start .args .joins)) (start .pre .1) _ t (below turn) m)))
           (λ z. rw (z .1, z .2)
           (roles-skip _ _ _ _ _ w (λ t. role-skipped s _ t (below turn) (omega (arith, z .0 .left, full)))))
           (c .if1 .came),

@@ -1,5 +1,5 @@
--- `types::eliminate::remove_unmet` meets its contract. The loop's invariant: of the first `j` listed types those left are met, and
--- only types that are not met were removed. The list has every type of the set.
+-- `types::eliminate::remove_unmet` meets its contract. The loop's invariant: of the first `j` listed types those left are
+-- met, and only types that are not met were removed. The list has every type of the set.
 -- Assumes nothing.
 use Prim.Native.Nat.{_-_, _<_}
 use native.Mathlib.Omega.{arith}

@@ -19,7 +19,10 @@ enter-words-requires c κs =
     let s = start .pre .0 in
     let few = bits-few s in (
       s .listed,
-      (fillerWord-in s (now (start .args .filling)) (start .pre .1 .0), (words-room _ atomLimit few (omega arith), start .pre .1 .1)),
+      (
+        fillerWord-in s (now (start .args .filling)) (start .pre .1 .0),
+        (words-room _ atomLimit few (omega arith), start .pre .1 .1),
+      ),
     )
 
 zeta-transform-requires : tie.Need-zeta-transform-requires

@@ -77,7 +77,8 @@ abbrev start : tie.At-loop Inv-loop μ-loop → tie.Start Inv-loop μ-loop
 start c = c .before .before
 
 tested : (c : tie.After-is-restriction Inv-loop μ-loop)
-    → c .is-restriction .result ≡ restricts (now (start (c .before .before .before) .args .v)) (c .before .before .before .loop .i)
+    → c .is-restriction .result ≡ restricts (now (start (c .before .before .before) .args .v))
+    (c .before .before .before .loop .i)
 tested c = c .is-restriction .ensures ∙ ap (λ (r : Record). isRestriction (r .kind)) (c .before .read-at .ensures)
 
 free : (c : tie.Then1 Inv-loop μ-loop) → c .before .before .before .before .loop .count < atomLimit

@@ -30,7 +30,8 @@ loop-again c =
     let a = at .before .args in (
       omega arith,
       c .push-bit .ensures
-          ∙ word-turn (a .bits) (otherRole (now (a .roles)) (a .role)) (at .loop .m) (at .loop .word) _ (omega arith) (omega arith)
+          ∙ word-turn (a .bits) (otherRole (now (a .roles)) (a .role)) (at .loop .m) (at .loop .word) _ (omega arith)
+          (omega arith)
           (at .loop .inv .1) refl,
     )
 

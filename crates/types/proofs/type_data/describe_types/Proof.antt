@@ -33,7 +33,8 @@ record Profiling (v : List ℕ) (a b : ℕ) (done alive differs : List Bool) (he
   held-filled : Filled 0 typeLimit held (restrictionWord v) t
   filling-filled : Filled 0 typeLimit filling (fillerWord v) t
 
-alive-at : (v : List ℕ) (alive : List Bool) → Filled false typeLimit alive (satisfies v) (types v) → Ends alive (types v) → (t : ℕ)
+alive-at : (v : List ℕ) (alive : List Bool) → Filled false typeLimit alive (satisfies v) (types v) → Ends alive (types v) →
+    (t : ℕ)
     → has alive t ≡ has (stage v 0) t
 unfolding stage
 alive-at v alive f e t = at (decLt t (types v))

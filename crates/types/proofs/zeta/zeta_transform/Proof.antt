@@ -35,4 +35,5 @@ returns c = let l = c .before .loop .inv in zeta-end _ _ _ _ (l .1) (l .0) (c .l
 pub zeta-transform-spec : {M : Type 1} → statement M
 zeta-transform-spec =
     tie.close
-    (tie.spec Inv-loop μ-loop (λ c. omega arith) loop-holds zeta-bit-requires (λ c. omega arith) (λ c. omega arith) loop-again returns)
+    (tie.spec Inv-loop μ-loop (λ c. omega arith) loop-holds zeta-bit-requires (λ c. omega arith)
+    (λ c. omega arith) loop-again returns)

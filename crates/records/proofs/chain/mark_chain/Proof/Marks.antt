@@ -45,12 +45,15 @@ module _ (v : List ℕ) (good : Accepted v) where
       of (inl e) = absurd (h e)
       of (inr s) = s
 
-  pub next : (marks : List Bool) (at x : ℕ) → Marking v marks at → Later v 0 at → x ≡ recordAt v at .next → Marking v (set marks at true) x
+  pub next : (marks : List Bool) (at x : ℕ) → Marking v marks at → Later v 0 at → x ≡ recordAt v at .next → Marking v
+      (set marks at true) x
   unfolding occurs
   next marks at x m s e =
       record {
         size = length-set marks at true ∙ m .size;
-        linked = subst (Linked v 0) (sym e) (onward-from (IsStatement v) (count v) 0 at (recordAt v at .next) (omega arith) (good .rises at (s .later) (s .within) (s .target)));
+        linked = subst (Linked v 0) (sym e)
+            (onward-from (IsStatement v) (count v) 0 at (recordAt v at .next) (omega arith)
+            (good .rises at (s .later) (s .within) (s .target)));
         marked = λ i. mark i (ℕ-discrete i at);
       }
     where

@@ -6,8 +6,11 @@ use Rattle.records.proofs.fields.Record.read.Tie as tie
 
 returns : tie.Need-returns
 returns c =
-    rw
-    (c .before .before .before .before .before .before .word .ensures, c .before .before .before .word2 .ensures, c .word3 .ensures)
+    rw (
+      c .before .before .before .before .before .before .word .ensures,
+      c .before .before .before .word2 .ensures,
+      c .word3 .ensures,
+    )
 
 pub read-spec : {M : Type 1} → statement M
 read-spec =
