@@ -17,8 +17,8 @@ use Rattle.types.specs.Bitmap.{written, readBack}
 use Rattle.scripts.specs.Format.{queryOf, chain}
 use Rattle.scripts.specs.Calculus.{Derives}
 use Rattle.scripts.specs.Run.{stepAt, scriptCheck}
-use Rattle.demands.specs.Table.{vocabularyTable, recordTable, comparisonTable, scriptTable, Follows}
-use Rattle.demands.specs.Table.{AcceptedVocabulary, TermOf, InForm}
+use Rattle.demands.specs.Table.{vocabularyTable, recordTable, comparisonTable, scriptTable, Follows, AcceptedVocabulary}
+use Rattle.demands.specs.Table.{TermOf, InForm}
 
 -- Demand 1: "Every call ends on every input, refuses unfit input itself by a fixed number and place, and a refusal alters no
 -- lent byte." Each call follows its table; otherwise it answers the number of records, the record's offset, the verdict, the

@@ -15,11 +15,11 @@ use Rattle.records.specs.Format.{recordSize, recordLimit}
 use Rattle.records.specs.Outcome.{Outcome, accepted, refused}
 use Rattle.records.specs.Check.{vocabularyCheck}
 use Rattle.records.specs.Call.{recordCall}
-use Rattle.records.proofs.Laws.Passed.{clash}
+use Rattle.records.proofs.Laws.Tests.{clash}
 use Rattle.types.specs.Comparison.{Verdict, equal, different, comparison}
 use Rattle.scripts.specs.Run.{scriptCheck}
-use Rattle.demands.proofs.Theorems.Bounds.{Small, SmallVerdict, vocabulary-small, record-small, most, comparison-small, mostPlace}
-use Rattle.demands.proofs.Theorems.Bounds.{script-small, query-below}
+use Rattle.demands.proofs.Theorems.Bounds.{Small, SmallVerdict, vocabulary-small, record-small, most, comparison-small}
+use Rattle.demands.proofs.Theorems.Bounds.{mostPlace, script-small, query-below}
 use Rattle.judge.specs.Packed.{numberOf, valueOf, packed, packedVerdict}
 
 pub record Unpacked (o : Outcome ℕ) : Type 0 where

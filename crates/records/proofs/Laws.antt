@@ -1,8 +1,8 @@
--- Generic laws: of outcomes and checks in order; of searches, tests, tables, numbers by their bits and ranges of kinds.
-pub mod Passed
-pub mod Order
-pub mod Search
+-- Generic laws: of tests, checks in order, searches, lists, tables, numbers by their bits and ranges of kinds.
 pub mod Tests
+pub mod Checks
+pub mod Search
+pub mod Lists
 pub mod Below
 pub mod Sets
 pub mod Bits

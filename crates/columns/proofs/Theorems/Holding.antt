@@ -10,7 +10,7 @@ use Prim.Native.Nat.{ℕ}
 use mathlib.Core.Path.{_≡_, refl, sym}
 use mathlib.Core.Bool.{Bool, true, false, Bool·beq, not, _&&_}
 use mathlib.Core.List.{List, [], _∷_}
-use Rattle.records.proofs.Laws.Passed.{clash}
+use Rattle.records.proofs.Laws.Tests.{clash}
 use Rattle.types.specs.Meaning.{Interpretation, belongs}
 use Rattle.columns.specs.Literals.{Literal, concept, role, complement}
 use Rattle.columns.specs.Holding.{literalHolds, literalsHold}

@@ -7,8 +7,7 @@ use mathlib.Core.Path.{_≡_, refl, ap₂}
 use mathlib.Core.Bool.{Bool, true, false, Bool·beq, not, _&&_}
 use lib.Dec.{eqb}
 use borrow.Author.Tests.{eqb-true, eq-eqb}
-use Rattle.records.proofs.Laws.Passed.{clash, both-left, both-right}
-use Rattle.records.proofs.Laws.Tests.{both-true}
+use Rattle.records.proofs.Laws.Tests.{clash, both-left, both-right, both-true}
 use Rattle.columns.specs.Literals.{SkolemTerm, constant, apply, Literal, concept, role, complement, sameTerm}
 use Rattle.columns.specs.Literals.{complementary}
 

@@ -22,14 +22,15 @@ use Rattle.records.specs.Kinds.{Construct, none, top, bottom, name, negation, c
 use Rattle.records.specs.Kinds.{inclusion, constructOf, isStatement}
 use Rattle.records.specs.Finite.{anyBelow, least}
 use Rattle.records.specs.Chain.{chained}
-use Rattle.records.proofs.Laws.Passed.{clash, both-left, both-right, either-left, either-right}
+use Rattle.records.proofs.Laws.Tests.{clash, both-left, both-right, either-left, either-right, both-true, implies-rest}
+use Rattle.records.proofs.Laws.Tests.{unless-true}
 use Rattle.records.proofs.Laws.Search.{any-intro, any-elim}
-use Rattle.records.proofs.Theorems.Accepted.{Accepted, All, all-at}
+use Rattle.records.proofs.Theorems.Accepted.{Accepted}
+use Rattle.records.proofs.Laws.Lists.{All, all-entry}
 use Rattle.records.proofs.Laws.Ranges.{statement-kind}
 use Rattle.records.proofs.Theorems.Constructs.{stating, construct-statement, construct-inclusion}
 use Rattle.types.specs.Meaning.{Interpretation, Element, Restriction, some, all, plain, restrictionOf, restrictionAt, evaluate}
 use Rattle.types.specs.Meaning.{atomAt, belongs, Model}
-use Rattle.records.proofs.Laws.Tests.{both-true, implies-rest, unless-true}
 use Rattle.records.proofs.Laws.Below.{least-holds, least-before}
 use Rattle.types.proofs.Theorems.Truth.{belongs-eq}
 use Rattle.types.proofs.Theorems.Witnesses.{Pair, some-holds, some-gives, all-gives, all-misses}
@@ -248,6 +249,6 @@ pub none-holds : (v : List ℕ) (good : Accepted v) (q : Query) (I : Interpretat
 none-holds v good q I model denied = (
   choice I v q denied,
   λ owner n d e at to h.
-      all-at (Fails v good q I model denied owner d e) (columnsAt v q owner) []
+      all-entry (Fails v good q I model denied owner d e) (columnsAt v q owner) []
       (columns-none v good q I model denied owner d e at to) n h,
 )

@@ -9,7 +9,7 @@ use mathlib.Core.Path.{_≡_, refl, sym, ap, _∙_}
 use mathlib.Core.Bool.{Bool, true, false, not}
 use mathlib.Core.List.{List, [], _∷_, _++_}
 use Rattle.records.specs.Outcome.{Outcome, Check, accepted, refused, pass, _then_, require, inTurn}
-use Rattle.records.proofs.Laws.Passed.{clash}
+use Rattle.records.proofs.Laws.Tests.{clash}
 use Rattle.demands.specs.Table.{Row, row, rowsInTurn, NoneApplies, Refuses, Follows}
 
 abbrev pub first : List Row → Check

@@ -21,8 +21,10 @@ use Rattle.records.specs.Format.{recordSize, recordLimit, count}
 use Rattle.records.specs.Check.{lengthFits, vocabularyCheck}
 use Rattle.records.specs.Call.{recordCall}
 use Rattle.records.specs.Atoms.{atoms}
-use Rattle.records.proofs.Laws.Passed.{clash, Sized, require-passed, length-passed}
-use Rattle.records.proofs.Theorems.Accepted.{All}
+use Rattle.records.proofs.Laws.Tests.{clash}
+use Rattle.records.proofs.Theorems.Accepted.{Sized, length-passed}
+use Rattle.records.proofs.Laws.Checks.{require-passed}
+use Rattle.records.proofs.Laws.Lists.{All}
 use Rattle.records.proofs.Theorems.Ranks.{rank-bound}
 use Rattle.records.specs.Finite.{members}
 use Rattle.types.specs.Types.{types}

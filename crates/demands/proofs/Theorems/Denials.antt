@@ -9,7 +9,7 @@ use mathlib.Core.Bool.{Bool, true, false, not}
 use mathlib.Core.List.{List}
 use lib.ListN.{length}
 use Rattle.records.specs.Outcome.{accepted}
-use Rattle.records.proofs.Laws.Passed.{clash}
+use Rattle.records.proofs.Laws.Tests.{clash}
 use Rattle.types.specs.Meaning.{Interpretation, Element, belongs, Model, AlwaysWithin}
 use Rattle.types.specs.Comparison.{Verdict, equal, different, comparison}
 use Rattle.types.specs.Bitmap.{written, readBack}

@@ -24,8 +24,8 @@ use Rattle.scripts.specs.Run.{isStart, connects, reduces, hasRoom, stepCheck, r
 use Rattle.demands.specs.Table.{Row, Follows, recordRows, nextRows, vocabularyTable, recordTable, termRow}
 use Rattle.demands.specs.Table.{comparisonTable, entryRows, nextStepRows, formTable, OpenFrames, framesAfter, stepRows}
 use Rattle.demands.specs.Table.{laterRows, chainTable, scriptTable, TermOf, InForm}
-use Rattle.demands.proofs.Laws.Rows.{then-assoc, none-passed, row-passed, Tries, follows}
-use Rattle.demands.proofs.Laws.Rows.{append-is, row-is, plain-is, last-is, turns-are}
+use Rattle.demands.proofs.Laws.Rows.{then-assoc, none-passed, row-passed, Tries, follows, append-is, row-is, plain-is}
+use Rattle.demands.proofs.Laws.Rows.{last-is, turns-are}
 
 -- what comes after the vocabulary check comes after its rows
 after-count : {B C : Type 0} (v : List ℕ) (b : Outcome B) (c : Outcome C)

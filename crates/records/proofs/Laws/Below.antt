@@ -10,7 +10,7 @@ use native.Mathlib.Omega.{arith}
 use native.Mathlib.Decide.{ℕ-discrete}
 use mathlib.Core.Path.{_≡_, refl, sym, subst, ap}
 use mathlib.Core.Bool.{Bool, true, false, cond, _&&_}
-use Rattle.records.proofs.Laws.Passed.{clash, both-left, both-right}
+use Rattle.records.proofs.Laws.Tests.{clash, both-left, both-right}
 use Rattle.records.specs.Finite.{allBelow, least}
 
 module _ (test : ℕ → Bool) where

@@ -17,7 +17,7 @@ use lib.Dec.{leb, eqb}
 use borrow.Author.Tests.{eq-eqb, ne-eqb, lt-leb, leb-true, eqb-true}
 use Rattle.records.specs.Kinds.{Class, Silent, areTerms, areAtoms, areRestrictions, areStatements, Kind, noKind, kinds}
 use Rattle.records.specs.Kinds.{kindOf, isTerm, isAtom, isRestriction, isStatement}
-use Rattle.records.proofs.Laws.Passed.{clash, both-left, both-right}
+use Rattle.records.proofs.Laws.Tests.{clash, both-left, both-right}
 
 -- What holds at each of n numbers from k on.
 abbrev pub Run : (ℕ → Type 0) → ℕ → ℕ → Type 0

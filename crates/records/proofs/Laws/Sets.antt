@@ -11,7 +11,7 @@ use mathlib.Core.Path.{_≡_, refl, ap}
 use mathlib.Core.Bool.{Bool, true, false}
 use mathlib.Core.List.{List, [], _∷_}
 use lib.ListN.{length, getD}
-use Rattle.records.proofs.Laws.Passed.{clash}
+use Rattle.records.proofs.Laws.Tests.{clash}
 use Rattle.records.specs.Finite.{digit, table, has, members}
 
 module _ {A : Type 0} where

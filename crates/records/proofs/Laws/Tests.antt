@@ -1,15 +1,40 @@
--- Tests made of tests: how a conjunction, a disjunction or an implication is shown, and what it gives. (`both-left`, `both-right`
--- of records: the parts of a true conjunction.)
---   both-true, both-rest         a conjunction; the second part of a false one whose first part is true
---   either-true, either-rest     a disjunction; its second part, if the first is false
---   implies-true, implies-rest   an implication, `not a || b`; its second part, if the first is true
---   not-both                     the parts of an implication that fails
---   unless-true, unless-false    a test that cannot hold; one that cannot fail
---   same-truth                   two tests that follow from each other
+-- Tests made of tests: how a conjunction, a disjunction or an implication is shown, and what it gives.
+--   clash                               two different constructors are not equal
+--   both-left, both-right               the parts of a true conjunction
+--   either-left, either-right           the parts of a false disjunction
+--   both-true, both-rest                a conjunction; the second part of a false one whose first part is true
+--   both-first-false, both-first-true   a conjunction whose first test was made by a call
+--   either-true, either-rest            a disjunction; its second part, if the first is false
+--   implies-true, implies-rest          an implication, `not a || b`; its second part, if the first is true
+--   not-both                            the parts of an implication that fails
+--   unless-true, unless-false           a test that cannot hold; one that cannot fail
+--   same-truth                          two tests that follow from each other
 -- Assumes nothing.
-use mathlib.Core.Path.{_≡_, refl, sym}
+use Prim.Native.Nat.{ℕ}
+use native.Mathlib.Omega.{arith}
+use mathlib.Core.Path.{_≡_, refl, sym, _∙_}
 use mathlib.Core.Bool.{Bool, true, false, not, _&&_, _||_}
-use Rattle.records.proofs.Laws.Passed.{clash}
+use borrow.Author.Tests.{not-true, not-false}
+
+-- what two different constructors would show, were they equal
+pub clash : _≡_ {A = ℕ} 0 1 → ⊥
+clash e = omega arith
+
+pub both-left : (a b : Bool) → (a && b) ≡ true → a ≡ true
+both-left true b e = refl
+both-left false b e = e
+
+pub both-right : (a b : Bool) → (a && b) ≡ true → b ≡ true
+both-right true b e = e
+both-right false b e = absurd (clash (cc))
+
+pub either-left : (a b : Bool) → (a || b) ≡ false → a ≡ false
+either-left true b e = e
+either-left false b e = refl
+
+pub either-right : (a b : Bool) → (a || b) ≡ false → b ≡ false
+either-right true b e = absurd (clash (cc))
+either-right false b e = e
 
 pub both-true : (a b : Bool) → a ≡ true → b ≡ true → (a && b) ≡ true
 both-true a b p q = rw (p, q)
@@ -50,3 +75,10 @@ pub same-truth : (a b : Bool) → (a ≡ true → b ≡ true) → (b ≡ true �
 same-truth true b f g = sym (f refl)
 same-truth false true f g = g refl
 same-truth false false f g = refl
+
+-- A conjunction whose first test was made: it fails, or the rest decides.
+pub both-first-false : (r a b : Bool) → r ≡ a → not r ≡ true → false ≡ (a && b)
+both-first-false r a b e h = rw (← e, not-true r h)
+
+pub both-first-true : (r a b o : Bool) → r ≡ a → not r ≡ false → o ≡ b → o ≡ (a && b)
+both-first-true r a b o e h q = q ∙ rw (← e, not-false r h)

@@ -21,7 +21,8 @@ use Rattle.records.specs.Code.Fields.{fieldFits, allFit, noFault, firstO
 use Rattle.records.specs.declared.fields.Record.{Record}
 use Rattle.records.specs.declared.kinds.Sort.{Sort}
 use Rattle.records.specs.declared.kinds.Sort.the-variants.{Spare, Term, Role, Label, Link}
-use Rattle.records.proofs.Laws.Passed.{clash, require-passed}
+use Rattle.records.proofs.Laws.Tests.{clash}
+use Rattle.records.proofs.Laws.Checks.{require-passed}
 
 then-pass : (a : Check) → (a then pass) ≡ a
 then-pass (accepted u) = refl

@@ -1,13 +1,13 @@
 -- What acceptance gives the crates above: fields hold what their sorts say, so that operands are earlier terms and roles are
 -- below the count; labels differ, and links lead to later statements.
---   All, all-at, all-map                           what holds of every entry of a list
+--   Sized, length-passed                           what row 1 tells
 --   Parts, partsOf, Over, over-map                 a construct's class, its roles and its operands; what holds of each operand
 --   Operand, Linked, Held, WellFounded, Accepted   what is told of a field, of a record, of a vocabulary
 --   well-formed-vocabulary                         a vocabulary that passed rows 1 to 8 is Accepted
 --   accepted-well-formed                           one that the vocabulary check accepts passed them
 --   accepted-vocabulary                            and so is Accepted
 -- Assumes nothing.
-use Prim.Native.Nat.{ℕ, zero, suc, _-_, _≤_, _<_}
+use Prim.Native.Nat.{ℕ, zero, suc, _-_, _*_, _%_, _≤_, _<_}
 use native.Mathlib.Omega.{arith}
 use mathlib.Core.Path.{_≡_, refl, sym, subst, _∙_}
 use mathlib.Core.Bool.{Bool, true, false, not, _&&_, _||_}
@@ -17,43 +17,43 @@ use mathlib.Core.Logic.{inl, inr}
 use lib.Dec.{ltb, leb, eqb}
 use borrow.Author.Tests.{ltb-true, leb-true, eqb-true, eq-eqb, not-true}
 use Rattle.records.specs.Outcome.{accepted, pass, _then_, inTurn}
-use Rattle.records.specs.Format.{roleLimit, recordAt, count, firstStatement, roleCount}
+use Rattle.records.specs.Format.{recordSize, recordLimit, roleLimit, recordAt, count, firstStatement, roleCount}
 use Rattle.records.specs.Kinds.{Construct, none, top, bottom, name, negation, conjunction, disjunction, existential}
 use Rattle.records.specs.Kinds.{universal, inclusion, sorts, negationFields, restrictionFields, Class, Silent, Connective}
 use Rattle.records.specs.Kinds.{Name, Restriction, Statement, Kind, noKind, kinds, kindOf, sortsOf, isTerm, isStatement}
 use Rattle.records.specs.Kinds.{Sorts}
-use Rattle.records.specs.Check.{headCheck, lengthCheck, headerFits, headerCheck, kindCheck, named, labelled, termFits}
-use Rattle.records.specs.Check.{linkFits, rowsCheck, recordCheck, nextFits, linkCheck, linksCheck, IsWellFormed}
+use Rattle.records.specs.Check.{headCheck, lengthFits, lengthCheck, headerFits, headerCheck, kindCheck, named, labelled}
+use Rattle.records.specs.Check.{termFits, linkFits, rowsCheck, recordCheck, nextFits, linkCheck, linksCheck, IsWellFormed}
 use Rattle.records.specs.Check.{recordsCheck, vocabularyCheck}
 use Rattle.records.specs.Code.Fields.{fieldFits}
 use Rattle.records.specs.declared.fields.Record.{Record}
 use Rattle.records.specs.declared.kinds.Sort.{Sort}
 use Rattle.records.specs.declared.kinds.Sort.the-variants.{Spare, Term, Role, Label, Link}
-use Rattle.records.proofs.Laws.Passed.{clash, Sized, length-passed, both-left, both-right, require-passed, then-passed}
-use Rattle.records.proofs.Laws.Passed.{turn-at, any-at}
+use Rattle.records.proofs.Laws.Tests.{clash, both-left, both-right}
+use Rattle.records.proofs.Laws.Checks.{require-passed, then-passed, turn-at}
+use Rattle.records.proofs.Laws.Search.{any-at}
 use Rattle.records.proofs.Theorems.Following.{Ahead, Onward}
 use Rattle.records.proofs.Laws.Ranges.{statement-range, statement-kind}
 use Rattle.records.proofs.Refinement.Rows.{rows-passed}
+use Rattle.records.proofs.Laws.Lists.{All, all-map, all-default}
 
--- What holds of every entry of a list holds of the entry at an index, and so does what follows from it.
-abbrev pub All : {A : Type 0} → (A → Type 0) → List A → Type 0
-All P [] = Unit {0}
-All P (x ∷ xs) = P x × All P xs
+-- Row 1 passed: 8 to 4,096 bytes, a multiple of 8.
+pub record Sized (v : List ℕ) : Type 0 where
+  pub least : recordSize ≤ length v
+  pub most : length v ≤ recordSize * recordLimit
+  pub whole : length v % recordSize ≡ 0
 
-pub all-at : {A : Type 0} (P : A → Type 0) (l : List A) (d : A) → All P l → (k : ℕ) → k < length l → P (getD l k d)
-all-at P [] d t k h = absurd (omega arith)
-all-at P (x ∷ xs) d t zero h = t .0
-all-at P (x ∷ xs) d t (suc k) h = all-at P xs d (t .1) k (omega arith)
-
-pub all-map : {A : Type 0} (P Q : A → Type 0) → ((x : A) → P x → Q x) → (l : List A) → All P l → All Q l
-all-map P Q f [] t = tt
-all-map P Q f (x ∷ xs) t = (f x (t .0), all-map P Q f xs (t .1))
-
--- the same where the entry past the end is known
-pub all-default : {A : Type 0} (P : A → Type 0) (l : List A) (d : A) → P d → All P l → (k : ℕ) → P (getD l k d)
-all-default P [] d p t k = p
-all-default P (x ∷ xs) d p t zero = t .0
-all-default P (x ∷ xs) d p t (suc k) = all-default P xs d p (t .1) k
+pub length-passed : (v : List ℕ) → lengthCheck v ≡ pass → Sized v
+length-passed v e =
+    let fit : lengthFits v ≡ true = require-passed (lengthFits v) 1 0 e in
+    let rest = both-right (leb recordSize (length v))
+    (leb (length v) (recordSize * recordLimit) && eqb (length v % recordSize) 0) fit in
+    record {
+      least = leb-true _ _ (both-left (leb recordSize (length v))
+          (leb (length v) (recordSize * recordLimit) && eqb (length v % recordSize) 0) fit);
+      most = leb-true _ _ (both-left (leb (length v) (recordSize * recordLimit)) (eqb (length v % recordSize) 0) rest);
+      whole = eqb-true _ _ (both-right (leb (length v) (recordSize * recordLimit)) (eqb (length v % recordSize) 0) rest);
+    }
 
 -- A construct taken apart: what it is, the roles and the records that it speaks of.
 pub record Parts : Type 0 where

@@ -13,7 +13,7 @@ use Rattle.records.specs.Outcome.{accepted, _then_, require}
 use Rattle.records.specs.Format.{recordSize, count}
 use Rattle.records.specs.Check.{lengthCheck, recordsCheck, vocabularyCheck}
 use Rattle.records.specs.Call.{recordCall}
-use Rattle.records.proofs.Laws.Passed.{require-passed, then-passed}
+use Rattle.records.proofs.Laws.Checks.{require-passed, then-passed}
 
 pub vocabulary-count : (v : List ℕ) (n : ℕ) → vocabularyCheck v ≡ accepted n → n ≡ count v
 unfolding vocabularyCheck

@@ -1,5 +1,4 @@
 -- The chain of an accepted vocabulary rises and ends.
---   all-occurring     what holds of every number that occurs in a list
 --   chain-step        the chain from a statement
 --   chain-ends        followed as far as one likes it is the chain
 --   chain-rises       each statement is after the one before
@@ -13,14 +12,8 @@ use lib.Dec.{eqb}
 use borrow.Author.Tests.{eq-eqb}
 use Rattle.records.specs.Format.{recordAt, count, firstStatement}
 use Rattle.records.specs.Chain.{nextStatement, follow, chainFrom, chain, chained}
-use Rattle.records.specs.Finite.{occurs}
-use Rattle.records.proofs.Theorems.Accepted.{Accepted, IsStatement, Later, All}
+use Rattle.records.proofs.Theorems.Accepted.{Accepted, IsStatement, Later}
 use Rattle.records.proofs.Theorems.Following.{Rising, follow-step, follow-ends, follow-rises, follow-target}
-
-pub all-occurring : (P : ℕ → Type 0) (is : List ℕ) → ((i : ℕ) → occurs i is ≡ true → P i) → All P is
-unfolding occurs
-all-occurring P [] h = tt
-all-occurring P (i ∷ is) h = (h i (rw (eq-eqb i i refl)), all-occurring P is (λ j o. h j (rw o (or-true (eqb j i)))))
 
 module _ (v : List ℕ) (good : Accepted v) where
   pub chain-step : (i x : ℕ) → Later v i x → chainFrom v x ≡ x ∷ chainFrom v (recordAt v x .next)

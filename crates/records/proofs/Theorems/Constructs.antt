@@ -20,10 +20,10 @@ use Rattle.records.specs.Format.{recordSize, recordAt, count, roleCount}
 use Rattle.records.specs.Kinds.{Construct, none, inclusion, constructOf, areAtoms, areRestrictions, areStatements, Class}
 use Rattle.records.specs.Kinds.{Kind, noKind, kindOf, kinds, isAtom, isRestriction, isStatement}
 use Rattle.records.specs.declared.fields.Record.{Record}
-use Rattle.records.proofs.Laws.Passed.{Sized}
-use Rattle.records.proofs.Laws.Ranges.{tested, kind-tested, same-true}
-use Rattle.records.proofs.Theorems.Accepted.{Accepted, all-default, WellFounded, Operand, Over, over-map, partsOf}
+use Rattle.records.proofs.Theorems.Accepted.{Sized, Accepted, WellFounded, Operand, Over, over-map, partsOf}
 use Rattle.records.proofs.Theorems.Accepted.{fields-well-founded}
+use Rattle.records.proofs.Laws.Ranges.{tested, kind-tested, same-true}
+use Rattle.records.proofs.Laws.Lists.{all-default}
 pub use Rattle.records.proofs.Laws.Ranges.{kind-past}
 pub use Rattle.records.proofs.Theorems.Accepted.{RoleBelow}
 

@@ -18,7 +18,7 @@ use lib.Dec.{eqb}
 use borrow.Author.Tests.{eqb-true}
 use Rattle.records.specs.Chain.{follow}
 use Rattle.records.specs.Finite.{occurs}
-use Rattle.records.proofs.Laws.Passed.{clash}
+use Rattle.records.proofs.Laws.Tests.{clash}
 
 -- x comes after i, below n, and may be on the chain.
 pub record Ahead (Target : ℕ → Type 0) (n i x : ℕ) : Type 0 where

@@ -12,7 +12,7 @@ use mathlib.Core.Bool.{Bool}
 use mathlib.Core.List.{List, [], _∷_}
 use lib.ListN.{length, getD}
 use Rattle.records.specs.Outcome.{require}
-use Rattle.records.proofs.Theorems.Accepted.{All}
+use Rattle.records.proofs.Laws.Lists.{All}
 use Rattle.scripts.specs.Steps.{Step, start, extension, reduction, extensionBy, stepBy}
 use Rattle.records.specs.Finite.{without, isNil}
 use Rattle.scripts.specs.Run.{isStart, Frames, close, extendBy, Setting, goal, stepCheck, stepped, run, chainCheck}

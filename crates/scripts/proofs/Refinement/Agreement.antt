@@ -9,7 +9,8 @@ use native.Mathlib.Omega.{arith}
 use mathlib.Core.Path.{_≡_}
 use mathlib.Core.Bool.{true, false}
 use mathlib.Core.List.{List, [], _∷_}
-use Rattle.records.proofs.Theorems.Accepted.{Accepted, All}
+use Rattle.records.proofs.Theorems.Accepted.{Accepted}
+use Rattle.records.proofs.Laws.Lists.{All}
 use Rattle.columns.specs.Literals.{constant}
 use Rattle.scripts.specs.Steps.{Step, start, extension, reduction}
 use Rattle.scripts.specs.Format.{entries, queryOf, termAt, recordStep, chain}

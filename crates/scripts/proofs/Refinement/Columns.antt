@@ -10,7 +10,8 @@ use native.Mathlib.Omega.{arith}
 use mathlib.Core.Path.{_≡_, refl, sym, ap, ap₂}
 use mathlib.Core.Bool.{Bool, true, false}
 use mathlib.Core.List.{List, [], _∷_, map}
-use Rattle.records.proofs.Theorems.Accepted.{Accepted, All}
+use Rattle.records.proofs.Theorems.Accepted.{Accepted}
+use Rattle.records.proofs.Laws.Lists.{All}
 use Rattle.columns.specs.Literals.{SkolemTerm, constant, apply, Literal, concept, role, substitute}
 use Rattle.columns.specs.Columns.{Argument, x, y, fx, a, Column, columnsAt, columnAt, arguments, instanceAt}
 use Rattle.columns.specs.Code.Packed.{packed, packedAt, predicateLimit}

@@ -12,7 +12,7 @@ use mathlib.Core.Logic.{_⊎_, inl, inr}
 use lib.ListN.{length}
 use lib.Dec.{ltb, eqb}
 use borrow.Author.Tests.{ltb-true, eqb-true}
-use Rattle.records.proofs.Laws.Passed.{both-left, both-right}
+use Rattle.records.proofs.Laws.Tests.{both-left, both-right}
 use Rattle.records.proofs.Theorems.Accepted.{Accepted, accepted-vocabulary}
 use Rattle.columns.specs.Literals.{SkolemTerm, apply}
 use Rattle.columns.specs.Columns.{columnAt, takesY}

@@ -22,7 +22,7 @@ use lib.ListN.{length, getD, set, drop, length-map, length-set}
 use lib.Seq.{getD-set-same, getD-set-other}
 use lib.Dec.{eqb}
 use borrow.Author.Tests.{ne-eqb}
-use Rattle.records.proofs.Laws.Passed.{clash}
+use Rattle.records.proofs.Laws.Tests.{clash}
 use Rattle.columns.specs.Code.Packed.{untilZero}
 use Rattle.records.specs.Finite.{without, isNil}
 use Rattle.scripts.specs.Calculus.{frameLimit}

@@ -21,7 +21,8 @@ use borrow.Author.Tests.{eq-eqb, ne-eqb}
 use Rattle.records.specs.Format.{recordAt, count, roleCount}
 use Rattle.records.specs.Kinds.{Construct, none, top, bottom, name, negation, conjunction, disjunction, existential, universal}
 use Rattle.records.specs.Kinds.{inclusion, constructOf}
-use Rattle.records.proofs.Theorems.Accepted.{Accepted, All}
+use Rattle.records.proofs.Theorems.Accepted.{Accepted}
+use Rattle.records.proofs.Laws.Lists.{All}
 use Rattle.records.proofs.Theorems.Constructs.{Earlier, construct-earlier, RoleBelow, construct-role}
 use Rattle.records.specs.Finite.{digit}
 use Rattle.columns.specs.Literals.{Literal, concept, role, substitute, complementary}

@@ -16,7 +16,7 @@ use Rattle.records.specs.Outcome.{Outcome, accepted, refused, pass, _then_, req
 use Rattle.records.specs.Answers.{checked}
 use Rattle.records.specs.declared.answers.Checked.{Checked}
 use Rattle.records.specs.declared.answers.Checked.the-variants.{Refused}
-use Rattle.records.proofs.Laws.Passed.{clash}
+use Rattle.records.proofs.Laws.Tests.{clash}
 use Rattle.columns.specs.Columns.{Query, queryColumns, columnsAt}
 use Rattle.columns.specs.Code.Packed.{packedAt, untilZero}
 use Rattle.scripts.specs.Format.{entryAt, queryIn, firstStep, chainFrom, chain}

@@ -20,7 +20,7 @@ use Rattle.records.specs.Outcome.{pass, refused, _then_, require}
 use Rattle.records.specs.Answers.{checked}
 use Rattle.records.specs.declared.answers.Checked.{Checked}
 use Rattle.records.specs.declared.answers.Checked.the-variants.{Refused}
-use Rattle.records.proofs.Laws.Passed.{clash, both-right}
+use Rattle.records.proofs.Laws.Tests.{clash, both-right}
 use Rattle.columns.specs.Code.Packed.{untilZero}
 use Rattle.scripts.specs.Steps.{Extension, start, extension, reduction}
 use Rattle.scripts.specs.Format.{entryAt, extensionOf, kindOf, isStep, stepOf, recordStep}

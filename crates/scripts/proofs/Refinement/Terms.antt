@@ -26,10 +26,10 @@ use lib.Dec.{ltb, eqb}
 use borrow.Author.Tests.{ltb-true, eqb-true, eq-eqb, ne-eqb, not-true}
 use Rattle.records.specs.Format.{recordAt, count, wordAt}
 use Rattle.records.specs.Kinds as vocabulary
-use Rattle.records.proofs.Laws.Passed.{clash, both-left, both-right, any-at}
+use Rattle.records.proofs.Laws.Tests.{clash, both-left, both-right, same-truth}
+use Rattle.records.proofs.Laws.Search.{any-at}
 use Rattle.records.proofs.Theorems.Accepted.{Accepted}
 use Rattle.records.proofs.Laws.InOrder.{in-order}
-use Rattle.records.proofs.Laws.Tests.{same-truth}
 use Rattle.columns.specs.Literals.{SkolemTerm, constant, apply, sameTerm}
 use Rattle.columns.specs.Code.Packed.{termLimit}
 use Rattle.columns.proofs.Theorems.Literals.{sameTerm-true, sameTerm-refl}

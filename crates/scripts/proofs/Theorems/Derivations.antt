@@ -17,7 +17,7 @@ use mathlib.Core.List.{List, [], _∷_, map, _++_, append-assoc, append-nil}
 use lib.ListN.{length, length-append}
 use borrow.Author.Tests.{ltb-true}
 use Rattle.records.specs.Outcome.{pass}
-use Rattle.records.proofs.Laws.Passed.{clash}
+use Rattle.records.proofs.Laws.Tests.{clash}
 use Rattle.columns.specs.Literals.{SkolemTerm, Literal, complement}
 use Rattle.columns.specs.Columns.{Query}
 use Rattle.scripts.specs.Format.{queryOf}

@@ -22,12 +22,11 @@ use borrow.Author.Tests.{ltb-true, leb-true, eqb-true}
 use Rattle.records.specs.Outcome.{pass, _then_, require, inTurn}
 use Rattle.records.specs.Format.{recordAt, count}
 use Rattle.records.specs.Kinds.{isTerm}
-use Rattle.records.proofs.Laws.Passed.{both-left, both-right, require-passed, then-passed, turn-at}
+use Rattle.records.proofs.Laws.Tests.{both-left, both-right, implies-rest}
+use Rattle.records.proofs.Laws.Checks.{require-passed, then-passed, turn-at}
 use Rattle.records.proofs.Theorems.Following.{Ahead, Onward, follow-few, follow-target}
-use Rattle.records.proofs.Theorems.Accepted.{All}
-use Rattle.records.proofs.Theorems.Chains.{all-occurring}
+use Rattle.records.proofs.Laws.Lists.{All, all-occurring}
 use Rattle.types.specs.Comparison.{termCheck}
-use Rattle.records.proofs.Laws.Tests.{implies-rest}
 use Rattle.columns.specs.Columns.{columnAt, takesY}
 use Rattle.scripts.specs.Steps.{Step, start, extension, reduction, stepBy}
 use Rattle.scripts.specs.Format.{entrySize, entryLimit, entryAt, entries, queryOf, firstStep, Line, blank, named, applied}

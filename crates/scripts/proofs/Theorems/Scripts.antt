@@ -10,7 +10,8 @@ use mathlib.Core.List.{List, map}
 use lib.ListN.{length}
 use Rattle.records.specs.Outcome.{Outcome, accepted, refused, pass, _then_}
 use Rattle.records.specs.Check.{vocabularyCheck}
-use Rattle.records.proofs.Laws.Passed.{clash, then-passed}
+use Rattle.records.proofs.Laws.Tests.{clash}
+use Rattle.records.proofs.Laws.Checks.{then-passed}
 use Rattle.records.proofs.Theorems.Accepted.{accepted-vocabulary}
 use Rattle.types.specs.Meaning.{AlwaysWithin}
 use Rattle.scripts.specs.Format.{queryOf, chain}

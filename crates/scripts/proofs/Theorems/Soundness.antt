@@ -17,10 +17,10 @@ use mathlib.Core.Bool.{Bool, true, false, not}
 use mathlib.Core.List.{List, [], _∷_, map}
 use lib.ListN.{length, getD, length-map, List·getD-eq-default}
 use borrow.Author.Tests.{not-false}
-use Rattle.records.proofs.Laws.Passed.{clash, both-left, both-right}
-use Rattle.records.proofs.Theorems.Accepted.{Accepted, All, all-at}
+use Rattle.records.proofs.Laws.Tests.{clash, both-left, both-right, both-true, unless-false}
+use Rattle.records.proofs.Theorems.Accepted.{Accepted}
+use Rattle.records.proofs.Laws.Lists.{All, all-entry}
 use Rattle.types.specs.Meaning.{Interpretation, belongs, AlwaysWithin}
-use Rattle.records.proofs.Laws.Tests.{both-true, unless-false}
 use Rattle.columns.specs.Literals.{SkolemTerm, constant, Literal, concept, role, complement, substitute, noLiteral}
 use Rattle.columns.specs.Columns.{Column, Query, columnsAt}
 use Rattle.columns.specs.Holding.{literalHolds, literalsHold, Choice, NoneHolds, value}
@@ -73,7 +73,7 @@ module _ (I : Interpretation) (v : List ℕ) (k : Choice I) where
   reduced-true : (l : Literal SkolemTerm) (path : Literals) (f : ℕ) → f < length path
       → onPath path f ≡ complement l → AllFalse path → truthOf l ≡ true
   reduced-true l path f h p fails =
-      let met = all-at (λ l. truthOf l ≡ false) path noLiteral fails (length path - suc f) (omega arith) in
+      let met = all-entry (λ l. truthOf l ≡ false) path noLiteral fails (length path - suc f) (omega arith) in
       not-false (truthOf l) (sym (complement-truth l) ∙ sym (ap truthOf p) ∙ met)
 
   module _ (q : Query) (none : NoneHolds I k v q) where

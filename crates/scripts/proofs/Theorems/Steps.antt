@@ -18,7 +18,7 @@ use mathlib.Core.List.{List, [], _∷_, map}
 use lib.ListN.{length, getD, length-map, List·getD-map}
 use lib.Dec.{ltb}
 use borrow.Author.Tests.{lt-ltb, ltb-true}
-use Rattle.records.proofs.Laws.Passed.{both-left, both-right}
+use Rattle.records.proofs.Laws.Tests.{both-left, both-right}
 use Rattle.columns.specs.Literals.{SkolemTerm, Literal, complement, complementary, noLiteral}
 use Rattle.columns.specs.Columns.{Query, columnsAt}
 use Rattle.columns.proofs.Theorems.Literals.{complementary-true, complementary-complement}

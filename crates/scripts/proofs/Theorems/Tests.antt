@@ -9,7 +9,7 @@ use mathlib.Core.Path.{_≡_, refl, _∙_}
 use mathlib.Core.Bool.{Bool, true, false, not, _&&_}
 use mathlib.Core.List.{List, [], _∷_, map}
 use Rattle.records.specs.Outcome.{Check, accepted, refused, pass, _then_, require}
-use Rattle.records.proofs.Laws.Passed.{clash}
+use Rattle.records.proofs.Laws.Tests.{clash}
 use Rattle.scripts.specs.Steps.{Step}
 use Rattle.scripts.specs.Run.{Frames, isStart, Setting, connects, reduces, hasRoom, stepCheck, stepped, run, chainCheck}
 use Rattle.records.specs.Finite.{isNil}

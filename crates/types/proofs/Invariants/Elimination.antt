@@ -16,14 +16,12 @@ use lib.Dec.{eqb}
 use lib.Seq.{getD-set-same, getD-set-other}
 use borrow.Author.Tests.{eq-eqb, ne-eqb}
 use Rattle.records.specs.Finite.{anyBelow, has}
-use Rattle.records.proofs.Laws.Order.{any-hit, any-miss}
-use Rattle.records.proofs.Laws.Passed.{clash, both-left}
-use Rattle.records.proofs.Laws.Search.{any-intro}
+use Rattle.records.proofs.Laws.Search.{any-hit, any-miss, any-intro}
+use Rattle.records.proofs.Laws.Tests.{clash, both-left, both-true, same-truth}
 use Rattle.types.specs.Comparison.{typeLimit}
 use Rattle.types.specs.Code.Elimination.{Enumerates, Enters, Keeps}
 use Rattle.types.proofs.Invariants.Lists.{ListedBelow}
 use Rattle.records.proofs.Laws.Sets.{Within}
-use Rattle.records.proofs.Laws.Tests.{both-true, same-truth}
 
 -- The members of a set, listed, enumerate it.
 pub list-enumerates : (S : List Bool) (types : List ℕ) (left t : ℕ) → ListedBelow typeLimit S types left t → t ≤ typeLimit

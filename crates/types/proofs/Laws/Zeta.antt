@@ -13,7 +13,7 @@ use mathlib.Core.Bool.{Bool, true, false, cond, not, _||_, and-true, and-false, 
 use lib.Dec.{eqb}
 use lib.Bits.{bitOr, or-lt}
 use borrow.Author.Tests.{eq-eqb, ne-eqb}
-use Rattle.records.proofs.Laws.Passed.{clash, both-left}
+use Rattle.records.proofs.Laws.Tests.{clash, both-left}
 use Rattle.records.specs.Finite.{bit}
 use Rattle.types.specs.Code.Words.{zeta}
 use Rattle.records.proofs.Laws.Bits.{bit-or, Cleared, cleared}

@@ -8,7 +8,7 @@ use mathlib.Core.Path.{_≡_, refl, sym, _∙_}
 use mathlib.Core.Bool.{Bool, true, false, not, _||_, or-true}
 use mathlib.Core.List.{List}
 use Rattle.records.specs.Format.{count}
-use Rattle.records.proofs.Laws.Passed.{clash}
+use Rattle.records.proofs.Laws.Tests.{clash}
 use Rattle.records.specs.Finite.{bit}
 use Rattle.types.specs.Meaning.{restrictionAt}
 use Rattle.types.specs.Types.{allows, allowed}

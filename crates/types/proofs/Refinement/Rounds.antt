@@ -22,8 +22,8 @@ use lib.Pow.{pow-mono, shl-exact}
 use borrow.Author.Tests.{not-true, not-false}
 use Rattle.records.specs.Format.{roleCount, count}
 use Rattle.records.specs.Finite.{anyBelow, allBelow, has, number}
-use Rattle.records.proofs.Laws.Passed.{clash, both-left, both-right, any-at}
-use Rattle.records.proofs.Laws.Search.{any-intro, any-elim, any-cong}
+use Rattle.records.proofs.Laws.Tests.{clash, both-left, both-right, same-truth, both-true, unless-false}
+use Rattle.records.proofs.Laws.Search.{any-at, any-intro, any-elim, any-cong}
 use Rattle.records.proofs.Theorems.Accepted.{Accepted, accepted-vocabulary}
 use Rattle.types.specs.Types.{types, served}
 use Rattle.types.specs.Survivors.{satisfies, round, removes, stage, rounds, survivors}
@@ -31,7 +31,6 @@ use Rattle.types.specs.Comparison.{atomLimit, typeLimit}
 use Rattle.types.specs.Code.Words.{width, otherRoleWord, fillerWord, reached, presentWord, zeta, roleServed, Roles}
 use Rattle.types.specs.Code.Words.{FillerWords, SameSet}
 use Rattle.types.specs.Code.Elimination.{otherRole, Enters, ZetaTo, Joins, metAt, Keeps, Eliminating, AfterRound}
-use Rattle.records.proofs.Laws.Tests.{same-truth, both-true, unless-false}
 use Rattle.records.proofs.Laws.Sets.{Within, table-at, table-past, table-cong}
 use Rattle.records.proofs.Laws.Bits.{number-cong}
 use Rattle.types.proofs.Theorems.Survivors.{has-table, Removing, stage-falls, rounds-is}

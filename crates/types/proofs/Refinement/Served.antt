@@ -12,14 +12,13 @@ use lib.Dec.{eqb}
 use lib.Bits.{bitOr, or-lt}
 use borrow.Author.Tests.{eqb-true, eq-eqb, not-false}
 use Rattle.records.specs.Format.{recordAt, count, roleCount}
-use Rattle.records.proofs.Laws.Passed.{both-left, both-right}
+use Rattle.records.proofs.Laws.Tests.{both-left, both-right, same-truth, implies-true, implies-rest}
 use Rattle.records.proofs.Laws.Search.{any-intro, any-elim, any-cong}
 use Rattle.records.proofs.Theorems.Accepted.{Accepted}
 use Rattle.records.specs.Finite.{allBelow, has, bit}
 use Rattle.types.specs.Meaning.{Restriction, some, all, plain, restrictionAt}
 use Rattle.types.specs.Types.{types, truth, allowed, witnessed, met, served}
 use Rattle.types.specs.Code.Words.{width, restriction, restrictionWord, otherRoleWord, joins, reached, roleServed}
-use Rattle.records.proofs.Laws.Tests.{same-truth, implies-true, implies-rest}
 use Rattle.records.proofs.Laws.Below.{all-intro, all-at, all-cong}
 use Rattle.records.proofs.Laws.Bits.{bit-or, bits-same}
 use Rattle.records.proofs.Laws.Width.{bit-ones}

@@ -17,7 +17,7 @@ use lib.Dec.{eqb}
 use Rattle.records.specs.Format.{recordAt, count, roleCount}
 use Rattle.records.specs.Kinds.{Construct, none, top, bottom, name, negation, conjunction, disjunction, existential, universal}
 use Rattle.records.specs.Kinds.{inclusion, constructOf, kindOf, isRestriction}
-use Rattle.records.proofs.Laws.Passed.{clash}
+use Rattle.records.proofs.Laws.Tests.{clash}
 use Rattle.records.proofs.Theorems.Accepted.{Accepted}
 use Rattle.records.proofs.Theorems.Constructs.{restricting, construct-restriction, RoleBelow, construct-role}
 use Rattle.records.proofs.Laws.Ranges.{restriction-kind}

@@ -13,7 +13,7 @@ use lib.Dec.{eqb}
 use lib.Bits.{or-lt}
 use borrow.Author.Tests.{eqb-true, eq-eqb}
 use Rattle.records.specs.Finite.{anyBelow, has, bit}
-use Rattle.records.proofs.Laws.Passed.{clash, both-left, both-right}
+use Rattle.records.proofs.Laws.Tests.{clash, both-left, both-right}
 use Rattle.records.proofs.Laws.Search.{any-intro, any-elim}
 use Rattle.types.specs.Types.{types}
 use Rattle.types.specs.Code.Words.{width, restriction, restrictionWord, fillerWord, otherRoleWord, presentWord, joins}

@@ -13,7 +13,7 @@ use borrow.Author.Tests.{not-true}
 use Rattle.records.specs.Format.{recordAt, count}
 use Rattle.records.specs.Kinds.{constructOf}
 use Rattle.records.specs.Chain.{chained}
-use Rattle.records.proofs.Laws.Passed.{clash}
+use Rattle.records.proofs.Laws.Tests.{clash, implies-rest, unless-false, same-truth}
 use Rattle.records.proofs.Theorems.Accepted.{Accepted}
 use Rattle.records.proofs.Theorems.Constructs.{construct-earlier, construct-atom}
 use Rattle.records.proofs.Theorems.Chains.{chain-statement}
@@ -22,7 +22,6 @@ use Rattle.types.specs.Meaning.{Interpretation, Element, Restriction, so
 use Rattle.types.specs.Meaning.{Within, Model}
 use Rattle.types.specs.Types.{truth, allowed, served}
 use Rattle.types.specs.Survivors.{satisfies}
-use Rattle.records.proofs.Laws.Tests.{implies-rest, unless-false, same-truth}
 use Rattle.records.proofs.Laws.Below.{all-at}
 use Rattle.types.proofs.Theorems.Truth.{evaluate-cong, some-earlier, all-earlier, truth-eq, belongs-eq, truth-atom}
 use Rattle.types.proofs.Theorems.Truth.{truth-statement}

@@ -12,7 +12,7 @@ use mathlib.Core.Bool.{true, not}
 use mathlib.Core.List.{List}
 use lib.ListN.{drop}
 use Rattle.records.specs.Outcome.{accepted}
-use Rattle.records.proofs.Laws.Passed.{clash}
+use Rattle.records.proofs.Laws.Tests.{clash}
 use Rattle.records.specs.Finite.{has, members}
 use Rattle.types.specs.Meaning.{Element, belongs, Model, AlwaysEqual}
 use Rattle.types.specs.Types.{types, truth}

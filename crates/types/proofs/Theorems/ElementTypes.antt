@@ -16,7 +16,7 @@ use borrow.Author.Tests.{eqb-true, eq-eqb}
 use Rattle.records.specs.Format.{recordAt, count}
 use Rattle.records.specs.Kinds.{constructOf, isAtom}
 use Rattle.records.specs.Chain.{chained}
-use Rattle.records.proofs.Laws.Passed.{clash, both-left, both-right}
+use Rattle.records.proofs.Laws.Tests.{clash, both-left, both-right, both-true, either-true, implies-true, unless-true}
 use Rattle.records.proofs.Theorems.Accepted.{Accepted}
 use Rattle.records.proofs.Theorems.Constructs.{construct-earlier, construct-atom}
 use Rattle.records.specs.Atoms.{atoms, rank}
@@ -25,7 +25,6 @@ use Rattle.records.specs.Finite.{least, has, bit, number}
 use Rattle.types.specs.Meaning.{Interpretation, Element, Restriction, some, all, plain, restrictionAt, belongs, Model}
 use Rattle.types.specs.Types.{types, truth, allows, allowed, witnessed, met, served}
 use Rattle.types.specs.Survivors.{satisfies, stage, rounds, survivors}
-use Rattle.records.proofs.Laws.Tests.{both-true, either-true, implies-true, unless-true}
 use Rattle.records.proofs.Laws.Below.{all-intro, least-is}
 use Rattle.records.proofs.Laws.Bits.{bit-number, number-small}
 use Rattle.types.proofs.Theorems.Truth.{evaluate-cong, truth-eq, belongs-eq, belongs-atom, belongs-statement}

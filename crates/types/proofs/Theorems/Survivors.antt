@@ -20,15 +20,15 @@ use borrow.Author.Tests.{not-true, not-false}
 use lib.Pow.{pow-mono}
 use Rattle.records.specs.Format.{count}
 use Rattle.records.specs.Atoms.{atoms}
-use Rattle.records.proofs.Laws.Passed.{clash, both-left, both-right, any-at}
-use Rattle.records.proofs.Laws.Search.{any-elim, any-none}
+use Rattle.records.proofs.Laws.Tests.{clash, both-left, both-right, both-true, both-rest, either-true, either-rest}
+use Rattle.records.proofs.Laws.Tests.{implies-true, implies-rest}
+use Rattle.records.proofs.Laws.Search.{any-at, any-elim, any-none}
 use Rattle.records.specs.Finite.{table, has, members, least}
 use Rattle.types.specs.Meaning.{Restriction, some, all, plain, restrictionAt}
 use Rattle.types.specs.Types.{types, truth, witnessed, met, served}
 use Rattle.types.specs.Survivors.{satisfies, round, removes, stage, rounds, survivors}
 use Rattle.types.specs.Comparison.{atomLimit, typeLimit}
 use Rattle.types.proofs.Theorems.Witnesses.{witness-holds, witness-gives}
-use Rattle.records.proofs.Laws.Tests.{both-true, both-rest, either-true, either-rest, implies-true, implies-rest}
 use Rattle.records.proofs.Laws.Below.{all-intro, all-at, least-bound, least-holds, least-before, least-is, least-end}
 use Rattle.records.proofs.Laws.Sets.{length-table, table-at, table-past, Within, members-bound, members-less, members-zero}
 

@@ -18,7 +18,7 @@ use Rattle.records.specs.Kinds.{Construct, none, top, bottom, name, negation, c
 use Rattle.records.specs.Kinds.{inclusion, constructOf, kindOf, isAtom}
 use Rattle.records.specs.Finite.{anyBelow, allBelow, bit}
 use Rattle.records.specs.Chain.{chained}
-use Rattle.records.proofs.Laws.Passed.{clash}
+use Rattle.records.proofs.Laws.Tests.{clash}
 use Rattle.records.proofs.Theorems.Accepted.{Accepted}
 use Rattle.records.proofs.Theorems.Constructs.{record-past, Earlier, construct-earlier, atomic, construct-atom}
 use Rattle.records.proofs.Theorems.Constructs.{construct-inclusion}

@@ -18,7 +18,8 @@ use Rattle.records.specs.Outcome.{Outcome, accepted, refused, pass, _then_}
 use Rattle.records.specs.Format.{recordAt, count}
 use Rattle.records.specs.Kinds.{isTerm}
 use Rattle.records.specs.Check.{vocabularyCheck}
-use Rattle.records.proofs.Laws.Passed.{clash, both-left, both-right, require-passed, then-passed}
+use Rattle.records.proofs.Laws.Tests.{clash, both-left, both-right, both-rest}
+use Rattle.records.proofs.Laws.Checks.{require-passed, then-passed}
 use Rattle.records.proofs.Theorems.Accepted.{Accepted, accepted-vocabulary}
 use Rattle.records.specs.Atoms.{atoms}
 use Rattle.records.specs.Finite.{has, members}
@@ -28,7 +29,6 @@ use Rattle.types.specs.Survivors.{rounds, survivors}
 use Rattle.types.specs.Comparison.{Verdict, equal, different, distinguishes, firstDistinguishing, verdictWith, verdict}
 use Rattle.types.specs.Comparison.{atomLimit, bitmapBytes, termCheck, atomsCheck, lentCheck, queryCheck, comparison}
 use Rattle.types.specs.Bitmap.{bitmap, readBack}
-use Rattle.records.proofs.Laws.Tests.{both-rest}
 use Rattle.records.proofs.Laws.Below.{least-holds, least-before}
 use Rattle.types.proofs.Theorems.ElementTypes.{typeOf, type-small, type-agrees, type-survives}
 use Rattle.types.proofs.Theorems.ReadBack.{readBack-canonical, read-agrees, read-model}

@@ -13,13 +13,12 @@ use mathlib.Core.List.{List}
 use lib.Dec.{eqb}
 use borrow.Author.Tests.{eq-eqb}
 use Rattle.records.specs.Format.{count}
-use Rattle.records.proofs.Laws.Passed.{both-left, both-right}
+use Rattle.records.proofs.Laws.Tests.{both-left, both-right, both-true, either-rest, implies-true, implies-rest, not-both}
 use Rattle.records.proofs.Laws.Search.{any-intro, any-elim}
 use Rattle.records.proofs.Theorems.Accepted.{Accepted}
 use Rattle.records.specs.Finite.{has}
 use Rattle.types.specs.Meaning.{Interpretation, Element, Restriction, some, all, restrictionAt, belongs}
 use Rattle.types.specs.Types.{types, truth, allows, allowed, witnessed, met, served}
-use Rattle.records.proofs.Laws.Tests.{both-true, either-rest, implies-true, implies-rest, not-both}
 use Rattle.records.proofs.Laws.Below.{all-intro, all-at, all-fails}
 use Rattle.types.proofs.Theorems.Truth.{restricted, restricted-atom, belongs-some, belongs-all, atom-within}
 

@@ -3,7 +3,7 @@
 use mathlib.Core.Path.{refl}
 use borrow.Author.Needs.{needs}
 use Rattle.records.specs.Call.{recordCall}
-use Rattle.records.proofs.Laws.Order.{then-refused-as, then-fine}
+use Rattle.records.proofs.Laws.Checks.{then-refused-as, then-fine}
 use Rattle.records.proofs.call.find_record.Statement.{statement}
 use Rattle.records.proofs.call.find_record.Tie as tie
 

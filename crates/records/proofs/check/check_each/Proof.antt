@@ -9,7 +9,7 @@ use Rattle.records.specs.Check.{recordCheck}
 use Rattle.records.specs.Format.{roleCount}
 use Rattle.records.specs.Outcome.{inTurn}
 use Rattle.records.specs.declared.fields.Record.{Record}
-use Rattle.records.proofs.Laws.Order.{turn-refused, turn-passed, turns-end}
+use Rattle.records.proofs.Laws.Checks.{turn-refused, turn-passed, turns-end}
 use Rattle.records.proofs.check.check_each.Statement.{statement}
 use Rattle.records.proofs.check.check_each.Tie as tie
 

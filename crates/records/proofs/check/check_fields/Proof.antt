@@ -5,7 +5,7 @@ use denote.Ref.{now}
 use borrow.Author.Needs.{needs}
 use Rattle.records.specs.Check.{fieldsCheck}
 use Rattle.records.specs.declared.fields.Record.{Record}
-use Rattle.records.proofs.Laws.Order.{then-refused, then-fine}
+use Rattle.records.proofs.Laws.Checks.{then-refused, then-fine}
 use Rattle.records.proofs.check.check_fields.Statement.{statement}
 use Rattle.records.proofs.check.check_fields.Tie as tie
 

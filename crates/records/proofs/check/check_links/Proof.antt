@@ -8,7 +8,7 @@ use borrow.Author.Needs.{needs}
 use Rattle.records.specs.Answers.{checked}
 use Rattle.records.specs.Check.{linkCheck, headCheck}
 use Rattle.records.specs.Outcome.{inTurn}
-use Rattle.records.proofs.Laws.Order.{turn-refused, turn-passed, turns-end, then-refused, then-fine}
+use Rattle.records.proofs.Laws.Checks.{turn-refused, turn-passed, turns-end, then-refused, then-fine}
 use Rattle.records.proofs.Refinement.Rows.{head-at}
 use Rattle.records.proofs.check.check_links.Statement.{statement}
 use Rattle.records.proofs.check.check_links.Tie as tie

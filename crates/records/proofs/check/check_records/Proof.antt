@@ -5,8 +5,8 @@ use mathlib.Core.Path.{_≡_}
 use denote.Ref.{now}
 use borrow.Author.Needs.{needs}
 use Rattle.records.specs.Check.{recordsCheck}
-use Rattle.records.proofs.Laws.Order.{then-refused, then-fine, checked-fine}
-use Rattle.records.proofs.Laws.Passed.{Sized, length-passed}
+use Rattle.records.proofs.Laws.Checks.{then-refused, then-fine, checked-fine}
+use Rattle.records.proofs.Theorems.Accepted.{Sized, length-passed}
 use Rattle.records.proofs.check.check_records.Statement.{statement}
 use Rattle.records.proofs.check.check_records.Tie as tie
 

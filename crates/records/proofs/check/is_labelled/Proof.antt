@@ -8,7 +8,7 @@ use mathlib.Core.Path.{_≡_, refl, _∙_, sym, ap}
 use denote.Ref.{now}
 use Rattle.records.specs.Finite.{anyBelow}
 use Rattle.records.specs.Check.{named}
-use Rattle.records.proofs.Laws.Order.{any-hit, any-miss}
+use Rattle.records.proofs.Laws.Search.{any-hit, any-miss}
 use Rattle.records.proofs.check.is_labelled.Statement.{statement}
 use Rattle.records.proofs.check.is_labelled.Tie as tie
 

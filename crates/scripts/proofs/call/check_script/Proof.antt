@@ -8,7 +8,7 @@ use Rattle.records.specs.Outcome.{pass}
 use Rattle.records.specs.Check.{IsAccepted}
 use Rattle.records.specs.Answers.{checked}
 use Rattle.records.proofs.Theorems.Accepted.{accepted-well-formed}
-use Rattle.records.proofs.Laws.Order.{require-test, checked-fine}
+use Rattle.records.proofs.Laws.Checks.{require-test, checked-fine}
 use Rattle.scripts.specs.Form.{lengthCheck, formCheck}
 use Rattle.scripts.proofs.Theorems.Form.{length-sized}
 use Rattle.scripts.proofs.Refinement.Outcomes.{vocabulary-at, refused-vocabulary, refused-length, refused-form, decided}

@@ -5,7 +5,7 @@ use native.Mathlib.Omega.{arith}
 use mathlib.Core.Path.{_≡_, refl, sym, _∙_}
 use borrow.Author.Needs.{needs}
 use Rattle.records.specs.Outcome.{inTurn}
-use Rattle.records.proofs.Laws.Order.{then-refused, then-fine, turn-refused, turn-passed, turns-end}
+use Rattle.records.proofs.Laws.Checks.{then-refused, then-fine, turn-refused, turn-passed, turns-end}
 use Rattle.scripts.specs.Form.{entryCheck}
 use Rattle.scripts.proofs.form.check_entries.Statement.{statement}
 use Rattle.scripts.proofs.form.check_entries.Tie as tie

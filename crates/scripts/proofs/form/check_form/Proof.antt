@@ -7,7 +7,7 @@ use denote.Ref.{now}
 use borrow.Author.Needs.{needs}
 use Rattle.records.specs.Outcome.{Check, pass, _then_, require}
 use Rattle.records.specs.Answers.{checked}
-use Rattle.records.proofs.Laws.Order.{then-refused, then-fine, require-test}
+use Rattle.records.proofs.Laws.Checks.{then-refused, then-fine, require-test}
 use Rattle.scripts.specs.Format.{entryAt, queryIn}
 use Rattle.scripts.specs.Form.{lengthCheck, headerFits, queryCheck, entriesCheck, linksCheck, formCheck}
 use Rattle.scripts.specs.declared.entry.Entry.{Entry}

@@ -8,7 +8,7 @@ use denote.Ref.{now}
 use borrow.Author.Needs.{needs}
 use Rattle.records.specs.Outcome.{require, inTurn}
 use Rattle.records.specs.Answers.{checked}
-use Rattle.records.proofs.Laws.Order.{then-refused, then-fine, require-test, turn-refused, turn-passed, turns-end}
+use Rattle.records.proofs.Laws.Checks.{then-refused, then-fine, require-test, turn-refused, turn-passed, turns-end}
 use Rattle.scripts.specs.Format.{firstStep}
 use Rattle.scripts.specs.Form.{linkFits, linkCheck}
 use Rattle.scripts.proofs.form.check_links.Statement.{statement}

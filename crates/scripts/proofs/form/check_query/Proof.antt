@@ -1,7 +1,7 @@
 -- `scripts::form::check_query` meets its contract. The header has the two numbers; A is checked before B.
 -- Assumes nothing.
 use borrow.Author.Needs.{needs}
-use Rattle.records.proofs.Laws.Order.{then-refused, then-fine}
+use Rattle.records.proofs.Laws.Checks.{then-refused, then-fine}
 use Rattle.scripts.proofs.form.check_query.Statement.{statement}
 use Rattle.scripts.proofs.form.check_query.Tie as tie
 

@@ -4,7 +4,7 @@ use mathlib.Core.Path.{_≡_, ap, _∙_}
 use denote.Ref.{now}
 use borrow.Author.Needs.{needs}
 use Rattle.records.specs.Outcome.{Check, _then_, require}
-use Rattle.records.proofs.Laws.Order.{then-refused, then-fine, require-test}
+use Rattle.records.proofs.Laws.Checks.{then-refused, then-fine, require-test}
 use Rattle.scripts.specs.Format.{entryOf, lineOf}
 use Rattle.scripts.specs.Form.{kindFits, unusedFits, termFits, lineFits, rowsCheck}
 use Rattle.scripts.specs.declared.entry.Entry.{Entry}

@@ -5,7 +5,7 @@ use mathlib.Core.Bool.{Bool}
 use denote.Ref.{now}
 use borrow.Author.Needs.{needs}
 use borrow.Author.Tests.{lt-ltb, le-ltb}
-use Rattle.records.proofs.Laws.Order.{and-first-false, and-first-true}
+use Rattle.records.proofs.Laws.Tests.{both-first-false, both-first-true}
 use Rattle.scripts.specs.Form.{yFits}
 use Rattle.scripts.proofs.form.extension_fits.Statement.{statement}
 use Rattle.scripts.proofs.form.extension_fits.Tie as tie
@@ -17,7 +17,7 @@ returns-2 : tie.Need-returns-2
 returns-2 c =
     let w = c .before .before in
     λ q. rw (← w .before .before .before .column-shape .ensures q .size, lt-ltb _ _ (w .if1 .left))
-    (and-first-false _ _ _ (c .before .x-fits .ensures) (c .if2 .taken))
+    (both-first-false _ _ _ (c .before .x-fits .ensures) (c .if2 .taken))
 
 returns-3 : tie.Need-returns-3
 returns-3 c =
@@ -25,7 +25,7 @@ returns-3 c =
     let shape = w .before .before .before .column-shape in
     let a = w .before .before .before .before .before .before .args in
     λ q. rw (← shape .ensures q .size, lt-ltb _ _ (w .if1 .left))
-    (and-first-true _ _ _ _ (c .before .before .x-fits .ensures) (c .before .if2 .left)
+    (both-first-true _ _ _ _ (c .before .before .x-fits .ensures) (c .before .if2 .left)
     (c .y-fits .ensures ∙ ap (λ (b : Bool). yFits (now (a .s)) (a .i) b (a .e .w4)) (shape .ensures q .takes)))
 
 pub extension-fits-spec : {M : Type 1} → statement M

@@ -4,7 +4,7 @@ use mathlib.Core.Path.{_≡_, sym, ap, _∙_}
 use mathlib.Core.Bool.{not}
 use denote.Ref.{now}
 use borrow.Author.Needs.{needs}
-use Rattle.records.proofs.Laws.Order.{and-first-false, and-first-true}
+use Rattle.records.proofs.Laws.Tests.{both-first-false, both-first-true}
 use Rattle.scripts.specs.Format.{applied, lineOf}
 use Rattle.scripts.specs.Form.{functionFits}
 use Rattle.scripts.proofs.Refinement.Lines.{function-line, function-other}
@@ -25,18 +25,18 @@ applies c =
     sym (function-line (now (a .v)) (now (a .s)) (a .i) (a .e) (c .if1 .left))
 
 returns-2 : tie.Need-returns-2
-returns-2 c = and-first-false _ _ _ (c .before .is-function .ensures) (c .if2 .taken) ∙ applies (c .before .before)
+returns-2 c = both-first-false _ _ _ (c .before .is-function .ensures) (c .if2 .taken) ∙ applies (c .before .before)
 
 returns-3 : tie.Need-returns-3
 returns-3 c =
-    and-first-true _ _ _ _ (c .before .before .before .is-function .ensures) (c .before .before .if2 .left)
-    (and-first-false _ _ _ (c .before .is-earlier-term .ensures) (c .if3 .taken))
+    both-first-true _ _ _ _ (c .before .before .before .is-function .ensures) (c .before .before .if2 .left)
+    (both-first-false _ _ _ (c .before .is-earlier-term .ensures) (c .if3 .taken))
     ∙ applies (c .before .before .before .before)
 
 returns-4 : tie.Need-returns-4
 returns-4 c =
-    and-first-true _ _ _ _ (c .before .before .before .before .is-function .ensures) (c .before .before .before .if2 .left)
-    (and-first-true _ _ _ _ (c .before .before .is-earlier-term .ensures) (c .before .if3 .left)
+    both-first-true _ _ _ _ (c .before .before .before .before .is-function .ensures) (c .before .before .before .if2 .left)
+    (both-first-true _ _ _ _ (c .before .before .is-earlier-term .ensures) (c .before .if3 .left)
     (ap not (c .is-repeated .ensures)))
     ∙ applies (c .before .before .before .before .before)
 

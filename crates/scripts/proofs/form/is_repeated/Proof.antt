@@ -6,7 +6,7 @@ use mathlib.Core.Path.{_≡_, refl, sym, ap, _∙_}
 use mathlib.Core.Logic.{⊎-elim}
 use denote.Ref.{now}
 use Rattle.records.specs.Finite.{anyBelow}
-use Rattle.records.proofs.Laws.Order.{any-hit, any-miss}
+use Rattle.records.proofs.Laws.Search.{any-hit, any-miss}
 use Rattle.scripts.specs.Form.{repeats}
 use Rattle.scripts.proofs.form.is_repeated.Statement.{statement}
 use Rattle.scripts.proofs.form.is_repeated.Tie as tie

@@ -2,7 +2,7 @@
 -- Assumes nothing.
 use borrow.Author.Needs.{needs}
 use borrow.Author.Tests.{eq-eqb, ne-eqb}
-use Rattle.records.proofs.Laws.Order.{and-first-false, and-first-true}
+use Rattle.records.proofs.Laws.Tests.{both-first-false, both-first-true}
 use Rattle.scripts.proofs.form.x_fits.Statement.{statement}
 use Rattle.scripts.proofs.form.x_fits.Tie as tie
 
@@ -10,14 +10,14 @@ is-earlier-term-requires : tie.Need-is-earlier-term-requires
 is-earlier-term-requires c κs = search needs
 
 returns : tie.Need-returns
-returns c = and-first-false _ _ _ (c .before .is-earlier-term .ensures) (c .if1 .taken)
+returns c = both-first-false _ _ _ (c .before .is-earlier-term .ensures) (c .if1 .taken)
 
 returns-2 : tie.Need-returns-2
-returns-2 c = and-first-true _ _ _ _ (c .before .before .is-earlier-term .ensures) (c .before .if1 .left)
+returns-2 c = both-first-true _ _ _ _ (c .before .before .is-earlier-term .ensures) (c .before .if1 .left)
     (rw (ne-eqb _ _ (c .if2 .taken)))
 
 returns-3 : tie.Need-returns-3
-returns-3 c = and-first-true _ _ _ _ (c .before .before .is-earlier-term .ensures) (c .before .if1 .left)
+returns-3 c = both-first-true _ _ _ _ (c .before .before .is-earlier-term .ensures) (c .before .if1 .left)
     (rw (eq-eqb _ _ (c .if2 .left)))
 
 pub x-fits-spec : {M : Type 1} → statement M

@@ -7,8 +7,7 @@ use mathlib.Core.Path.{_≡_, ap, _∙_}
 use denote.Ref.{now}
 use borrow.Author.Needs.{needs}
 use borrow.Author.Tests.{eqb-true}
-use Rattle.records.proofs.Laws.Passed.{require-passed}
-use Rattle.records.proofs.Laws.Order.{checked-fine}
+use Rattle.records.proofs.Laws.Checks.{require-passed, checked-fine}
 use Rattle.columns.specs.Code.Packed.{literals}
 use Rattle.scripts.specs.Format.{queryIn, firstStep}
 use Rattle.scripts.specs.Code.Ready.{IsStep}

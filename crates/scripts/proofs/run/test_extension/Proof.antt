@@ -10,8 +10,7 @@ use denote.Ref.{now}
 use borrow.Author.Needs.{needs}
 use Rattle.records.specs.Outcome.{Check, require}
 use Rattle.records.specs.Answers.{checked}
-use Rattle.records.proofs.Laws.Passed.{require-passed}
-use Rattle.records.proofs.Laws.Order.{then-refused, then-fine, require-test}
+use Rattle.records.proofs.Laws.Checks.{require-passed, then-refused, then-fine, require-test}
 use Rattle.columns.specs.Columns.{columnAt}
 use Rattle.columns.specs.Code.Packed.{literals}
 use Rattle.scripts.specs.Steps.{Extension}

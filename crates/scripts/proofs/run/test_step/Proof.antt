@@ -10,8 +10,8 @@ use denote.Ref.{now}
 use borrow.Author.Needs.{needs}
 use Rattle.records.specs.Outcome.{refused, pass, require}
 use Rattle.records.specs.Answers.{checked}
-use Rattle.records.proofs.Laws.Passed.{require-passed, clash}
-use Rattle.records.proofs.Laws.Order.{then-refused, then-fine, require-test, checked-fine}
+use Rattle.records.proofs.Laws.Checks.{require-passed, then-refused, then-fine, require-test, checked-fine}
+use Rattle.records.proofs.Laws.Tests.{clash}
 use Rattle.scripts.specs.Format.{extensionOf}
 use Rattle.scripts.specs.Calculus.{frameLimit}
 use Rattle.records.specs.Finite.{isNil}

@@ -5,7 +5,7 @@ use Prim.Native.Nat.{ℕ, _-_}
 use mathlib.Core.Path.{ap, _∙_}
 use lib.Dec.{leb}
 use borrow.Author.Needs.{needs}
-use Rattle.records.proofs.Laws.Order.{then-refused, then-fine}
+use Rattle.records.proofs.Laws.Checks.{then-refused, then-fine}
 use Rattle.records.specs.Outcome.{require}
 use Rattle.types.proofs.call.check_query.Statement.{statement}
 use Rattle.types.proofs.call.check_query.Tie as tie

@@ -1,7 +1,7 @@
 -- `types::call::check_term` meets its contract.
 -- Assumes nothing.
 use borrow.Author.Needs.{needs}
-use Rattle.records.proofs.Laws.Order.{require-test}
+use Rattle.records.proofs.Laws.Checks.{require-test}
 use Rattle.types.proofs.call.check_term.Statement.{statement}
 use Rattle.types.proofs.call.check_term.Tie as tie
 

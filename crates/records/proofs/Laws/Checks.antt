@@ -1,22 +1,22 @@
--- The order of checks: what a chain of checks answers, and what a run of checks or tests in turn does at one turn.
+-- Checks in order: what a chain of checks answers, what one turn of checks in turn does, and what passed checks tell.
 --   then-refused, then-refused-as, then-fine   a chain `a then b` where the first check refuses, or passes
 --   require-test                               a row whose test was made by a call
 --   checked-fine                               a check whose answer is `Fine`
---   and-first-false, and-first-true            a conjunction whose first test was made
 --   turn-refused, turn-passed, turns-end       `inTurn` at one turn, and past its end
---   any-hit, any-miss                          a search, one number further
+--   require-passed, then-passed                a row that passed; both checks of a chain that was accepted
+--   turn-at                                    each check of a run that passed
 -- Assumes nothing.
-use Prim.Native.Nat.{ℕ, suc, _+_, _-_, _<_, _≤_}
+use Prim.Native.Nat.{ℕ, zero, suc, _+_, _-_, _<_, _≤_}
 use native.Mathlib.Numerals.{add-one}
 use native.Mathlib.Omega.{arith}
-use mathlib.Core.Path.{_≡_, refl, sym, _∙_}
-use mathlib.Core.Bool.{Bool, true, false, not, _&&_, or-true, or-false}
-use borrow.Author.Tests.{not-true, not-false}
-use Rattle.records.specs.Outcome.{Outcome, Check, pass, _then_, require, inTurn}
+use native.Mathlib.Decide.{ℕ-discrete}
+use mathlib.Core.Path.{_≡_, refl, sym, subst, _∙_}
+use mathlib.Core.Bool.{Bool, true, false}
+use Rattle.records.specs.Outcome.{Outcome, Check, accepted, refused, pass, _then_, require, inTurn}
 use Rattle.records.specs.Answers.{checked}
-use Rattle.records.specs.Finite.{anyBelow}
 use Rattle.records.specs.declared.answers.Checked.{Checked}
 use Rattle.records.specs.declared.answers.Checked.the-variants.{Fine, Refused}
+use Rattle.records.proofs.Laws.Tests.{clash}
 
 module _ (k : Checked) {B : Type 0} (a : Check) (b : Outcome B) where
   -- what was made of a refusal
@@ -51,19 +51,20 @@ module _ (check : ℕ → Check) (i n : ℕ) where
       → inTurn check i (n - i) ≡ inTurn check (i + 1) (n - (i + 1))
   turn-passed k h e r = turn h ∙ sym (then-fine k (check i) _ _ e r refl)
 
--- A conjunction whose first test was made: it fails, or the rest decides.
-pub and-first-false : (r a b : Bool) → r ≡ a → not r ≡ true → false ≡ (a && b)
-and-first-false r a b e h = rw (← e, not-true r h)
+pub require-passed : (b : Bool) (n p : ℕ) → require b n p ≡ pass → b ≡ true
+require-passed true n p e = refl
+require-passed false n p e = absurd (clash (cc))
 
-pub and-first-true : (r a b o : Bool) → r ≡ a → not r ≡ false → o ≡ b → o ≡ (a && b)
-and-first-true r a b o e h q = q ∙ rw (← e, not-false r h)
+pub then-passed : {B : Type 0} (a : Check) (b : Outcome B) (x : B) → (a then b) ≡ accepted x → (a ≡ pass) × (b ≡ accepted x)
+then-passed (accepted u) b x e = (refl, e)
+then-passed (refused n p) b x e = absurd (clash (cc))
 
--- A search over the numbers below n, one number further.
-module _ (test : ℕ → Bool) (n : ℕ) where
-  pub any-hit : test n ≡ true → true ≡ anyBelow test (n + 1)
-  unfolding anyBelow
-  any-hit e = rw (add-one, e) (sym (or-true (anyBelow test n)))
-
-  pub any-miss : (found : Bool) → found ≡ anyBelow test n → test n ≡ false → found ≡ anyBelow test (n + 1)
-  unfolding anyBelow
-  any-miss found f e = rw (add-one, e) (f ∙ sym (or-false (anyBelow test n)))
+pub turn-at : (check : ℕ → Check) (n i : ℕ) → inTurn check i n ≡ pass → (k : ℕ) → i ≤ k → k < i + n → check k ≡ pass
+unfolding inTurn
+turn-at check zero i e k l h = absurd (omega arith)
+turn-at check (suc n) i e k l h =
+    at (ℕ-discrete i k) (turn-at check n (suc i) (then-passed (check i) (inTurn check (suc i) n) tt e .1) k)
+  where
+    at : Dec (i ≡ k) → (suc i ≤ k → k < suc i + n → check k ≡ pass) → check k ≡ pass
+    at (yes q) r = subst (λ (j : ℕ). check j ≡ pass) q (then-passed (check i) (inTurn check (suc i) n) tt e .0)
+    at (no q) r = r (omega arith) (omega arith)

@@ -1,0 +1,40 @@
+-- What holds of every entry of a list.
+--   All                      the property
+--   all-entry, all-default   it holds at an index; and past the end, where it holds of the default
+--   all-map                  what follows from it
+--   all-occurring            what holds of every number that occurs
+-- Assumes nothing.
+use Prim.Native.Nat.{ℕ, zero, suc, _<_}
+use native.Mathlib.Omega.{arith}
+use mathlib.Core.Path.{_≡_, refl}
+use mathlib.Core.Bool.{true, or-true}
+use mathlib.Core.List.{List, [], _∷_}
+use lib.ListN.{length, getD}
+use lib.Dec.{eqb}
+use borrow.Author.Tests.{eq-eqb}
+use Rattle.records.specs.Finite.{occurs}
+
+-- What holds of every entry of a list holds of the entry at an index, and so does what follows from it.
+abbrev pub All : {A : Type 0} → (A → Type 0) → List A → Type 0
+All P [] = Unit {0}
+All P (x ∷ xs) = P x × All P xs
+
+pub all-entry : {A : Type 0} (P : A → Type 0) (l : List A) (d : A) → All P l → (k : ℕ) → k < length l → P (getD l k d)
+all-entry P [] d t k h = absurd (omega arith)
+all-entry P (x ∷ xs) d t zero h = t .0
+all-entry P (x ∷ xs) d t (suc k) h = all-entry P xs d (t .1) k (omega arith)
+
+pub all-map : {A : Type 0} (P Q : A → Type 0) → ((x : A) → P x → Q x) → (l : List A) → All P l → All Q l
+all-map P Q f [] t = tt
+all-map P Q f (x ∷ xs) t = (f x (t .0), all-map P Q f xs (t .1))
+
+-- the same where the entry past the end is known
+pub all-default : {A : Type 0} (P : A → Type 0) (l : List A) (d : A) → P d → All P l → (k : ℕ) → P (getD l k d)
+all-default P [] d p t k = p
+all-default P (x ∷ xs) d p t zero = t .0
+all-default P (x ∷ xs) d p t (suc k) = all-default P xs d p (t .1) k
+
+pub all-occurring : (P : ℕ → Type 0) (is : List ℕ) → ((i : ℕ) → occurs i is ≡ true → P i) → All P is
+unfolding occurs
+all-occurring P [] h = tt
+all-occurring P (i ∷ is) h = (h i (rw (eq-eqb i i refl)), all-occurring P is (λ j o. h j (rw o (or-true (eqb j i)))))
