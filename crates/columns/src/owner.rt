@@ -15,8 +15,9 @@ ghost use mathlib.Core.List.{List, []};
 ghost use Prim.Native.Nat.{ℕ};
 ghost use lib.ListN.{getD};
 ghost use Rattle.records.specs.Format.{recordAt};
+ghost use Rattle.records.specs.Kinds.{constructOf};
 ghost use Rattle.records.specs.Chain.{chained};
-ghost use Rattle.columns.specs.Columns.{Query, within, queryColumns, states, columnAt};
+ghost use Rattle.columns.specs.Columns.{Query, within, queryColumns, columnsOf, states, columnsAt, columnAt};
 ghost use Rattle.columns.specs.Code.Packed.{Marked, Fitting, HasShape, packedAt, packedBy, literals};
 
 // Column n of the query "a within b": it speaks of the constant, whatever x and y are.
@@ -48,6 +49,29 @@ fn has_columns(fields: Record, marked: bool) -> bool
     true
 }
 
+// The record whose columns an owner has: one of no kind where there is no such record, or where it states nothing.
+fn owner_record(v: &[u8], marks: &[bool; Record::LIMIT], owner: u16) -> Record
+    requires { ⌜ Marked (now v) (now marks) ⌝ }
+    ensures { λ r. ⌜ ((q : Query) → (owner ≡ 0 → ⊥) → columnsAt (now (v .entry)) q owner ≡ columnsOf owner (constructOf r)) ⌝ }
+{
+    let none = Record {
+        kind: 0,
+        second: 0,
+        a: 0,
+        b: 0,
+        next: 0,
+    };
+    let i = owner as usize;
+    if i >= v.len() / Record::SIZE {
+        return none;
+    }
+    let fields = read_at(v, i);
+    if !has_columns(fields, marks[i]) {
+        return none;
+    }
+    fields
+}
+
 // Column n of an owner; none where it has no such column.
 pub fn find_column(
     v: &[u8],
@@ -65,15 +89,7 @@ pub fn find_column(
     if owner == 0 {
         return query_column(a, b, n);
     }
-    let i = owner as usize;
-    if i >= v.len() / Record::SIZE {
-        return Column::none();
-    }
-    let fields = read_at(v, i);
-    if !has_columns(fields, marks[i]) {
-        return Column::none();
-    }
-    group_column(fields, owner, n, at)
+    group_column(owner_record(v, marks, owner), owner, n, at)
 }
 
 // The shape of column n of an owner, whatever the query's terms are; nothing stands in one that it does not have.
@@ -87,14 +103,7 @@ pub fn column_shape(v: &[u8], marks: &[bool; Record::LIMIT], owner: u16, n: u16)
             y: false,
         };
     }
-    let i = owner as usize;
-    if i >= v.len() / Record::SIZE {
-        return Shape { size: 0, y: false };
-    }
-    let fields = read_at(v, i);
-    if !has_columns(fields, marks[i]) {
-        return Shape { size: 0, y: false };
-    }
+    let fields = owner_record(v, marks, owner);
     Shape {
         size: group_size(fields, n),
         y: group_takes_y(fields, n),

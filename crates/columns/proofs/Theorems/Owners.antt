@@ -1,7 +1,7 @@
 -- The columns of an owner, by the tests that find them.
 --   columns-record, columns-silent, columns-past   a record that states something, one that does not, none
 --   states-marked, states-term                     which records state something
---   query-shape, none-shape, record-shape          the shape of a column: of the query, of none, of a record
+--   query-shape, record-shape                      the shape of a column: of the query, of a record
 -- Assumes nothing.
 use Prim.Native.Nat.{ℕ, zero, suc, _≤_}
 use mathlib.Core.Path.{_≡_, refl, sym, _∙_}
@@ -53,11 +53,7 @@ module _ (v : List ℕ) (q : Query) (n : ℕ) (s : Shape) where
         takes = t ∙ sym (no-y (queryColumns q) (refl, (refl, tt)) n);
       }
 
-  pub none-shape : (i : ℕ) → columnsAt v q i ≡ [] → s .size ≡ 0 → s .y ≡ false → HasShape s (columnAt v q i n)
-  unfolding takesY
-  none-shape i e z t = rw e record { size = z; takes = t }
-
-  pub record-shape : (i : ℕ) → columnsAt v q i ≡ columnsOf i (constructOf (recordAt v i))
-      → s .size ≡ length (getD (columnsOf i (constructOf (recordAt v i))) n [])
-      → s .y ≡ takesY (getD (columnsOf i (constructOf (recordAt v i))) n []) → HasShape s (columnAt v q i n)
-  record-shape i e z t = rw e record { size = z; takes = t }
+  pub record-shape : (i : ℕ) (r : Record) → columnsAt v q i ≡ columnsOf i (constructOf r)
+      → s .size ≡ length (getD (columnsOf i (constructOf r)) n []) → s .y ≡ takesY (getD (columnsOf i (constructOf r)) n [])
+      → HasShape s (columnAt v q i n)
+  record-shape i r e z t = rw e record { size = z; takes = t }

@@ -1,0 +1,54 @@
+-- `columns::owner::owner_record` meets its contract. A record that is past the end, or states nothing, has no column, as one of
+-- no kind has none.
+-- Assumes nothing.
+use native.Mathlib.Omega.{arith}
+use mathlib.Core.Path.{_≡_, sym, ap, _∙_}
+use denote.Ref.{now}
+use borrow.Author.Needs.{needs}
+use borrow.Author.Tests.{not-true, not-false}
+use Rattle.records.specs.Kinds.{kindOf, constructOf}
+use Rattle.records.specs.declared.fields.Record.{Record}
+use Rattle.records.proofs.Theorems.Accepted.{Accepted, accepted-vocabulary}
+use Rattle.columns.specs.Columns.{columnsOf, states}
+use Rattle.columns.proofs.Theorems.Owners.{columns-record, columns-silent, columns-past}
+use Rattle.columns.proofs.owner.owner_record.Statement.{statement}
+use Rattle.columns.proofs.owner.owner_record.Tie as tie
+
+good : (c : tie.Start) → Accepted (now (c .args .v))
+good c = accepted-vocabulary _ _ (c .pre .vocabulary)
+
+returns : tie.Need-returns
+unfolding kindOf
+returns c =
+    let b = c .before .before in
+    λ q n. columns-past (now (b .args .v)) q (good b) (b .args .owner) n (c .if1 .taken)
+
+element-copy-out-has-columns : tie.Need-element-copy-out-has-columns
+element-copy-out-has-columns c = omega (arith, good (c .before .before .before) .sized .most)
+
+-- Place: the start.
+abbrev start : tie.After-has-columns → tie.Start
+start c = c .before .before .before .before .before
+
+-- whether the record states something
+stated : (c : tie.After-has-columns) → let a = start c .args in c .has-columns .result ≡ states (now (a .v)) (a .owner)
+stated c =
+    let a = start c .args in
+    c .has-columns .ensures (now (a .v)) (a .owner) (c .before .before .read-at .ensures) (start c .pre .marked (a .owner))
+
+returns-2 : tie.Need-returns-2
+unfolding kindOf
+returns-2 c =
+    let a = start (c .before) .args in
+    λ q n. columns-silent (now (a .v)) q (a .owner) n (sym (stated (c .before)) ∙ not-true _ (c .if2 .taken))
+
+returns-3 : tie.Need-returns-3
+returns-3 c =
+    let a = start (c .before) .args in
+    λ q n. columns-record (now (a .v)) q (a .owner) n (sym (stated (c .before)) ∙ not-false _ (c .if2 .left))
+    ∙ ap (λ (r : Record). columnsOf (a .owner) (constructOf r)) (sym (c .before .before .before .read-at .ensures))
+
+pub owner-record-spec : {M : Type 1} → statement M
+owner-record-spec =
+    tie.close
+    (tie.spec returns (λ c κs. search needs) element-copy-out-has-columns (λ c κs. search needs) returns-2 returns-3)
