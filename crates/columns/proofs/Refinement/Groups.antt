@@ -1,7 +1,7 @@
 -- The columns of a record by its kind, as a `match` over kind ranges selects them, and which of them take a y.
 --   group-constant, group-junction, group-restriction                      kinds that differ in signs alone, in one form
 --   group-negation, group-inclusion, group-low, group-name, group-high     the other kinds
---   past-at                                                                a column that does not exist
+--   past-at, none-at                                                       a column that does not exist
 --   two-sizes, size-past, sizes-at                                         how many literals a column has
 --   size-constant, size-negation, size-triple, size-inclusion, size-none   the same by the kind
 --   NoY, no-y                                                              columns without a y
@@ -67,6 +67,9 @@ module _ (cs : List Column) (nx ny nf n : ℕ) where
 
   pub same-at : (ds : List Column) → cs ≡ ds → packedAt nx ny nf (getD cs n []) ≡ packedAt nx ny nf (getD ds n [])
   same-at ds e = rw e
+
+  pub none-at : cs ≡ [] → [] ≡ packedAt nx ny nf (getD cs n [])
+  none-at e = rw e
 
 -- The two columns of a negation differ in signs.
 pub negation-at : (i j nx ny nf n : ℕ) → n < 2
