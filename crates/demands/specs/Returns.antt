@@ -1,5 +1,6 @@
 -- The demands over what the calls return, for every input: what the contracts of src/lib.rt promise to a caller.
-use Prim.Native.Nat.{ℕ, _*_}
+use Prim.Native.Nat.{ℕ, _*_, _≤_, _<_}
+use mathlib.Core.Bool.{true, not}
 use mathlib.Core.Path.{_≡_}
 use mathlib.Core.List.{List, [], _++_}
 use lib.ListN.{length, take, drop}
@@ -8,7 +9,8 @@ use Rattle.records.specs.declared.answers.Counted.{Counted}
 use Rattle.records.specs.declared.answers.Counted.the-variants as counted
 use Rattle.records.specs.declared.answers.Located.{Located}
 use Rattle.records.specs.declared.answers.Located.the-variants as located
-use Rattle.records.specs.Finite.{members}
+use Rattle.records.specs.Finite.{has, members}
+use Rattle.types.specs.Types.{types, truth}
 use Rattle.types.specs.Meaning.{AlwaysEqual, AlwaysWithin}
 use Rattle.types.specs.Survivors.{survivors, rounds}
 use Rattle.types.specs.Bitmap.{bitmap, readBack}
@@ -19,6 +21,7 @@ use Rattle.scripts.specs.declared.answers.Judged.{Judged}
 use Rattle.scripts.specs.declared.answers.Judged.the-variants as judged
 use Rattle.demands.specs.Table.{vocabularyTable, recordTable, comparisonTable, scriptTable, AcceptedVocabulary}
 use Rattle.demands.specs.Table.{NoneApplies, Refuses}
+use Rattle.demands.specs.Table.{AcceptedVocabulary, InForm}
 use Rattle.demands.specs.Demands.{ChainDerives, Shown}
 
 -- The vocabulary check "answers the number of records, header included".
@@ -37,13 +40,21 @@ pub data RecordReturns (v : List ℕ) (number : ℕ) (part : List ℕ) : Type 0 
       → RecordReturns v number part
   empty : (n p : ℕ) → Refuses (recordTable v number) n p → part ≡ [] → RecordReturns v number part
 
--- What goes with either answer of the comparison: "the number of survivors and of rounds that removed something", and the bytes
--- after the call, the survivors "in the first 512 bytes, the rest of which are 0; later bytes keep their content".
+-- What goes with either answer of the comparison: "the number of survivors and of rounds that removed something (never over
+-- 2^k)", and the bytes after the call, the survivors "in the first 512 bytes, the rest of which are 0; later bytes keep their
+-- content".
 pub record EitherAnswer (v : List ℕ) (a b : ℕ) (before after : List ℕ) (alive done : ℕ) : Type 0 where
   pub none : NoneApplies (comparisonTable v a b (length before))
   pub counted : alive ≡ members (survivors v)
   pub elapsed : done ≡ rounds v
+  pub few : done ≤ types v
   pub wrote : after ≡ bitmap v ++ drop 512 before
+
+-- "the smallest survivor at which the two terms differ"
+pub record Smallest (v : List ℕ) (a b t : ℕ) : Type 0 where
+  pub survives : has (survivors v) t ≡ true
+  pub differ : truth v t a ≡ not (truth v t b)
+  pub before : (u : ℕ) → u < t → has (survivors v) u ≡ true → truth v u a ≡ truth v u b
 
 -- Equal: in every finite interpretation satisfying the statements. Different: not so, and the bytes after the call, read back,
 -- show it by the element. Refused: the bytes are as they were.
@@ -51,18 +62,21 @@ abbrev pub ComparisonReturns : List ℕ → ℕ → ℕ → List ℕ → List �
 ComparisonReturns v a b before after (compared.Equal alive done) =
     AlwaysEqual v a b × EitherAnswer v a b before after alive done
 ComparisonReturns v a b before after (compared.Different t alive done) =
-    (AlwaysEqual v a b → ⊥) × Shown (readBack v after) v a b t × EitherAnswer v a b before after alive done
+    (AlwaysEqual v a b → ⊥) × Shown (readBack v after) v a b t × Smallest v a b t × EitherAnswer v a b before after alive done
 ComparisonReturns v a b before after (compared.Refused n p) =
     Refuses (comparisonTable v a b (length before)) n p × (after ≡ before)
 
 -- Accepted: what the script asks is so in every finite interpretation satisfying the statements, and its chain, of so many steps,
--- derives it.
+-- derives it. Refused, where the vocabulary and the form were fit: the chain is no derivation of at most 64 open frames.
 pub record Proved (v s : List ℕ) (n : ℕ) : Type 0 where
   pub none : NoneApplies (scriptTable v s)
   pub always : AlwaysWithin v (queryOf s .a) (queryOf s .b)
   pub derives : ChainDerives v s
   pub counted : n ≡ length (chain s)
 
+abbrev pub NotDerived : List ℕ → List ℕ → Type 0
+NotDerived v s = AcceptedVocabulary v → InForm v s → ChainDerives v s → ⊥
+
 abbrev pub ScriptReturns : List ℕ → List ℕ → Judged → Type 0
 ScriptReturns v s (judged.Accepted n) = Proved v s n
-ScriptReturns v s (judged.Refused n p) = Refuses (scriptTable v s) n p
+ScriptReturns v s (judged.Refused n p) = Refuses (scriptTable v s) n p × NotDerived v s

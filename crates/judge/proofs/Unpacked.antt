@@ -57,16 +57,19 @@ script-unpacked v s bytes =
 -- What the bits of the comparison's number are.
 abbrev pub Verdicts : ℕ → Outcome Verdict → Type 0
 Verdicts x (accepted (equal s n)) =
-    (x % 256 ≡ 0) × (x / 2 ^ 8 % 2 ≡ 0) × (x / 2 ^ 25 % 2 ^ 17 ≡ s) × (x / 2 ^ 42 ≡ n)
+    (x % 256 ≡ 0) × (x / 2 ^ 8 % 2 ≡ 0) × (x / 2 ^ 9 % 2 ^ 16 ≡ 0) × (x / 2 ^ 25 % 2 ^ 17 ≡ s) × (x / 2 ^ 42 ≡ n)
 Verdicts x (accepted (different t s n)) =
     (x % 256 ≡ 0) × (x / 2 ^ 8 % 2 ≡ 1) × (x / 2 ^ 9 % 2 ^ 16 ≡ t) × (x / 2 ^ 25 % 2 ^ 17 ≡ s) × (x / 2 ^ 42 ≡ n)
-Verdicts x (refused n p) = (x % 256 ≡ n) × (x / 256 ≡ p) × (0 < n)
+Verdicts x (refused n p) = (x % 256 ≡ n) × (x / 256 ≡ p) × (p < 2 ^ 32) × (0 < n)
 
-pub verdict-unpacked : (m : ℕ) (o : Outcome Verdict) → SmallVerdict m o → Verdicts (packedVerdict o) o
-verdict-unpacked m (accepted (equal s n)) h = (omega arith, omega arith, omega (arith, h .0), omega (arith, h .0))
-verdict-unpacked m (accepted (different t s n)) h =
+pub verdict-unpacked : (m : ℕ) (o : Outcome Verdict) → m < 2 ^ 32 → SmallVerdict m o → Verdicts (packedVerdict o) o
+verdict-unpacked m (accepted (equal s n)) l h =
+    (omega arith, omega arith, omega (arith, h .0), omega (arith, h .0), omega (arith, h .0))
+verdict-unpacked m (accepted (different t s n)) l h =
     (omega arith, omega arith, omega (arith, h .0), omega (arith, h .0, h .1), omega (arith, h .0, h .1))
-verdict-unpacked m (refused n p) h = (omega (arith, h .1), omega (arith, h .1), h .0)
+verdict-unpacked m (refused n p) l h = (omega (arith, h .1), omega (arith, h .1), omega (arith, h .2), h .0)
 
-pub compare-unpacked : (v : List ℕ) (a b lent : ℕ) → Verdicts (packedVerdict (comparison v a b lent)) (comparison v a b lent)
-compare-unpacked v a b lent = verdict-unpacked (most v a b lent) (comparison v a b lent) (comparison-small v a b lent)
+pub compare-unpacked : (v : List ℕ) (a b lent : ℕ) → a < 2 ^ 32 → b < 2 ^ 32
+    → Verdicts (packedVerdict (comparison v a b lent)) (comparison v a b lent)
+compare-unpacked v a b lent h k =
+    verdict-unpacked (most v a b lent) (comparison v a b lent) (omega arith) (comparison-small v a b lent)

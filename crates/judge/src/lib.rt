@@ -25,6 +25,7 @@ fn pack(number: u8, value: usize) -> u64
 #[no_mangle]
 pub extern "C" fn judge_check_vocabulary(vocabulary: &[u8]) -> u64
     ensures { λ r. ⌜ r ≡ packed (vocabularyCheck (now (vocabulary .entry))) ⌝ }
+    ensures { λ _. ⌜ now (vocabulary .exit) ≡ now (vocabulary .entry) ⌝ }
 {
     let answer = demands::check_vocabulary(vocabulary);
     match answer {
@@ -36,6 +37,7 @@ pub extern "C" fn judge_check_vocabulary(vocabulary: &[u8]) -> u64
 #[no_mangle]
 pub extern "C" fn judge_record(vocabulary: &[u8], number: u32) -> u64
     ensures { λ r. ⌜ r ≡ packed (recordCall (now (vocabulary .entry)) number) ⌝ }
+    ensures { λ _. ⌜ now (vocabulary .exit) ≡ now (vocabulary .entry) ⌝ }
 {
     let answer = demands::find_record(vocabulary, number);
     match answer {
@@ -69,6 +71,7 @@ pub extern "C" fn judge_compare(vocabulary: &[u8], a: u32, b: u32, buffer: &mut 
     ensures { λ _. ⌜ now (buffer .exit)
         ≡ written (comparison (now (vocabulary .entry)) a b (length (now (buffer .entry))))
         (now (vocabulary .entry)) (now (buffer .entry)) ⌝ }
+    ensures { λ _. ⌜ now (vocabulary .exit) ≡ now (vocabulary .entry) ⌝ }
 {
     let answer = demands::compare(vocabulary, a, b, buffer);
     match answer {
@@ -85,6 +88,8 @@ pub extern "C" fn judge_compare(vocabulary: &[u8], a: u32, b: u32, buffer: &mut 
 #[no_mangle]
 pub extern "C" fn judge_check_script(vocabulary: &[u8], script: &[u8]) -> u64
     ensures { λ r. ⌜ r ≡ packed (scriptCheck (now (vocabulary .entry)) (now (script .entry))) ⌝ }
+    ensures { λ _. ⌜ now (vocabulary .exit) ≡ now (vocabulary .entry) ⌝ }
+    ensures { λ _. ⌜ now (script .exit) ≡ now (script .entry) ⌝ }
 {
     let answer = demands::check_script(vocabulary, script);
     match answer {

@@ -22,14 +22,18 @@ use Rattle.types.specs.Bitmap.{written}
 use Rattle.types.specs.Answers as types
 use Rattle.types.specs.declared.answers.Compared.{Compared}
 use Rattle.types.specs.declared.answers.Compared.the-variants as compared
-use Rattle.types.proofs.Theorems.Comparison.{counts}
+use Rattle.types.proofs.Theorems.Comparison.{different-first, counts}
+use Rattle.types.specs.Types.{types}
+use Rattle.records.proofs.Laws.Tests.{clash}
+use Rattle.scripts.specs.Format.{chain}
 use Rattle.scripts.specs.Run.{scriptCheck}
 use Rattle.scripts.specs.Answers as scripts
 use Rattle.scripts.specs.declared.answers.Judged.{Judged}
 use Rattle.scripts.specs.declared.answers.Judged.the-variants as judged
 use Rattle.scripts.proofs.Theorems.Scripts.{checked-parts, accepted-derives, accepted-within}
 use Rattle.demands.specs.Returns.{VocabularyReturns, OffsetReturns, RecordReturns, handed, empty, EitherAnswer}
-use Rattle.demands.specs.Returns.{ComparisonReturns, ScriptReturns}
+use Rattle.demands.specs.Returns.{Smallest, ComparisonReturns, ScriptReturns}
+use Rattle.demands.proofs.Theorems.Demands.{demand-2}
 use Rattle.demands.proofs.Theorems.Tables.{vocabulary-follows, record-follows, comparison-follows, script-follows}
 use Rattle.demands.proofs.Theorems.Denials.{right-verdict}
 
@@ -53,25 +57,30 @@ record-returns v number part e = at (recordCall v number) refl e
 
 module _ (v : List ℕ) (a b : ℕ) (before after : List ℕ) where
   settled : (x : Verdict) (alive done : ℕ) → comparison v a b (length before) ≡ accepted x
-      → after ≡ written (comparison v a b (length before)) v before → alive ≡ members (survivors v) → done ≡ rounds v
-      → EitherAnswer v a b before after alive done
-  settled x alive done e w c d =
+      → after ≡ written (comparison v a b (length before)) v before
+      → (alive ≡ members (survivors v)) × (done ≡ rounds v) × (done ≤ types v) → EitherAnswer v a b before after alive done
+  settled x alive done e w c =
       record {
         none = comparison-follows v a b (length before) .accepted-only x e .0;
-        counted = c;
-        elapsed = d;
+        counted = c .0;
+        elapsed = c .1;
+        few = c .2;
         wrote = w ∙ rw e;
       }
+
+  smallest : (t s n : ℕ) → comparison v a b (length before) ≡ accepted (different t s n) → Smallest v a b t
+  smallest t s n e =
+      let w = different-first v a b (length before) t s n e in record { survives = w .0; differ = w .1; before = w .2 }
 
   pub comparison-returns : (r : Compared) → types.compared r ≡ comparison v a b (length before)
       → after ≡ written (comparison v a b (length before)) v before → ComparisonReturns v a b before after r
   comparison-returns (compared.Equal s n) e w =
       let c = counts v a b (length before) (equal s n) (sym e) in
-      (right-verdict v a b before (equal s n) (sym e), settled (equal s n) s n (sym e) w (c .0) (c .1))
+      (right-verdict v a b before (equal s n) (sym e), settled (equal s n) s n (sym e) w c)
   comparison-returns (compared.Different t s n) e w =
       let c = counts v a b (length before) (different t s n) (sym e) in
       let apart = right-verdict v a b before (different t s n) (sym e) in
-      (apart .0, rw w (apart .1), settled (different t s n) s n (sym e) w (c .0) (c .1))
+      (apart .0, rw w (apart .1), smallest t s n (sym e), settled (different t s n) s n (sym e) w c)
   comparison-returns (compared.Refused n p) e w =
       (comparison-follows v a b (length before) .refused-only n p (sym e), w ∙ rw (← e))
 
@@ -83,4 +92,10 @@ script-returns v s (judged.Accepted n) e =
       derives = accepted-derives v s n (sym e);
       counted = checked-parts v s n (sym e) .counted;
     }
-script-returns v s (judged.Refused n p) e = script-follows v s .refused-only n p (sym e)
+script-returns v s (judged.Refused n p) e = (
+  script-follows v s .refused-only n p (sym e),
+  λ good kept derives.
+      let accepts = demand-2 .exact v s good kept .always derives in
+      let no : refused n p ≡ accepted (length (chain s)) = e ∙ accepts in
+      clash (cc),
+)

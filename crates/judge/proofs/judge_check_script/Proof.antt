@@ -3,7 +3,7 @@
 -- Assumes nothing.
 use Prim.Native.Nat.{_<_, _^_}
 use native.Mathlib.Omega.{arith}
-use mathlib.Core.Path.{_≡_, _∙_, ap, sym, subst}
+use mathlib.Core.Path.{refl, _≡_, _∙_, ap, sym, subst}
 use denote.Ref.{now}
 use borrow.Author.Needs.{needs}
 use Rattle.scripts.specs.Format.{queryOf}
@@ -37,11 +37,16 @@ pack-requires-2 c κs =
     omega (arith, query k .0, query k .1, small k _ (c .before .answer2 .given .1))
 
 returns : tie.Need-returns
-returns c = rw (← c .before .before .before .before .check-script .ensures .0, c .before .before .answer .given .1) (omega arith)
+returns c = (
+  rw (← c .before .before .before .before .check-script .ensures .0, c .before .before .answer .given .1) (omega arith),
+  (refl, refl),
+)
 
 returns-2 : tie.Need-returns-2
-returns-2 c =
-    rw (← c .before .before .before .before .check-script .ensures .0, c .before .before .answer2 .given .1) (c .pack2 .ensures)
+returns-2 c = (
+  rw (← c .before .before .before .before .check-script .ensures .0, c .before .before .answer2 .given .1) (c .pack2 .ensures),
+  (refl, refl),
+)
 
 pub judge-check-script-spec : {M : Type 1} → statement M
 judge-check-script-spec =

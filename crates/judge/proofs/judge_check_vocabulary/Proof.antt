@@ -1,7 +1,7 @@
 -- `judge::judge_check_vocabulary` meets its contract. The answer's count or place is at most 512, so that it fits its bits.
 -- Assumes nothing.
 use native.Mathlib.Omega.{arith}
-use mathlib.Core.Path.{_≡_, _∙_, ap, sym, subst}
+use mathlib.Core.Path.{refl, _≡_, _∙_, ap, sym, subst}
 use denote.Ref.{now}
 use borrow.Author.Needs.{needs}
 use Rattle.records.specs.Format.{recordLimit}
@@ -24,13 +24,16 @@ pack-requires-2 : tie.Need-pack-requires-2
 pack-requires-2 c κs = omega (arith, small (c .before .before .before) _ (c .before .answer2 .given .1))
 
 returns : tie.Need-returns
-returns c = rw (← c .before .before .before .before .check-vocabulary .ensures .0, c .before .before .answer .given .1)
-    (omega arith)
+returns c = (
+  rw (← c .before .before .before .before .check-vocabulary .ensures .0, c .before .before .answer .given .1) (omega arith),
+  refl,
+)
 
 returns-2 : tie.Need-returns-2
-returns-2 c =
-    rw (← c .before .before .before .before .check-vocabulary .ensures .0, c .before .before .answer2 .given .1)
-    (c .pack2 .ensures)
+returns-2 c = (
+  rw (← c .before .before .before .before .check-vocabulary .ensures .0, c .before .before .answer2 .given .1) (c .pack2 .ensures),
+  refl,
+)
 
 pub judge-check-vocabulary-spec : {M : Type 1} → statement M
 judge-check-vocabulary-spec =

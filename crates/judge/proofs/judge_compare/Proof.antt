@@ -2,7 +2,7 @@
 -- Assumes nothing.
 use Prim.Native.Nat.{ℕ, _-_}
 use native.Mathlib.Omega.{arith}
-use mathlib.Core.Path.{_≡_, sym, ap, _∙_, subst}
+use mathlib.Core.Path.{_≡_, refl, sym, ap, _∙_, subst}
 use lib.ListN.{length}
 use borrow.Author.Needs.{needs}
 use denote.Ref.{now}
@@ -47,17 +47,17 @@ packed-answer c o n e p = p ∙ ap packedVerdict (sym (ap compared e) ∙ c .com
 returns : tie.Need-returns
 returns c =
     let k = c .before .before .before .before .before .before in
-    (packed-answer k _ _ (c .before .before .answer .given .1) (c .pack-verdict .ensures), k .compare .ensures .1 .0)
+    (packed-answer k _ _ (c .before .before .answer .given .1) (c .pack-verdict .ensures), (k .compare .ensures .1 .0, refl))
 
 returns-2 : tie.Need-returns-2
 returns-2 c =
     let k = c .before .before .before .before .before .before in
-    (packed-answer k _ _ (c .before .before .answer2 .given .1) (c .pack-verdict2 .ensures), k .compare .ensures .1 .0)
+    (packed-answer k _ _ (c .before .before .answer2 .given .1) (c .pack-verdict2 .ensures), (k .compare .ensures .1 .0, refl))
 
 returns-3 : tie.Need-returns-3
 returns-3 c =
     let k = c .before .before .before .before .before .before in
-    (packed-answer k _ _ (c .before .before .answer3 .given .1) (c .pack .ensures), k .compare .ensures .1 .0)
+    (packed-answer k _ _ (c .before .before .answer3 .given .1) (c .pack .ensures), (k .compare .ensures .1 .0, refl))
 
 pub judge-compare-spec : {M : Type 1} → statement M
 judge-compare-spec =
