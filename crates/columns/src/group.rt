@@ -10,7 +10,7 @@ ghost use Prim.Native.Nat.{ℕ};
 ghost use lib.ListN.{length, getD};
 ghost use Rattle.records.specs.Kinds.{constructOf, negation, inclusion};
 ghost use Rattle.columns.specs.Columns.{columnsOf, takesY};
-ghost use Rattle.columns.specs.Code.Packed.{Fitting, packedBy, literals, constantGroup, junctionGroup, restrictionGroup};
+ghost use Rattle.columns.specs.Code.Packed.{SmallTerms, packedBy, literals, constantGroup, junctionGroup, restrictionGroup};
 
 // Top and bottom.
 fn constant_column(sign: bool, i: u16, n: u16, at: Terms) -> Column
@@ -66,7 +66,7 @@ fn junction_column(sign: bool, i: u16, j: u16, k: u16, n: u16, at: Terms) -> Col
 
 // Some, all.
 fn restriction_column(sign: bool, i: u16, r: u16, j: u16, n: u16, at: Terms) -> Column
-    requires { ⌜ Fitting at ⌝ }
+    requires { ⌜ SmallTerms at ⌝ }
     ensures { λ c. ⌜ literals c ≡ packedBy at (getD (restrictionGroup sign i r j) n []) ⌝ }
 {
     match n {
@@ -104,7 +104,7 @@ fn inclusion_column(j: u16, k: u16, n: u16, at: Terms) -> Column
 
 // Column n of record i, which is of these fields: the kind selects the group.
 pub fn group_column(fields: Record, i: u16, n: u16, at: Terms) -> Column
-    requires { ⌜ Fitting at ⌝ }
+    requires { ⌜ SmallTerms at ⌝ }
     ensures { λ r. ⌜ literals r ≡ packedBy at (getD (columnsOf i (constructOf fields)) n []) ⌝ }
 {
     let kind = fields.kind;

@@ -18,7 +18,7 @@ ghost use Rattle.records.specs.Format.{recordAt};
 ghost use Rattle.records.specs.Kinds.{constructOf};
 ghost use Rattle.records.specs.Chain.{chained};
 ghost use Rattle.columns.specs.Columns.{Query, within, queryColumns, columnsOf, states, columnsAt, columnAt};
-ghost use Rattle.columns.specs.Code.Packed.{Marked, Fitting, HasShape, packedAt, packedBy, literals};
+ghost use Rattle.columns.specs.Code.Packed.{Marked, SmallTerms, HasShape, packedAt, packedBy, literals};
 
 // Column n of the query "a within b": it speaks of the constant, whatever x and y are.
 pub fn query_column(a: u16, b: u16, n: u16) -> Column
@@ -83,7 +83,7 @@ pub fn find_column(
     at: Terms,
 ) -> Column
     requires { ⌜ Marked (now v) (now marks) ⌝ }
-    requires { ⌜ Fitting at ⌝ }
+    requires { ⌜ SmallTerms at ⌝ }
     ensures { λ r. ⌜ literals r ≡ packedBy at (columnAt (now (v .entry)) (within a b) owner n) ⌝ }
 {
     if owner == 0 {

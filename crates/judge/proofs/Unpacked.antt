@@ -29,7 +29,7 @@ pub record Unpacked (o : Outcome ℕ) : Type 0 where
   pub value : packed o / 256 ≡ valueOf o
   pub fits : valueOf o < 2 ^ 32
   -- a refusal is not taken for an answer
-  pub told : (n p : ℕ) → o ≡ refused n p → 0 < numberOf o
+  pub refusal : (n p : ℕ) → o ≡ refused n p → 0 < numberOf o
 
 pub unpacked : (m : ℕ) (o : Outcome ℕ) → m < 2 ^ 32 → Small m o → Unpacked o
 unpacked m (accepted x) h s =
@@ -37,9 +37,9 @@ unpacked m (accepted x) h s =
       number = omega arith;
       value = omega arith;
       fits = omega arith;
-      told = λ n p e. absurd (clash (cc));
+      refusal = λ n p e. absurd (clash (cc));
     }
-unpacked m (refused n p) h s = record { number = omega arith; value = omega arith; fits = omega arith; told = λ _ _ _. s .0 }
+unpacked m (refused n p) h s = record { number = omega arith; value = omega arith; fits = omega arith; refusal = λ _ _ _. s .0 }
 
 pub check-unpacked : (v : List ℕ) → Unpacked (vocabularyCheck v)
 check-unpacked v = unpacked recordLimit (vocabularyCheck v) (omega arith) (vocabulary-small v)

@@ -91,8 +91,8 @@ unfoldable pub recordCheck : List ℕ → ℕ → Check
 recordCheck v i = fieldsCheck v i (recordAt v i)
 
 -- Row 8, "not 0 and not a later statement": "Header A, then each statement's next"; "A statement off the chain is checked"
-abbrev pub headCheck : List ℕ → Check
-headCheck v = require (linkFits v 0 (firstStatement v)) 8 0
+abbrev pub firstStatementCheck : List ℕ → Check
+firstStatementCheck v = require (linkFits v 0 (firstStatement v)) 8 0
 
 abbrev pub nextFits : List ℕ → ℕ → Bool
 nextFits v i = not (isStatement (recordAt v i .kind)) || linkFits v i (recordAt v i .next)
@@ -101,7 +101,7 @@ unfoldable pub linkCheck : List ℕ → ℕ → Check
 linkCheck v i = require (nextFits v i) 8 i
 
 abbrev pub linksCheck : List ℕ → Check
-linksCheck v = headCheck v then inTurn (linkCheck v) 1 (count v - 1)
+linksCheck v = firstStatementCheck v then inTurn (linkCheck v) 1 (count v - 1)
 
 -- Rows 1 to 8: row 1, row 2, rows 3 to 7 at "each record in turn", row 8.
 unfoldable pub recordsCheck : List ℕ → Check

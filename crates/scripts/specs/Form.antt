@@ -11,7 +11,7 @@ use Rattle.records.specs.Kinds.{isRestriction}
 use Rattle.types.specs.Comparison.{termCheck}
 use Rattle.columns.specs.Columns.{Query, Column, columnAt, takesY}
 use Rattle.scripts.specs.Steps.{Extension, Step, start, extension, reduction}
-use Rattle.scripts.specs.Format.{entrySize, entryLimit, entryAt, entries, queryOf, firstStep, Line, blank, named, applied}
+use Rattle.scripts.specs.Format.{entrySize, entryLimit, entryAt, entries, queryOf, firstStep, Line, blank, theConstant, applied}
 use Rattle.scripts.specs.Format.{step, kindOf, lineOf, isTerm, isStep, nextStep}
 use Rattle.scripts.specs.declared.entry.Entry.{Entry}
 
@@ -31,8 +31,8 @@ abbrev pub headerCheck : List ℕ → Check
 headerCheck s = require (headerFits (entryAt s 0)) 14 0
 
 -- Row 10: "Query A, then B"
-abbrev pub queryCheck : List ℕ → Query → Check
-queryCheck v q = termCheck v (q .a) then termCheck v (q .b)
+abbrev pub queryTermsCheck : List ℕ → Query → Check
+queryTermsCheck v q = termCheck v (q .a) then termCheck v (q .b)
 
 -- Row 15: "kind not 1 to 5"
 abbrev pub kindFits : Entry → Bool
@@ -57,22 +57,22 @@ repeats s f t j = eqb (entryAt s j .w0) 2 && (eqb (entryAt s j .w1) f && eqb (en
 abbrev pub repeated : List ℕ → ℕ → ℕ → ℕ → Bool
 repeated s i f t = anyBelow (repeats s f t) i
 
-abbrev pub isNamed : Line → Bool
-isNamed blank = false
-isNamed named = true
-isNamed (applied f t) = false
-isNamed (step t) = false
+abbrev pub isConstant : Line → Bool
+isConstant blank = false
+isConstant theConstant = true
+isConstant (applied f t) = false
+isConstant (step t) = false
 
 -- "the term fi(t): w1 = i, of kind 7 or 8, w2 = t, an earlier term record"
 abbrev pub functionFits : List ℕ → List ℕ → ℕ → Line → Bool
 functionFits v s i blank = true
-functionFits v s i named = true
+functionFits v s i theConstant = true
 functionFits v s i (applied f t) = isFunction v f && (earlierTerm s i t && not (repeated s i f t))
 functionFits v s i (step t) = true
 
 -- Row 17: "term rule; record 1 .. not the constant"; "the constant a, record 1 only"
 abbrev pub termFits : List ℕ → List ℕ → ℕ → Line → Bool
-termFits v s i l = Bool·beq (isNamed l) (eqb i 1) && functionFits v s i l
+termFits v s i l = Bool·beq (isConstant l) (eqb i 1) && functionFits v s i l
 
 -- "w3 or a needed w4 not an earlier term record, w3 not 1 for owner 0, w4 not 0 without y"
 abbrev pub xFits : List ℕ → ℕ → ℕ → ℕ → Bool
@@ -98,7 +98,7 @@ stepFits v s i (reduction f) = true
 
 abbrev pub lineFits : List ℕ → List ℕ → ℕ → Line → Bool
 lineFits v s i blank = true
-lineFits v s i named = true
+lineFits v s i theConstant = true
 lineFits v s i (applied f t) = true
 lineFits v s i (step t) = stepFits v s i t
 
@@ -134,4 +134,4 @@ linksCheck s = require (linkFits s 0 (firstStep s)) 19 0 then inTurn (linkCheck 
 -- "A script keeps the form when none of 13, 14, 10 and 15 to 19 applies".
 unfoldable pub formCheck : List ℕ → List ℕ → Check
 formCheck v s =
-    lengthCheck s then headerCheck s then queryCheck v (queryOf s) then entriesCheck v s then linksCheck s
+    lengthCheck s then headerCheck s then queryTermsCheck v (queryOf s) then entriesCheck v s then linksCheck s

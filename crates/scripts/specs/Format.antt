@@ -56,7 +56,7 @@ firstStep s = entryAt s 0 .w3
 
 -- What a record says, by record numbers: "1. the constant a", "2. the term fi(t): w1 = i .., w2 = t", or a step.
 pub data Line : Type 0 where
-  blank named : Line
+  blank theConstant : Line
   applied : ℕ → ℕ → Line
   step : Step ℕ → Line
 
@@ -82,7 +82,7 @@ stepUnused e = e .w2 ∷ e .w3 ∷ e .w4 ∷ e .w5 ∷ e .w6 ∷ []
 abbrev pub kinds : List Kind
 kinds =
     noKind
-    ∷ kind (λ e. e .w1 ∷ e .w2 ∷ e .w3 ∷ e .w4 ∷ e .w5 ∷ e .w6 ∷ e .w7 ∷ []) (λ e. named)
+    ∷ kind (λ e. e .w1 ∷ e .w2 ∷ e .w3 ∷ e .w4 ∷ e .w5 ∷ e .w6 ∷ e .w7 ∷ []) (λ e. theConstant)
     ∷ kind (λ e. e .w3 ∷ e .w4 ∷ e .w5 ∷ e .w6 ∷ e .w7 ∷ []) (λ e. applied (e .w1) (e .w2))
     ∷ kind stepUnused (λ e. step (start (e .w1)))
     ∷ kind (λ e. e .w6 ∷ []) (λ e. step (extension (extensionOf e)))
@@ -107,7 +107,7 @@ isStep k = leb 3 k && leb k 5
 -- The term of a record, "written out"; only terms are asked for theirs.
 abbrev pub termOf : Line → (ℕ → SkolemTerm) → SkolemTerm
 termOf blank earlier = constant
-termOf named earlier = constant
+termOf theConstant earlier = constant
 termOf (applied i t) earlier = apply i (earlier t)
 termOf (step t) earlier = constant
 
@@ -117,7 +117,7 @@ termAt s i = inRecordOrder constant (λ earlier j. termOf (lineAt s j) earlier) 
 -- The step of a record, by record numbers; no other record is on the chain.
 abbrev pub stepOf : Line → Step ℕ
 stepOf blank = start 0
-stepOf named = start 0
+stepOf theConstant = start 0
 stepOf (applied i t) = start 0
 stepOf (step t) = t
 

@@ -57,16 +57,16 @@ module _ {A L : Type 0} (g : Setting A L) where
 
   -- The literal at an extension's position, and the others of its column: Calculus' `connectedLiteral` and `remainder`, over
   -- any literals.
-  abbrev pub meets : Extension A → L
-  meets e = getD (g .uses e) (e .position) (g .nothing)
+  abbrev pub connectedIn : Extension A → L
+  connectedIn e = getD (g .uses e) (e .position) (g .nothing)
 
-  abbrev pub leaves : Extension A → List L
-  leaves e = without (e .position) (g .uses e)
+  abbrev pub remainderIn : Extension A → List L
+  remainderIn e = without (e .position) (g .uses e)
 
   -- Row 21: "Extension needs the literal at its position to be the complement of the goal, equal terms included".
   abbrev pub connects : Frames L → Step A → Bool
   connects frames (start n) = true
-  connects frames (extension e) = g .opposed (meets e) (goal frames)
+  connects frames (extension e) = g .opposed (connectedIn e) (goal frames)
   connects frames (reduction f) = true
 
   -- Row 22: "Reduction needs a frame below the last, whose own goal is the complement."
@@ -78,7 +78,7 @@ module _ {A L : Type 0} (g : Setting A L) where
   -- Row 23: "a 65th frame"
   abbrev pub hasRoom : Frames L → Step A → Bool
   hasRoom frames (start n) = true
-  hasRoom frames (extension e) = isNil (leaves e) || ltb (length frames) frameLimit
+  hasRoom frames (extension e) = isNil (remainderIn e) || ltb (length frames) frameLimit
   hasRoom frames (reduction f) = true
 
   -- "Along the chain the five are tried at each step before the next": 25 "step after all is closed", 20 "a later one".
@@ -93,7 +93,7 @@ module _ {A L : Type 0} (g : Setting A L) where
   -- The frames after a step that passed; "Start opens frame 0 with its column."
   unfoldable pub stepped : Frames L → Step A → Frames L
   stepped frames (start n) = g .starts n ∷ []
-  stepped frames (extension e) = extendBy (leaves e) frames
+  stepped frames (extension e) = extendBy (remainderIn e) frames
   stepped frames (reduction f) = close frames
 
   -- The run of records whose steps are given.

@@ -18,7 +18,7 @@ ghost use Rattle.records.specs.Answers.{checked};
 ghost use Rattle.columns.specs.Columns.{Query};
 ghost use Rattle.columns.specs.Code.Packed.{Marked};
 ghost use Rattle.scripts.specs.Format.{entrySize, entryOf, queryIn, firstStep, extensionOf, lineOf};
-ghost use Rattle.scripts.specs.Form.{lengthFits, headerFits, queryCheck, kindFits, unusedFits, earlierTerm, isFunction};
+ghost use Rattle.scripts.specs.Form.{lengthFits, headerFits, queryTermsCheck, kindFits, unusedFits, earlierTerm, isFunction};
 ghost use Rattle.scripts.specs.Form.{repeats, repeated, termFits, functionFits, xFits, yFits, extensionFits, lineFits};
 ghost use Rattle.scripts.specs.Form.{rowsCheck, entryCheck, entriesCheck, linkFits, linkCheck, linksCheck, formCheck};
 ghost use Rattle.records.specs.Finite.{allZero};
@@ -56,7 +56,7 @@ fn header_fits(e: Entry) -> bool
 
 // Row 10: the query's terms.
 fn check_query(v: &[u8], header: Entry) -> Checked
-    ensures { λ r. ⌜ checked r ≡ queryCheck (now (v .entry)) (queryIn header) ⌝ }
+    ensures { λ r. ⌜ checked r ≡ queryTermsCheck (now (v .entry)) (queryIn header) ⌝ }
 {
     let first = check_term(v, header.w1 as usize);
     let Checked::Fine = first else {

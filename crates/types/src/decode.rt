@@ -5,7 +5,7 @@ use records::fields::read_at;
 ghost use mathlib.Core.Path.{_≡_};
 ghost use lib.ListN.{length};
 ghost use Rattle.records.specs.Check.{IsAccepted};
-ghost use Rattle.types.specs.Code.Rules.{ruleOf, firstOf, secondOf, codeLength, Decoded};
+ghost use Rattle.types.specs.Code.Rules.{ruleOf, firstOperandOf, secondOperandOf, codeLength, Decoded};
 
 // The truth rule of a kind, as a table of four bits: bit x + 2 y is the truth where the first operand is x and the second y.
 pub fn rule(kind: u8) -> u16
@@ -25,7 +25,7 @@ pub fn rule(kind: u8) -> u16
 
 // A where it is an operand, else the record itself: an atom's truth is set before.
 fn first_operand(kind: u8, a: u16, own: u16) -> u16
-    ensures { λ r. ⌜ r ≡ firstOf kind a own ⌝ }
+    ensures { λ r. ⌜ r ≡ firstOperandOf kind a own ⌝ }
 {
     match kind {
         4..=6 => a,
@@ -36,7 +36,7 @@ fn first_operand(kind: u8, a: u16, own: u16) -> u16
 
 // B where it is an operand or a filler, else 0.
 fn second_operand(kind: u8, b: u16) -> u16
-    ensures { λ r. ⌜ r ≡ secondOf kind b ⌝ }
+    ensures { λ r. ⌜ r ≡ secondOperandOf kind b ⌝ }
 {
     match kind {
         5..=9 => b,

@@ -43,21 +43,21 @@ fn list_masks(
 }
 
 // The types that fit, in rising order, and how many: no round looks at any other.
-fn list_live(
+fn list_candidates(
     alive: &[bool; TypeData::TYPES],
     size: usize,
-    live: &mut [u16; TypeData::TYPES],
+    candidates: &mut [u16; TypeData::TYPES],
 ) -> usize
     requires { ⌜ size ≤ typeLimit ⌝ }
     requires { ⌜ ((t : ℕ) → size ≤ t → has (now alive) t ≡ false) ⌝ }
-    requires { ⌜ length (now live) ≡ typeLimit ⌝ }
-    ensures { λ r. ⌜ Enumerates (now (live .exit)) r (now (alive .entry)) ⌝ }
+    requires { ⌜ length (now candidates) ≡ typeLimit ⌝ }
+    ensures { λ r. ⌜ Enumerates (now (candidates .exit)) r (now (alive .entry)) ⌝ }
 {
     let mut left = 0;
     let mut t = 0;
     while t < size {
         if alive[t] {
-            live[left] = t as u16;
+            candidates[left] = t as u16;
             left += 1;
         }
         t += 1;
@@ -69,22 +69,22 @@ fn list_live(
 fn enter_words(
     filling: &[u16; TypeData::TYPES],
     alive: &[bool; TypeData::TYPES],
-    live: &[u16; TypeData::TYPES],
+    candidates: &[u16; TypeData::TYPES],
     left: usize,
     size: usize,
     joins: &mut [u16; TypeData::TYPES],
 )
-    requires { ⌜ Enumerates (now live) left (now alive) ⌝ }
+    requires { ⌜ Enumerates (now candidates) left (now alive) ⌝ }
     requires { ⌜ ((t : ℕ) → has (now alive) t ≡ true → getD (now filling) t 0 < typeLimit) ⌝ }
     requires { ⌜ size ≤ typeLimit ⌝ }
     requires { ⌜ length (now joins) ≡ typeLimit ⌝ }
     ensures { λ _. ⌜ length (now (joins .exit)) ≡ typeLimit ⌝ }
-    ensures { λ _. ⌜ Enters (now (filling .entry)) (now (live .entry)) (now (alive .entry)) left size (now (joins .exit)) ⌝ }
+    ensures { λ _. ⌜ Enters (now (filling .entry)) (now (candidates .entry)) (now (alive .entry)) left size (now (joins .exit)) ⌝ }
 {
     clear_words(joins, size);
     let mut j = 0;
     while j < left {
-        let t = live[j] as usize;
+        let t = candidates[j] as usize;
         if alive[t] {
             let word = filling[t];
             joins[word as usize] = word;
@@ -107,11 +107,11 @@ fn remove_unmet(
     held: &[u16; TypeData::TYPES],
     joins: &[u16; TypeData::TYPES],
     mask: u16,
-    live: &[u16; TypeData::TYPES],
+    candidates: &[u16; TypeData::TYPES],
     left: usize,
     alive: &mut [bool; TypeData::TYPES],
 ) -> bool
-    requires { ⌜ Enumerates (now live) left (now alive) ⌝ }
+    requires { ⌜ Enumerates (now candidates) left (now alive) ⌝ }
     requires { ⌜ ((t : ℕ) → has (now alive) t ≡ true → bitOr (getD (now held) t 0) mask < typeLimit) ⌝ }
     requires { ⌜ length (now alive) ≡ typeLimit ⌝ }
     ensures { λ r. ⌜ Keeps (metAt (now (joins .entry)) mask (now (held .entry))) (now (alive .entry)) (now (alive .exit)) r ⌝ }
@@ -119,7 +119,7 @@ fn remove_unmet(
     let mut removed = false;
     let mut j = 0;
     while j < left {
-        let t = live[j] as usize;
+        let t = candidates[j] as usize;
         if alive[t] {
             if !is_met(joins, mask, held[t]) {
                 alive[t] = false;
@@ -144,11 +144,11 @@ fn remove_by_roles(
     masks: &[u16; Record::ROLES as usize],
     held: &[u16; TypeData::TYPES],
     joins: &[u16; TypeData::TYPES],
-    live: &[u16; TypeData::TYPES],
+    candidates: &[u16; TypeData::TYPES],
     left: usize,
     alive: &mut [bool; TypeData::TYPES],
 ) -> bool
-    requires { ⌜ Eliminating (now v) bits (now masks) (now held) (now live) left (now alive) ⌝ }
+    requires { ⌜ Eliminating (now v) bits (now masks) (now held) (now candidates) left (now alive) ⌝ }
     requires { ⌜ Joins (now v) (now alive) (now joins) ⌝ }
     ensures { λ r. ⌜ AfterRound (now (v .entry)) (now (alive .entry)) (now (alive .exit)) r ⌝ }
 {
@@ -159,7 +159,7 @@ fn remove_by_roles(
     while role < count {
         let mask = masks[role as usize];
         if mask != full {
-            let found = remove_unmet(held, joins, mask, live, left, alive);
+            let found = remove_unmet(held, joins, mask, candidates, left, alive);
             removed = either(removed, found);
         }
         role += 1;
@@ -175,20 +175,20 @@ fn remove_unserved(
     masks: &[u16; Record::ROLES as usize],
     held: &[u16; TypeData::TYPES],
     filling: &[u16; TypeData::TYPES],
-    live: &[u16; TypeData::TYPES],
+    candidates: &[u16; TypeData::TYPES],
     left: usize,
     joins: &mut [u16; TypeData::TYPES],
     alive: &mut [bool; TypeData::TYPES],
 ) -> bool
-    requires { ⌜ Eliminating (now v) bits (now masks) (now held) (now live) left (now alive) ⌝ }
+    requires { ⌜ Eliminating (now v) bits (now masks) (now held) (now candidates) left (now alive) ⌝ }
     requires { ⌜ FillerWords (now v) (now filling) ⌝ }
     requires { ⌜ length (now joins) ≡ typeLimit ⌝ }
     ensures { λ _. ⌜ length (now (joins .exit)) ≡ typeLimit ⌝ }
     ensures { λ r. ⌜ AfterRound (now (v .entry)) (now (alive .entry)) (now (alive .exit)) r ⌝ }
 {
-    enter_words(filling, alive, live, left, 1 << bits, joins);
+    enter_words(filling, alive, candidates, left, 1 << bits, joins);
     zeta_transform(joins, bits);
-    remove_by_roles(v, bits, masks, held, joins, live, left, alive)
+    remove_by_roles(v, bits, masks, held, joins, candidates, left, alive)
 }
 
 // Rounds until one removes nothing, so that the survivors are left; how many removed something.
@@ -214,8 +214,8 @@ pub fn eliminate(
     ensures { λ r. ⌜ r ≡ rounds (now (v .entry)) ⌝ }
 {
     let masks = list_masks(v, roles, bits);
-    let mut live = [0; TypeData::TYPES];
-    let left = list_live(alive, size, &mut live);
+    let mut candidates = [0; TypeData::TYPES];
+    let left = list_candidates(alive, size, &mut candidates);
     let mut joins = [0; TypeData::TYPES];
     let mut done = 0;
     loop {
@@ -225,7 +225,7 @@ pub fn eliminate(
             &masks,
             held,
             filling,
-            &live,
+            &candidates,
             left,
             &mut joins,
             alive,

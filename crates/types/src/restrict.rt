@@ -10,7 +10,7 @@ ghost use lib.ListN.{getD};
 ghost use Rattle.records.specs.Check.{IsAccepted};
 ghost use Rattle.records.specs.Finite.{number};
 ghost use Rattle.types.specs.Code.Words.{signed};
-ghost use Rattle.types.specs.Code.Settling.{RestrictionsListed, Bounded, wordAt};
+ghost use Rattle.types.specs.Code.Settling.{RestrictionsListed, Bounded, truthWord};
 ghost use Rattle.types.specs.Code.Elimination.{otherRole};
 ghost use Rattle.records.specs.Atoms.{atoms};
 ghost use Rattle.types.specs.Comparison.{atomLimit};
@@ -71,10 +71,10 @@ pub struct Words {
 }
 
 // The words, built from the top.
-pub fn words_of(done: &[bool; Record::LIMIT], listing: Restrictions) -> Words
+pub fn words_of(values: &[bool; Record::LIMIT], listing: Restrictions) -> Words
     requires { ⌜ Bounded listing ⌝ }
-    ensures { λ r. ⌜ r .held ≡ wordAt (now (done .entry)) (listing .places) (listing .signs) (listing .count) ⌝ }
-    ensures { λ r. ⌜ r .filling ≡ wordAt (now (done .entry)) (listing .fillers) (listing .signs) (listing .count) ⌝ }
+    ensures { λ r. ⌜ r .held ≡ truthWord (now (values .entry)) (listing .places) (listing .signs) (listing .count) ⌝ }
+    ensures { λ r. ⌜ r .filling ≡ truthWord (now (values .entry)) (listing .fillers) (listing .signs) (listing .count) ⌝ }
 {
     let mut held = 0;
     let mut filling = 0;
@@ -84,8 +84,8 @@ pub fn words_of(done: &[bool; Record::LIMIT], listing: Restrictions) -> Words
         let sign = listing.signs[m];
         let place = listing.places[m] as usize;
         let filler = listing.fillers[m] as usize;
-        held = push_bit(held, apply_sign(sign, done[place]));
-        filling = push_bit(filling, apply_sign(sign, done[filler]));
+        held = push_bit(held, apply_sign(sign, values[place]));
+        filling = push_bit(filling, apply_sign(sign, values[filler]));
     }
     Words { held, filling }
 }

@@ -25,7 +25,7 @@ pub fn settle(
 {
     let mut code = [0; TypeData::CODE];
     let mut statements = [0; Record::LIMIT];
-    let mut done = [false; Record::LIMIT];
+    let mut values = [false; Record::LIMIT];
     let mut held = [0; TypeData::TYPES];
     let mut filling = [0; TypeData::TYPES];
     let restrictions = list_restrictions(v);
@@ -47,7 +47,7 @@ pub fn settle(
         plan,
         &code,
         &statements,
-        &mut done,
+        &mut values,
         alive,
         differs,
         &mut held,

@@ -9,7 +9,7 @@ ghost use Prim.Native.Nat.{ℕ, _+_, _*_, _≤_, _<_};
 ghost use lib.ListN.{length, getD};
 ghost use Rattle.records.specs.Check.{IsAccepted};
 ghost use Rattle.types.specs.Comparison.{atomLimit, typeLimit};
-ghost use Rattle.types.specs.Code.Rules.{select, Decoded, holding, AtomsListed, AtomsSet, Truths};
+ghost use Rattle.types.specs.Code.Rules.{select, Decoded, allTrue, AtomsListed, AtomsSet, Truths};
 ghost use Rattle.types.specs.Code.Settling.{Stating};
 ghost use Rattle.records.specs.Format.{recordLimit};
 ghost use Rattle.records.specs.Atoms.{atoms};
@@ -64,19 +64,19 @@ fn set_atoms(
     k: usize,
     places: &[u16; TypeData::ATOMS],
     t: usize,
-    done: &mut [bool; Record::LIMIT],
+    values: &mut [bool; Record::LIMIT],
 )
     requires { ⌜ IsAccepted (now v) ⌝ }
     requires { ⌜ atoms (now v) ≤ atomLimit ⌝ }
     requires { ⌜ k ≡ atoms (now v) ⌝ }
     requires { ⌜ AtomsListed (now v) (now places) ⌝ }
-    requires { ⌜ length (now done) ≡ recordLimit ⌝ }
-    ensures { λ _. ⌜ AtomsSet (now (v .entry)) t (now (done .exit)) ⌝ }
+    requires { ⌜ length (now values) ≡ recordLimit ⌝ }
+    ensures { λ _. ⌜ AtomsSet (now (v .entry)) t (now (values .exit)) ⌝ }
 {
     let mut j = 0;
     while j < k {
         let at = places[j] as usize;
-        done[at] = (t >> j) % 2 == 1;
+        values[at] = (t >> j) % 2 == 1;
         j += 1;
     }
 }
@@ -88,23 +88,23 @@ pub fn truths(
     k: usize,
     places: &[u16; TypeData::ATOMS],
     t: usize,
-    done: &mut [bool; Record::LIMIT],
+    values: &mut [bool; Record::LIMIT],
 )
     requires { ⌜ IsAccepted (now v) ⌝ }
     requires { ⌜ atoms (now v) ≤ atomLimit ⌝ }
     requires { ⌜ k ≡ atoms (now v) ⌝ }
     requires { ⌜ Decoded (now v) (now code) ⌝ }
     requires { ⌜ AtomsListed (now v) (now places) ⌝ }
-    requires { ⌜ length (now done) ≡ recordLimit ⌝ }
-    ensures { λ _. ⌜ Truths (now (v .entry)) t (now (done .exit)) ⌝ }
+    requires { ⌜ length (now values) ≡ recordLimit ⌝ }
+    ensures { λ _. ⌜ Truths (now (v .entry)) t (now (values .exit)) ⌝ }
 {
-    set_atoms(v, k, places, t, done);
+    set_atoms(v, k, places, t, values);
     let records = v.len() / Record::SIZE;
     let mut i = 0;
     while i < records {
         let first = code[Record::LIMIT + i] as usize;
         let second = code[2 * Record::LIMIT + i] as usize;
-        done[i] = apply(code[i], done[first], done[second]);
+        values[i] = apply(code[i], values[first], values[second]);
         i += 1;
     }
 }
@@ -131,18 +131,18 @@ pub fn list_statements(v: &[u8], statements: &mut [u16; Record::LIMIT]) -> usize
 
 // Whether every listed statement holds.
 pub fn statements_hold(
-    done: &[bool; Record::LIMIT],
+    values: &[bool; Record::LIMIT],
     statements: &[u16; Record::LIMIT],
     found: usize,
 ) -> bool
     requires { ⌜ found ≤ recordLimit ⌝ }
     requires { ⌜ ((j : ℕ) → j < found → getD (now statements) j 0 < recordLimit) ⌝ }
-    ensures { λ r. ⌜ r ≡ holding (now (statements .entry)) (now (done .entry)) found ⌝ }
+    ensures { λ r. ⌜ r ≡ allTrue (now (statements .entry)) (now (values .entry)) found ⌝ }
 {
     let mut j = 0;
     while j < found {
         let at = statements[j] as usize;
-        if !done[at] {
+        if !values[at] {
             return false;
         }
         j += 1;

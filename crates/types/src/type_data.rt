@@ -41,28 +41,28 @@ pub struct Plan {
     pub restrictions: Restrictions,
 }
 
-// The data of type t; `done` then holds its truths.
+// The data of type t; `values` then holds its truths.
 fn describe(
     v: &[u8],
     plan: Plan,
     code: &[u16; TypeData::CODE],
     statements: &[u16; Record::LIMIT],
     t: usize,
-    done: &mut [bool; Record::LIMIT],
+    values: &mut [bool; Record::LIMIT],
 ) -> TypeData
     requires { ⌜ Prepared (now v) plan (now code) (now statements) ⌝ }
-    requires { ⌜ length (now done) ≡ recordLimit ⌝ }
+    requires { ⌜ length (now values) ≡ recordLimit ⌝ }
     ensures { λ r. ⌜ r ≡ typeDataAt (now (v .entry)) (plan .a) (plan .b) t ⌝ }
-    ensures { λ _. ⌜ length (now (done .exit)) ≡ recordLimit ⌝ }
+    ensures { λ _. ⌜ length (now (values .exit)) ≡ recordLimit ⌝ }
 {
     let a = plan.a;
     let b = plan.b;
     let places = plan.places;
-    truths(v, code, plan.k, &places, t, done);
-    let words = words_of(done, plan.restrictions);
+    truths(v, code, plan.k, &places, t, values);
+    let words = words_of(values, plan.restrictions);
     TypeData {
-        satisfies: statements_hold(done, statements, plan.found),
-        differs: done[a] != done[b],
+        satisfies: statements_hold(values, statements, plan.found),
+        differs: values[a] != values[b],
         held: words.held,
         filling: words.filling,
     }
@@ -74,21 +74,21 @@ pub fn describe_types(
     plan: Plan,
     code: &[u16; TypeData::CODE],
     statements: &[u16; Record::LIMIT],
-    done: &mut [bool; Record::LIMIT],
+    values: &mut [bool; Record::LIMIT],
     alive: &mut [bool; TypeData::TYPES],
     differs: &mut [bool; TypeData::TYPES],
     held: &mut [u16; TypeData::TYPES],
     filling: &mut [u16; TypeData::TYPES],
 )
     requires { ⌜ Prepared (now v) plan (now code) (now statements) ⌝ }
-    requires { ⌜ Blank (now done) (now alive) (now differs) (now held) (now filling) ⌝ }
+    requires { ⌜ Blank (now values) (now alive) (now differs) (now held) (now filling) ⌝ }
     ensures { λ _. ⌜ Started (now (v .entry)) (plan .a) (plan .b) (now (alive .exit)) (now (differs .exit)) ⌝ }
     ensures { λ _. ⌜ Worded (now (v .entry)) (now (held .exit)) (now (filling .exit)) ⌝ }
 {
     let size = 1 << plan.k;
     let mut t = 0;
     while t < size {
-        let data = describe(v, plan, code, statements, t, done);
+        let data = describe(v, plan, code, statements, t, values);
         alive[t] = data.satisfies;
         differs[t] = data.differs;
         held[t] = data.held;

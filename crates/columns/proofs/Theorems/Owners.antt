@@ -12,7 +12,7 @@ use Rattle.records.specs.Format.{recordAt, count}
 use Rattle.records.specs.Kinds.{kindOf, constructOf, isStatement}
 use Rattle.records.specs.Chain.{chained}
 use Rattle.records.specs.declared.fields.Record.{Record}
-use Rattle.records.proofs.Theorems.Accepted.{Accepted}
+use Rattle.records.proofs.Theorems.Accepted.{AcceptedFacts}
 use Rattle.records.proofs.Theorems.Constructs.{record-past}
 use Rattle.columns.specs.Columns.{Query, queryColumns, columnsOf, states, columnsAt, columnAt, takesY}
 use Rattle.columns.specs.Code.Packed.{HasShape}
@@ -30,7 +30,7 @@ module _ (v : List ℕ) (q : Query) where
   columns-silent zero n e = absurd (n refl)
   columns-silent (suc i) n e = rw e
 
-  pub columns-past : Accepted v → (i : ℕ) → (i ≡ 0 → ⊥) → count v ≤ i → columnsAt v q i ≡ []
+  pub columns-past : AcceptedFacts v → (i : ℕ) → (i ≡ 0 → ⊥) → count v ≤ i → columnsAt v q i ≡ []
   unfolding kindOf
   columns-past good i n h =
       let past : recordAt v i .kind ≡ 0 = record-past v i (good .sized) h in

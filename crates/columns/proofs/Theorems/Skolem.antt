@@ -25,7 +25,7 @@ use Rattle.records.specs.Chain.{chained}
 use Rattle.records.proofs.Laws.Tests.{clash, both-left, both-right, either-left, either-right, both-true, implies-rest}
 use Rattle.records.proofs.Laws.Tests.{unless-true}
 use Rattle.records.proofs.Laws.Search.{any-intro, any-elim}
-use Rattle.records.proofs.Theorems.Accepted.{Accepted}
+use Rattle.records.proofs.Theorems.Accepted.{AcceptedFacts}
 use Rattle.records.proofs.Laws.Lists.{All, all-entry}
 use Rattle.records.proofs.Laws.Ranges.{statement-kind}
 use Rattle.records.proofs.Theorems.Constructs.{stating, construct-statement, construct-inclusion}
@@ -135,7 +135,7 @@ module _ (I : Interpretation) (v : List ℕ) where
         inside = denied .inside;
       }
 
-module _ (I : Interpretation) (v : List ℕ) (good : Accepted v) (i d : ℕ) where
+module _ (I : Interpretation) (v : List ℕ) (good : AcceptedFacts v) (i d : ℕ) where
   -- A restriction says what an element shows of it, and if it is as the sign says, some element shows it.
   restriction-holds : (s : Bool) (r b e : ℕ) → restrictionAt v i ≡ restriction s r b
       → Pair I r d e → belongs I v b e ≡ s → belongs I v i d ≡ s
@@ -155,7 +155,7 @@ module _ (I : Interpretation) (v : List ℕ) (good : Accepted v) (i d : ℕ) whe
       subst (Shows I v s r b d) (sym (ap (partner I v d) m ∙ partner-witness I v d s r b))
       (witness-shows I v s r b d (f .0) record { pair = f .1; filler = f .2 })
 
-module _ (v : List ℕ) (good : Accepted v) (q : Query) (I : Interpretation) (model : Model I v) (denied : Denied I v q) where
+module _ (v : List ℕ) (good : AcceptedFacts v) (q : Query) (I : Interpretation) (model : Model I v) (denied : Denied I v q) where
   abbrev Fails : ℕ → ℕ → ℕ → Column → Type 0
   Fails owner d e c = columnHolds I (choice I v q denied) v owner d e c ≡ false
 
@@ -244,7 +244,7 @@ module _ (v : List ℕ) (good : Accepted v) (q : Query) (I : Interpretation) (mo
   columns-none zero d e at to = query-none d e
   columns-none (suc i) d e at to = stated-none (suc i) d e at to (states v (suc i)) refl
 
-pub none-holds : (v : List ℕ) (good : Accepted v) (q : Query) (I : Interpretation) → Model I v → Denied I v q
+pub none-holds : (v : List ℕ) (good : AcceptedFacts v) (q : Query) (I : Interpretation) → Model I v → Denied I v q
     → (k : Choice I) × NoneHolds I k v q
 none-holds v good q I model denied = (
   choice I v q denied,

@@ -35,7 +35,7 @@ packedAt nx ny nf c = map (λ l. packed (substitute (arguments nx ny nf 0) l)) c
 abbrev pub termLimit : ℕ
 termLimit = 2 ^ 20
 
-pub record Fitting (at : Terms) : Type 0 where
+pub record SmallTerms (at : Terms) : Type 0 where
   pub first : at .x < termLimit
   pub second : at .y < termLimit
   pub inner : at .fx < termLimit

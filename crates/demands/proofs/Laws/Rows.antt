@@ -1,6 +1,6 @@
 -- A list of rows as a check, and what follows from that.
 --   first                                                    the refusal of the first row that applies
---   Tries, append-is, row-is, plain-is, last-is, turns-are   rows are the checks that they are made of
+--   Tries, tries-append, tries-row, tries-plain, tries-last, tries-in-turn   rows are the checks that they are made of
 --   none-passed, row-passed, refuses-first                   no row applies; a row does not; the first that applies
 --   follows                                                  a call that tries its rows and then has a value follows them
 -- Assumes nothing.
@@ -31,27 +31,27 @@ pub record Tries (rows : List Row) (check : Check) : Type 0 where
   pub same : first rows ≡ check
 
 -- Rows and more rows; a row whose condition is that something is not so, or that it is; the last row; rows in turn.
-pub append-is : {xs ys : List Row} {c d : Check} → Tries xs c → Tries ys d → Tries (xs ++ ys) (c then d)
-append-is {xs} {ys} e f = record { same = first-then xs ys ∙ rw (e .same, f .same) }
+pub tries-append : {xs ys : List Row} {c d : Check} → Tries xs c → Tries ys d → Tries (xs ++ ys) (c then d)
+tries-append {xs} {ys} e f = record { same = first-then xs ys ∙ rw (e .same, f .same) }
 
-pub row-is : (b : Bool) (n p : ℕ) {rows : List Row} {c : Check} → Tries rows c
+pub tries-row : (b : Bool) (n p : ℕ) {rows : List Row} {c : Check} → Tries rows c
     → Tries (row n p (not b) ∷ rows) (require b n p then c)
-row-is true n p e = record { same = e .same }
-row-is false n p e = record { same = refl }
+tries-row true n p e = record { same = e .same }
+tries-row false n p e = record { same = refl }
 
-pub plain-is : (b : Bool) (n p : ℕ) {rows : List Row} {c : Check} → Tries rows c
+pub tries-plain : (b : Bool) (n p : ℕ) {rows : List Row} {c : Check} → Tries rows c
     → Tries (row n p b ∷ rows) (require (not b) n p then c)
-plain-is b n p e = record { same = rw (e .same) }
+tries-plain b n p e = record { same = rw (e .same) }
 
-pub last-is : (b : Bool) (n p : ℕ) → Tries (row n p (not b) ∷ []) (require b n p)
-last-is true n p = record { same = refl }
-last-is false n p = record { same = refl }
+pub tries-last : (b : Bool) (n p : ℕ) → Tries (row n p (not b) ∷ []) (require b n p)
+tries-last true n p = record { same = refl }
+tries-last false n p = record { same = refl }
 
-pub turns-are : (rows : ℕ → List Row) (check : ℕ → Check) (n i : ℕ) → ((k : ℕ) → Tries (rows k) (check k))
+pub tries-in-turn : (rows : ℕ → List Row) (check : ℕ → Check) (n i : ℕ) → ((k : ℕ) → Tries (rows k) (check k))
     → Tries (rowsInTurn rows i n) (inTurn check i n)
 unfolding rowsInTurn inTurn
-turns-are rows check zero i each = record { same = refl }
-turns-are rows check (suc n) i each = append-is (each i) (turns-are rows check n (suc i) each)
+tries-in-turn rows check zero i each = record { same = refl }
+tries-in-turn rows check (suc n) i each = tries-append (each i) (tries-in-turn rows check n (suc i) each)
 
 pub none-passed : (rows : List Row) → NoneApplies rows → first rows ≡ pass
 none-passed [] h = refl

@@ -1,5 +1,5 @@
 -- Each call is its table: it tries the rows in their order and then has a value.
---   records-are, form-is, chain-is                                           rows 1 to 8; 13 to 19; 20 to 25
+--   tries-vocabulary, tries-form, tries-chain                                rows 1 to 8; 13 to 19; 20 to 25
 --   term-passed, form-passed                                                 what row 10, and what the form, lets through
 --   vocabulary-follows, record-follows, comparison-follows, script-follows   the four calls
 -- Assumes nothing.
@@ -24,8 +24,8 @@ use Rattle.scripts.specs.Run.{isStart, connects, reduces, hasRoom, stepCheck, r
 use Rattle.demands.specs.Table.{Row, Follows, recordRows, nextRows, vocabularyTable, recordTable, termRow}
 use Rattle.demands.specs.Table.{comparisonTable, entryRows, nextStepRows, formTable, OpenFrames, framesAfter, stepRows}
 use Rattle.demands.specs.Table.{laterRows, chainTable, scriptTable, TermOf, InForm}
-use Rattle.demands.proofs.Laws.Rows.{then-assoc, none-passed, row-passed, Tries, follows, append-is, row-is, plain-is}
-use Rattle.demands.proofs.Laws.Rows.{last-is, turns-are}
+use Rattle.demands.proofs.Laws.Rows.{then-assoc, none-passed, row-passed, Tries, follows, tries-append, tries-row, tries-plain}
+use Rattle.demands.proofs.Laws.Rows.{tries-last, tries-in-turn}
 
 -- what comes after the vocabulary check comes after its rows
 after-count : {B C : Type 0} (v : List ℕ) (b : Outcome B) (c : Outcome C)
@@ -38,37 +38,37 @@ after-count v b c = at (recordsCheck v)
     at (refused n p) = refl
 
 module _ (v : List ℕ) where
-  record-rows-are : (i : ℕ) → Tries (recordRows v i) (recordCheck v i)
+  tries-record : (i : ℕ) → Tries (recordRows v i) (recordCheck v i)
   unfolding recordCheck
-  record-rows-are i =
+  tries-record i =
       let r = recordAt v i in
       let s = sortsOf (r .kind) in
-      row-is (kindFits r) 3 i
-      (row-is (rowFits v i 4 s r) 4 i
-      (row-is (rowFits v i 5 s r) 5 i
-      (row-is (rowFits v i 6 s r) 6 i (last-is (rowFits v i 7 s r) 7 i))))
+      tries-row (kindFits r) 3 i
+      (tries-row (rowFits v i 4 s r) 4 i
+      (tries-row (rowFits v i 5 s r) 5 i
+      (tries-row (rowFits v i 6 s r) 6 i (tries-last (rowFits v i 7 s r) 7 i))))
 
-  pub records-are : Tries (vocabularyTable v) (recordsCheck v)
+  pub tries-vocabulary : Tries (vocabularyTable v) (recordsCheck v)
   unfolding recordsCheck linkCheck
-  records-are =
-      row-is (lengthFits v) 1 0
-      (row-is (headerFits (recordAt v 0)) 2 0
-      (append-is (turns-are (recordRows v) (recordCheck v) (count v - 1) 1 record-rows-are)
-      (row-is (linkFits v 0 (firstStatement v)) 8 0
-      (turns-are (nextRows v) (linkCheck v) (count v - 1) 1 (λ i. last-is (nextFits v i) 8 i)))))
+  tries-vocabulary =
+      tries-row (lengthFits v) 1 0
+      (tries-row (headerFits (recordAt v 0)) 2 0
+      (tries-append (tries-in-turn (recordRows v) (recordCheck v) (count v - 1) 1 tries-record)
+      (tries-row (linkFits v 0 (firstStatement v)) 8 0
+      (tries-in-turn (nextRows v) (linkCheck v) (count v - 1) 1 (λ i. tries-last (nextFits v i) 8 i)))))
 
   pub vocabulary-follows : Follows (vocabularyTable v) (count v) (vocabularyCheck v)
   unfolding vocabularyCheck
-  vocabulary-follows = follows records-are refl
+  vocabulary-follows = follows tries-vocabulary refl
 
   pub record-follows : (number : ℕ) → Follows (recordTable v number) (8 * number) (recordCall v number)
   unfolding recordCall
   record-follows number =
       let known = ltb number (count v) in
-      follows (row-is (lengthFits v) 1 0 (last-is known 9 number)) (sym (then-assoc (lengthCheck v) (require known 9 number) _))
+      follows (tries-row (lengthFits v) 1 0 (tries-last known 9 number)) (sym (then-assoc (lengthCheck v) (require known 9 number) _))
 
   term-is : (x : ℕ) {rows : List Row} {c : Check} → Tries rows c → Tries (termRow v x ∷ rows) (termCheck v x then c)
-  term-is x = row-is (ltb x (count v) && isTerm (recordAt v x .kind)) 10 x
+  term-is x = tries-row (ltb x (count v) && isTerm (recordAt v x .kind)) 10 x
 
   pub term-passed : (x : ℕ) → TermOf v x → termCheck v x ≡ pass
   term-passed x h = row-passed (ltb x (count v) && isTerm (recordAt v x .kind)) 10 x (h .0)
@@ -76,59 +76,59 @@ module _ (v : List ℕ) where
   pub comparison-follows : (a b lent : ℕ) → Follows (comparisonTable v a b lent) (verdict v a b) (comparison v a b lent)
   unfolding comparison
   comparison-follows a b lent =
-      let query = term-is a (term-is b (row-is (leb (atoms v) 12) 11 (atoms v) (last-is (leb 512 lent) 12 0))) in
-      follows (append-is records-are query) (after-count v (queryCheck v a b lent) (accepted (verdict v a b)))
+      let query = term-is a (term-is b (tries-row (leb (atoms v) 12) 11 (atoms v) (tries-last (leb 512 lent) 12 0))) in
+      follows (tries-append tries-vocabulary query) (after-count v (queryCheck v a b lent) (accepted (verdict v a b)))
 
 module _ (v s : List ℕ) where
-  entry-rows-are : (i : ℕ) → Tries (entryRows v s i) (script.entryCheck v s i)
+  tries-entry : (i : ℕ) → Tries (entryRows v s i) (script.entryCheck v s i)
   unfolding script.entryCheck
-  entry-rows-are i =
+  tries-entry i =
       let e = entryAt s i in
-      row-is (script.kindFits e) 15 i
-      (row-is (script.unusedFits e) 16 i
-      (row-is (script.termFits v s i (lineOf e)) 17 i (last-is (script.lineFits v s i (lineOf e)) 18 i)))
+      tries-row (script.kindFits e) 15 i
+      (tries-row (script.unusedFits e) 16 i
+      (tries-row (script.termFits v s i (lineOf e)) 17 i (tries-last (script.lineFits v s i (lineOf e)) 18 i)))
 
-  form-is : Tries (formTable v s) (script.formCheck v s)
+  tries-form : Tries (formTable v s) (script.formCheck v s)
   unfolding script.formCheck script.linkCheck
-  form-is =
-      let entered = turns-are (entryRows v s) (script.entryCheck v s) (entries s - 1) 1 entry-rows-are in
-      let linked = turns-are (nextStepRows s) (script.linkCheck s) (entries s - 1) 1 (λ i. last-is (script.nextFits s i) 19 i) in
+  tries-form =
+      let entered = tries-in-turn (entryRows v s) (script.entryCheck v s) (entries s - 1) 1 tries-entry in
+      let linked = tries-in-turn (nextStepRows s) (script.linkCheck s) (entries s - 1) 1 (λ i. tries-last (script.nextFits s i) 19 i) in
       let b = queryOf s .b in
-      let asked = term-is v (queryOf s .a) (last-is (ltb b (count v) && isTerm (recordAt v b .kind)) 10 b) in
-      row-is (script.lengthFits s) 13 0
-      (row-is (script.headerFits (entryAt s 0)) 14 0
-      (append-is asked
-      (append-is (row-is (ltb 1 (entries s)) 17 1 entered) (row-is (script.linkFits s 0 (firstStep s)) 19 0 linked))))
+      let asked = term-is v (queryOf s .a) (tries-last (ltb b (count v) && isTerm (recordAt v b .kind)) 10 b) in
+      tries-row (script.lengthFits s) 13 0
+      (tries-row (script.headerFits (entryAt s 0)) 14 0
+      (tries-append asked
+      (tries-append (tries-row (ltb 1 (entries s)) 17 1 entered) (tries-row (script.linkFits s 0 (firstStep s)) 19 0 linked))))
 
   pub form-passed : InForm v s → script.formCheck v s ≡ pass
-  form-passed kept = sym (form-is .same) ∙ none-passed (formTable v s) kept
+  form-passed kept = sym (tries-form .same) ∙ none-passed (formTable v s) kept
 
-  step-rows-are : (frames : OpenFrames v s) (i : ℕ)
+  tries-step : (frames : OpenFrames v s) (i : ℕ)
       → Tries (stepRows v s frames i) (stepCheck (writtenOut v (queryOf s)) i frames (stepAt s i))
   unfolding stepCheck
-  step-rows-are frames i =
+  tries-step frames i =
       let paper = writtenOut v (queryOf s) in
-      plain-is (isNil frames) 25 i
-      (plain-is (isStart (stepAt s i)) 20 i
-      (row-is (connects paper frames (stepAt s i)) 21 i
-      (row-is (reduces paper frames (stepAt s i)) 22 i (last-is (hasRoom paper frames (stepAt s i)) 23 i))))
+      tries-plain (isNil frames) 25 i
+      (tries-plain (isStart (stepAt s i)) 20 i
+      (tries-row (connects paper frames (stepAt s i)) 21 i
+      (tries-row (reduces paper frames (stepAt s i)) 22 i (tries-last (hasRoom paper frames (stepAt s i)) 23 i))))
 
-  later-are : (is : List ℕ) (frames : OpenFrames v s) (last : ℕ)
+  tries-later : (is : List ℕ) (frames : OpenFrames v s) (last : ℕ)
       → Tries (laterRows v s frames last is) (run (writtenOut v (queryOf s)) (stepAt s) frames last is)
   unfolding laterRows run
-  later-are [] frames last = last-is (isNil frames) 24 last
-  later-are (i ∷ is) frames last = append-is (step-rows-are frames i) (later-are is (framesAfter v s frames i) i)
+  tries-later [] frames last = tries-last (isNil frames) 24 last
+  tries-later (i ∷ is) frames last = tries-append (tries-step frames i) (tries-later is (framesAfter v s frames i) i)
 
-  chain-is : (is : List ℕ) → Tries (chainTable v s is) (chainCheck (writtenOut v (queryOf s)) (stepAt s) is)
+  tries-chain : (is : List ℕ) → Tries (chainTable v s is) (chainCheck (writtenOut v (queryOf s)) (stepAt s) is)
   unfolding chainTable chainCheck
-  chain-is [] = record { same = refl }
-  chain-is (i ∷ is) = row-is (isStart (stepAt s i)) 20 i (later-are is (framesAfter v s [] i) i)
+  tries-chain [] = record { same = refl }
+  tries-chain (i ∷ is) = tries-row (isStart (stepAt s i)) 20 i (tries-later is (framesAfter v s [] i) i)
 
   pub script-follows : Follows (scriptTable v s) (length (chain s)) (scriptCheck v s)
   unfolding scriptCheck
   script-follows =
       let ran = chainCheck (writtenOut v (queryOf s)) (stepAt s) (chain s) in
       let value = accepted (length (chain s)) in
-      follows (append-is (append-is (records-are v) form-is) (chain-is (chain s)))
+      follows (tries-append (tries-append (tries-vocabulary v) tries-form) (tries-chain (chain s)))
       (after-count v (script.formCheck v s) (ran then value)
       ∙ sym (then-assoc (recordsCheck v then script.formCheck v s) ran value))

@@ -1,9 +1,9 @@
 -- Rows 4 to 7 at a record, by the faults of its three fields.
---   rows-fit      where all three fields fit, the rows pass
---   rows-unfit    where not all do, the smallest row of those that do not is the first that applies
---   rows-passed   where the rows pass, all three fit
---   rows-at       the rows of a record, where its sorts were told by its kind
---   head-at       row 8 at the header, put together from what the callees answered
+--   rows-fit             where all three fields fit, the rows pass
+--   rows-unfit           where not all do, the smallest row of those that do not is the first that applies
+--   rows-passed          where the rows pass, all three fit
+--   rows-at              the rows of a record, where its sorts were told by its kind
+--   first-statement-at   row 8 at the header, put together from what the callees answered
 -- Assumes nothing.
 use Prim.Native.Nat.{ℕ, min, _<_, _≤_}
 use native.Mathlib.Omega.{arith}
@@ -16,7 +16,7 @@ use borrow.Author.Tests.{eq-eqb, ne-eqb, eqb-true}
 use Rattle.records.specs.Outcome.{Check, accepted, refused, pass, _then_, require}
 use Rattle.records.specs.Format.{recordAt}
 use Rattle.records.specs.Kinds.{sortsOf, Sorts}
-use Rattle.records.specs.Check.{sortFits, row, clear, rowFits, rowsCheck, linkFits, headCheck}
+use Rattle.records.specs.Check.{sortFits, row, clear, rowFits, rowsCheck, linkFits, firstStatementCheck}
 use Rattle.records.specs.Code.Fields.{fieldFits, allFit, noFault, firstOf}
 use Rattle.records.specs.declared.fields.Record.{Record}
 use Rattle.records.specs.declared.kinds.Sort.{Sort}
@@ -190,6 +190,6 @@ pub rows-at : (v : List ℕ) (i : ℕ) (r : Record) (s : Sorts) (o : Check)
     → o ≡ rowsCheck v i s r → s ≡ sortsOf (r .kind) → o ≡ rowsCheck v i (sortsOf (r .kind)) r
 rows-at v i r s o h e = rw e at h
 
-pub head-at : (v : List ℕ) (r : Record) (fit : Bool) (o : Check)
-    → r ≡ recordAt v 0 → fit ≡ linkFits v 0 (r .a) → o ≡ require fit 8 0 → o ≡ headCheck v
-head-at v r fit o e f h = h ∙ rw (f, e)
+pub first-statement-at : (v : List ℕ) (r : Record) (fit : Bool) (o : Check)
+    → r ≡ recordAt v 0 → fit ≡ linkFits v 0 (r .a) → o ≡ require fit 8 0 → o ≡ firstStatementCheck v
+first-statement-at v r fit o e f h = h ∙ rw (f, e)

@@ -2,10 +2,10 @@
 -- below the count; labels differ, and links lead to later statements.
 --   Sized, length-passed                           what row 1 tells
 --   Parts, partsOf, Over, over-map                 a construct's class, its roles and its operands; what holds of each operand
---   Operand, Linked, Held, WellFounded, Accepted   what is told of a field, of a record, of a vocabulary
---   well-formed-vocabulary                         a vocabulary that passed rows 1 to 8 is Accepted
+--   Operand, Linked, SortHolds, WellFounded, AcceptedFacts   what is told of a field, of a record, of a vocabulary
+--   well-formed-vocabulary                         a vocabulary that passed rows 1 to 8 gives AcceptedFacts
 --   accepted-well-formed                           one that the vocabulary check accepts passed them
---   accepted-vocabulary                            and so is Accepted
+--   accepted-vocabulary                            and so gives them
 -- Assumes nothing.
 use Prim.Native.Nat.{ℕ, zero, suc, _-_, _*_, _%_, _≤_, _<_}
 use native.Mathlib.Omega.{arith}
@@ -22,7 +22,7 @@ use Rattle.records.specs.Kinds.{Construct, none, top, bottom, name, nega
 use Rattle.records.specs.Kinds.{universal, inclusion, sorts, negationFields, restrictionFields, Class, Silent, Connective}
 use Rattle.records.specs.Kinds.{Name, Restriction, Statement, Kind, noKind, kinds, kindOf, sortsOf, isTerm, isStatement}
 use Rattle.records.specs.Kinds.{Sorts}
-use Rattle.records.specs.Check.{headCheck, lengthFits, lengthCheck, headerFits, headerCheck, kindCheck, named, labelled}
+use Rattle.records.specs.Check.{firstStatementCheck, lengthFits, lengthCheck, headerFits, headerCheck, kindCheck, named, labelled}
 use Rattle.records.specs.Check.{termFits, linkFits, rowsCheck, recordCheck, nextFits, linkCheck, linksCheck, IsWellFormed}
 use Rattle.records.specs.Check.{recordsCheck, vocabularyCheck}
 use Rattle.records.specs.Code.Fields.{fieldFits}
@@ -105,23 +105,23 @@ abbrev pub Linked : List ℕ → ℕ → ℕ → Type 0
 Linked v i x = Onward (IsStatement v) (count v) i x
 
 -- x fits a field of record i that holds this sort. (A link is looked at after all records.)
-abbrev pub Held : List ℕ → ℕ → Sort → ℕ → Type 0
-Held v i Spare x = x ≡ 0
-Held v i Term x = Operand v i x
-Held v i Role x = x < roleCount v
-Held v i Label x = labelled v i x ≡ false
-Held v i Link x = Unit {0}
+abbrev pub SortHolds : List ℕ → ℕ → Sort → ℕ → Type 0
+SortHolds v i Spare x = x ≡ 0
+SortHolds v i Term x = Operand v i x
+SortHolds v i Role x = x < roleCount v
+SortHolds v i Label x = labelled v i x ≡ false
+SortHolds v i Link x = Unit {0}
 
 pub record Fields (v : List ℕ) (i : ℕ) (s : Sorts) (r : Record) : Type 0 where
-  pub a : Held v i (s .a) (r .a)
-  pub b : Held v i (s .b) (r .b)
-  pub next : Held v i (s .next) (r .next)
+  pub a : SortHolds v i (s .a) (r .a)
+  pub b : SortHolds v i (s .b) (r .b)
+  pub next : SortHolds v i (s .next) (r .next)
 
 -- What record i says is about earlier terms and roles below the count.
 abbrev pub WellFounded : List ℕ → ℕ → Construct → Type 0
 WellFounded v i c = RoleBelow (roleCount v) c × Over (Operand v i) c
 
-pub record Accepted (v : List ℕ) : Type 0 where
+pub record AcceptedFacts (v : List ℕ) : Type 0 where
   pub sized : Sized v
   pub header : recordAt v 0 .kind ≡ 16
   pub roles : roleCount v ≤ roleLimit
@@ -156,7 +156,7 @@ module _ (v : List ℕ) (i : ℕ) where
             target = statement-kind (recordAt v x .kind) is;
           }
 
-  field-held : (sort : Sort) (x : ℕ) → fieldFits v i sort x ≡ true → Held v i sort x
+  field-held : (sort : Sort) (x : ℕ) → fieldFits v i sort x ≡ true → SortHolds v i sort x
   field-held Spare x e = eqb-true x 0 e
   field-held Term x e = operand x e
   field-held Role x e = ltb-true x (roleCount v) e
@@ -206,8 +206,8 @@ module _ (v : List ℕ) (i : ℕ) where
   unfolding kindOf
   record-unlabelled f q = at (recordAt v i .kind) q (f .a)
     where
-      at : (k : ℕ) → k ≡ 3 → Held v i (sortsOf k .a) (recordAt v i .a) → labelled v i (recordAt v i .a) ≡ false
-      at k e h = subst (λ (k : ℕ). Held v i (sortsOf k .a) (recordAt v i .a)) e h
+      at : (k : ℕ) → k ≡ 3 → SortHolds v i (sortsOf k .a) (recordAt v i .a) → labelled v i (recordAt v i .a) ≡ false
+      at k e h = subst (λ (k : ℕ). SortHolds v i (sortsOf k .a) (recordAt v i .a)) e h
 
   record-linked : linkCheck v i ≡ pass → recordAt v i .kind ≡ 9 → Linked v i (recordAt v i .next)
   unfolding linkCheck
@@ -217,7 +217,7 @@ module _ (v : List ℕ) (i : ℕ) where
       linked (recordAt v i .next) (rw is at fit)
 
 -- The theorem: a vocabulary that passed rows 1 to 8.
-pub well-formed-vocabulary : (v : List ℕ) → IsWellFormed v → Accepted v
+pub well-formed-vocabulary : (v : List ℕ) → IsWellFormed v → AcceptedFacts v
 unfolding recordsCheck
 well-formed-vocabulary v e =
     let records = inTurn (recordCheck v) 1 (count v - 1) in
@@ -225,7 +225,7 @@ well-formed-vocabulary v e =
     let a = then-passed (lengthCheck v) (headerCheck v then records then linksCheck v) tt e in
     let b = then-passed (headerCheck v) (records then linksCheck v) tt (a .1) in
     let c = then-passed records (linksCheck v) tt (b .1) in
-    let l = then-passed (headCheck v) links tt (c .1) in
+    let l = then-passed (firstStatementCheck v) links tt (c .1) in
     let r = recordAt v 0 in
     let fit : headerFits r ≡ true = require-passed (headerFits r) 2 0 (b .0) in
     let after = both-right (eqb (r .kind) 16) (eqb (r .second) 1 && (leb (r .b) roleLimit && eqb (r .next) 0)) fit in
@@ -253,5 +253,5 @@ pub accepted-well-formed : (v : List ℕ) (n : ℕ) → vocabularyCheck v ≡ ac
 unfolding vocabularyCheck
 accepted-well-formed v n e = then-passed (recordsCheck v) (accepted (count v)) n e .0
 
-pub accepted-vocabulary : (v : List ℕ) (n : ℕ) → vocabularyCheck v ≡ accepted n → Accepted v
+pub accepted-vocabulary : (v : List ℕ) (n : ℕ) → vocabularyCheck v ≡ accepted n → AcceptedFacts v
 accepted-vocabulary v n e = well-formed-vocabulary v (accepted-well-formed v n e)

@@ -12,10 +12,10 @@ use lib.Dec.{eqb}
 use borrow.Author.Tests.{eq-eqb}
 use Rattle.records.specs.Format.{recordAt, count, firstStatement}
 use Rattle.records.specs.Chain.{nextStatement, follow, chainFrom, chain, chained}
-use Rattle.records.proofs.Theorems.Accepted.{Accepted, IsStatement, Later}
+use Rattle.records.proofs.Theorems.Accepted.{AcceptedFacts, IsStatement, Later}
 use Rattle.records.proofs.Theorems.Following.{Rising, follow-step, follow-ends, follow-rises, follow-target}
 
-module _ (v : List ℕ) (good : Accepted v) where
+module _ (v : List ℕ) (good : AcceptedFacts v) where
   pub chain-step : (i x : ℕ) → Later v i x → chainFrom v x ≡ x ∷ chainFrom v (recordAt v x .next)
   chain-step i x s = follow-step (nextStatement v) (IsStatement v) (count v) (good .rises) i x s
 

@@ -20,7 +20,7 @@ use Rattle.records.specs.Format.{recordSize, recordAt, count, roleCount}
 use Rattle.records.specs.Kinds.{Construct, none, inclusion, constructOf, areAtoms, areRestrictions, areStatements, Class}
 use Rattle.records.specs.Kinds.{Kind, noKind, kindOf, kinds, isAtom, isRestriction, isStatement}
 use Rattle.records.specs.declared.fields.Record.{Record}
-use Rattle.records.proofs.Theorems.Accepted.{Sized, Accepted, WellFounded, Operand, Over, over-map, partsOf}
+use Rattle.records.proofs.Theorems.Accepted.{Sized, AcceptedFacts, WellFounded, Operand, Over, over-map, partsOf}
 use Rattle.records.proofs.Theorems.Accepted.{fields-well-founded}
 use Rattle.records.proofs.Laws.Ranges.{tested, kind-tested, same-true}
 use Rattle.records.proofs.Laws.Lists.{all-default}
@@ -45,7 +45,7 @@ says-past k h r =
 abbrev pub Earlier : ℕ → Construct → Type 0
 Earlier i c = Over (λ j. j < i) c
 
-module _ (v : List ℕ) (good : Accepted v) where
+module _ (v : List ℕ) (good : AcceptedFacts v) where
   pub construct-well-founded : (i : ℕ) → 0 < i → i < count v → WellFounded v i (constructOf (recordAt v i))
   construct-well-founded i l h = fields-well-founded v i (recordAt v i) (recordAt v i .kind) (good .fields i l h)
 

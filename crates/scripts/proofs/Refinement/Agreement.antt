@@ -9,7 +9,7 @@ use native.Mathlib.Omega.{arith}
 use mathlib.Core.Path.{_≡_}
 use mathlib.Core.Bool.{true, false}
 use mathlib.Core.List.{List, [], _∷_}
-use Rattle.records.proofs.Theorems.Accepted.{Accepted}
+use Rattle.records.proofs.Theorems.Accepted.{AcceptedFacts}
 use Rattle.records.proofs.Laws.Lists.{All}
 use Rattle.columns.specs.Literals.{constant}
 use Rattle.scripts.specs.Steps.{Step, start, extension, reduction}
@@ -22,7 +22,7 @@ use Rattle.scripts.proofs.Refinement.Literals.{opposed-complementary}
 use Rattle.scripts.proofs.Laws.Correspondence.{Alike, Corresponds, chain-same}
 use Rattle.scripts.proofs.Refinement.Columns.{Denotes, about-constant, query-means, used-denotes}
 
-module _ (v s : List ℕ) (good : Accepted v) (f : KeepsForm v s) where
+module _ (v s : List ℕ) (good : AcceptedFacts v) (f : KeepsForm v s) where
   numbers-alike : Alike (numbered v s) (writtenOut v (queryOf s)) (termAt s) (Denotes s)
   numbers-alike =
       record {
@@ -46,7 +46,7 @@ module _ (v s : List ℕ) (good : Accepted v) (f : KeepsForm v s) where
     chain-corresponds is (a .1),
   )
 
-pub numbers-agree : (v s : List ℕ) → Accepted v → KeepsForm v s
+pub numbers-agree : (v s : List ℕ) → AcceptedFacts v → KeepsForm v s
     → chainCheck (numbered v s) (recordStep s) (chain s) ≡ chainCheck (writtenOut v (queryOf s)) (stepAt s) (chain s)
 numbers-agree v s good f =
     chain-same (numbered v s) (writtenOut v (queryOf s)) (termAt s) (Denotes s) (numbers-alike v s good f) (recordStep s)

@@ -10,7 +10,7 @@ use native.Mathlib.Omega.{arith}
 use mathlib.Core.Path.{_≡_, refl, sym, ap, ap₂}
 use mathlib.Core.Bool.{Bool, true, false}
 use mathlib.Core.List.{List, [], _∷_, map}
-use Rattle.records.proofs.Theorems.Accepted.{Accepted}
+use Rattle.records.proofs.Theorems.Accepted.{AcceptedFacts}
 use Rattle.records.proofs.Laws.Lists.{All}
 use Rattle.columns.specs.Literals.{SkolemTerm, constant, apply, Literal, concept, role, substitute}
 use Rattle.columns.specs.Columns.{Argument, x, y, fx, a, Column, columnsAt, columnAt, arguments, instanceAt}
@@ -66,7 +66,7 @@ module _ (s : List ℕ) (σ : Argument → ℕ) (τ : Argument → SkolemTerm) (
   column-means [] h = tt
   column-means (l ∷ c) h = (literal-means l (h .0), column-means c (h .1))
 
-module _ (v s : List ℕ) (good : Accepted v) (f : KeepsForm v s) where
+module _ (v s : List ℕ) (good : AcceptedFacts v) (f : KeepsForm v s) where
   pub query-means : (n cx cy cf : ℕ) (tx ty : SkolemTerm)
       → Pairs (Denotes s) (packedAt cx cy cf (columnAt v (queryOf s) 0 n)) (instanceAt 0 tx ty (columnAt v (queryOf s) 0 n))
   unfolding columnsAt

@@ -13,7 +13,7 @@ use lib.ListN.{length}
 use lib.Dec.{ltb, eqb}
 use borrow.Author.Tests.{ltb-true, eqb-true}
 use Rattle.records.proofs.Laws.Tests.{both-left, both-right}
-use Rattle.records.proofs.Theorems.Accepted.{Accepted, accepted-vocabulary}
+use Rattle.records.proofs.Theorems.Accepted.{AcceptedFacts, accepted-vocabulary}
 use Rattle.columns.specs.Literals.{SkolemTerm, apply}
 use Rattle.columns.specs.Columns.{columnAt, takesY}
 use Rattle.scripts.specs.Steps.{Extension, extension}
@@ -41,7 +41,7 @@ pub record Coded (s : List ℕ) (c : ℕ) (t : SkolemTerm) : Type 0 where
   pub code : Code s c
   pub stands : codeTerm s c ≡ t
 
-module _ (v s : List ℕ) (good : Accepted v) (f : KeepsForm v s) where
+module _ (v s : List ℕ) (good : AcceptedFacts v) (f : KeepsForm v s) where
   pub extends : (i : ℕ) (e : Extension ℕ) → i ≤ entries s → stepFits v s i (extension e) ≡ true → Extends v s e
   extends i e h fits =
       let c = columnAt v (queryOf s) (e .owner) (e .column) in

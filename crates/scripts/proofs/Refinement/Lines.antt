@@ -1,11 +1,11 @@
 -- What a script record says, by its kind, as the tests of the code tell it.
---   words-zero                                  the sum of words that are all zero
---   kind-past, by-kind                          a kind past the table; what holds of each kind of it, and of none
---   unused-none                                 a kind that is not in the table has no words
---   line-named, function-line, function-other   which records are the constant; the rule for function terms
---   step-start, step-extension, step-other      the rule for steps
---   repeat-same                                 a key made of kind, function and inner term
---   link-made, link-none                        row 19 at a step, and at another record
+--   words-zero                                     the sum of words that are all zero
+--   kind-past, by-kind                             a kind past the table; what holds of each kind of it, and of none
+--   unused-none                                    a kind that is not in the table has no words
+--   line-constant, function-line, function-other   which records are the constant; the rule for function terms
+--   step-start, step-extension, step-other         the rule for steps
+--   repeat-same                                    a key made of kind, function and inner term
+--   link-made, link-none                           row 19 at a step, and at another record
 -- Assumes nothing.
 use Prim.Native.Nat.{ℕ, _+_, _*_, _%_, _^_, _≤_, _<_}
 use native.Mathlib.Omega.{arith}
@@ -21,7 +21,7 @@ use Rattle.records.proofs.Laws.Ranges.{Run, between}
 use Rattle.scripts.specs.Steps.{extension}
 use Rattle.scripts.specs.Format.{extensionOf, entryAt, applied, step, Kind, noKind, kinds, kindOf, lineOf, isStep}
 use Rattle.records.specs.Finite.{allZero}
-use Rattle.scripts.specs.Form.{isNamed, functionFits, lineFits, linkFits, linkCheck}
+use Rattle.scripts.specs.Form.{isConstant, functionFits, lineFits, linkFits, linkCheck}
 use Rattle.scripts.specs.declared.entry.Entry.{Entry}
 
 -- a sum of two numbers that is zero
@@ -69,10 +69,10 @@ module _ (e : Entry) where
   unfolding allZero
   unused-past k h = rw (kind-past k h)
 
-  pub line-named : isNamed (lineOf e) ≡ eqb (e .w0) 1
+  pub line-constant : isConstant (lineOf e) ≡ eqb (e .w0) 1
   unfolding kindOf
-  line-named =
-      by-kind (λ k x. isNamed (x .says e) ≡ eqb k 1) (refl, (refl, (refl, (refl, (refl, (refl, tt))))))
+  line-constant =
+      by-kind (λ k x. isConstant (x .says e) ≡ eqb k 1) (refl, (refl, (refl, (refl, (refl, (refl, tt))))))
       (λ k h. sym (ne-eqb k 1 (λ z. absurd (omega arith)))) (e .w0)
 
 module _ (v s : List ℕ) (i : ℕ) (e : Entry) where

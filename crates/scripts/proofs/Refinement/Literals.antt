@@ -21,7 +21,7 @@ use borrow.Author.Tests.{eq-eqb, ne-eqb}
 use Rattle.records.specs.Format.{recordAt, count, roleCount}
 use Rattle.records.specs.Kinds.{Construct, none, top, bottom, name, negation, conjunction, disjunction, existential, universal}
 use Rattle.records.specs.Kinds.{inclusion, constructOf}
-use Rattle.records.proofs.Theorems.Accepted.{Accepted}
+use Rattle.records.proofs.Theorems.Accepted.{AcceptedFacts}
 use Rattle.records.proofs.Laws.Lists.{All}
 use Rattle.records.proofs.Theorems.Constructs.{Earlier, construct-earlier, RoleBelow, construct-role}
 use Rattle.records.specs.Finite.{digit}
@@ -136,7 +136,7 @@ role-same r t u q w z h k l m = at (ℕ-discrete r q) (ℕ-discrete t w) (ℕ-di
 other-body : (i t r u w : ℕ) → conceptBody i t ≡ roleBody r u w → ⊥
 other-body i t r u w e = omega arith
 
-module _ (v s : List ℕ) (good : Accepted v) (f : KeepsForm v s) where
+module _ (v s : List ℕ) (good : AcceptedFacts v) (f : KeepsForm v s) where
   bodies-same : (l m : Literal ℕ) → ValidLiteral s l → ValidLiteral s m
       → (not (Bool·beq (sign l) (sign m)) && eqb (body l) (body m))
       ≡ complementary (substitute (codeTerm s) l) (substitute (codeTerm s) m)
@@ -202,7 +202,7 @@ small-at (c ∷ cs) h (suc n) = small-at cs (h .1) n
 pub zero-code : (s : List ℕ) → Code s 0
 zero-code s = (omega arith, inl refl)
 
-module _ (v s : List ℕ) (good : Accepted v) (f : KeepsForm v s) where
+module _ (v s : List ℕ) (good : AcceptedFacts v) (f : KeepsForm v s) where
   columns-small : (owner : ℕ) → AllSmall (columnsAt v (queryOf s) owner)
   unfolding columnsAt
   columns-small zero =

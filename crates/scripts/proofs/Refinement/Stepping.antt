@@ -26,7 +26,7 @@ use Rattle.scripts.specs.Steps.{Extension, start, extension, reduction}
 use Rattle.scripts.specs.Format.{entryAt, extensionOf, kindOf, isStep, stepOf, recordStep}
 use Rattle.scripts.specs.Calculus.{frameLimit}
 use Rattle.records.specs.Finite.{isNil}
-use Rattle.scripts.specs.Run.{isStart, Frames, extendBy, goal, leaves, stepCheck, stepped}
+use Rattle.scripts.specs.Run.{isStart, Frames, extendBy, goal, remainderIn, stepCheck, stepped}
 use Rattle.scripts.specs.Code.Codes.{opposed}
 use Rattle.scripts.specs.Code.Machine.{opened, framesFrom}
 use Rattle.scripts.specs.Code.Numbered.{noNumber, numbered}
@@ -139,7 +139,7 @@ module _ (v s : List ℕ) (i : ℕ) (frames : Frames ℕ) where
   start-rows h = rw h
 
   pub extension-after : (e : Extension ℕ) → recordStep s i ≡ extension e
-      → extendBy (leaves (numbered v s) e) frames ≡ stepped (numbered v s) frames (recordStep s i)
+      → extendBy (remainderIn (numbered v s) e) frames ≡ stepped (numbered v s) frames (recordStep s i)
   unfolding stepped
   extension-after e h = rw h
 

@@ -28,15 +28,15 @@ use Rattle.records.specs.Format.{recordAt, count, wordAt}
 use Rattle.records.specs.Kinds as vocabulary
 use Rattle.records.proofs.Laws.Tests.{clash, both-left, both-right, same-truth}
 use Rattle.records.proofs.Laws.Search.{any-at}
-use Rattle.records.proofs.Theorems.Accepted.{Accepted}
+use Rattle.records.proofs.Theorems.Accepted.{AcceptedFacts}
 use Rattle.records.proofs.Laws.InOrder.{in-order}
 use Rattle.columns.specs.Literals.{SkolemTerm, constant, apply, sameTerm}
 use Rattle.columns.specs.Code.Packed.{termLimit}
 use Rattle.columns.proofs.Theorems.Literals.{sameTerm-true, sameTerm-refl}
-use Rattle.scripts.specs.Format.{entrySize, entryAt, entries, Line, blank, named, applied, step, Kind, kindOf, lineAt}
+use Rattle.scripts.specs.Format.{entrySize, entryAt, entries, Line, blank, theConstant, applied, step, Kind, kindOf, lineAt}
 use Rattle.scripts.specs.Format.{isTerm, termOf, termAt}
 use Rattle.records.specs.Finite.{allZero}
-use Rattle.scripts.specs.Form.{unusedFits, earlierTerm, isFunction, repeats, repeated, isNamed, functionFits, termFits}
+use Rattle.scripts.specs.Form.{unusedFits, earlierTerm, isFunction, repeats, repeated, isConstant, functionFits, termFits}
 use Rattle.scripts.specs.Code.Codes.{functionLimit, codeOf, codeAt, codeTerm}
 use Rattle.scripts.proofs.Refinement.Lines.{kind-past}
 use Rattle.scripts.proofs.Theorems.Form.{KeepsForm}
@@ -80,13 +80,13 @@ code-zero s = refl
 -- the inner term of what record i says comes before it
 abbrev Inner : ℕ → Line → Type 0
 Inner i blank = Unit {0}
-Inner i named = Unit {0}
+Inner i theConstant = Unit {0}
 Inner i (applied f t) = t < i
 Inner i (step t) = Unit {0}
 
 inner-local : (i : ℕ) (l : Line) → Inner i l → (f g : ℕ → SkolemTerm) → ((j : ℕ) → j < i → f j ≡ g j) → termOf l f ≡ termOf l g
 inner-local i blank h f g e = refl
-inner-local i named h f g e = refl
+inner-local i theConstant h f g e = refl
 inner-local i (applied k t) h f g e = ap (apply k) (e t h)
 inner-local i (step t) h f g e = refl
 
@@ -109,7 +109,7 @@ same-true false e = e
 
 module _ (s : List ℕ) (n : ℕ) where
   -- what a term record says
-  line-first : entryAt s n .w0 ≡ 1 → lineAt s n ≡ named
+  line-first : entryAt s n .w0 ≡ 1 → lineAt s n ≡ theConstant
   unfolding kindOf
   line-first e = ap (λ (k : ℕ). kindOf k .says (entryAt s n)) e
 
@@ -128,7 +128,7 @@ module _ (s : List ℕ) (n : ℕ) where
         eqb-true (r .w2) 0 (both-left (eqb (r .w2) 0) after rest),
       )
 
-module _ (v s : List ℕ) (good : Accepted v) (f : KeepsForm v s) where
+module _ (v s : List ℕ) (good : AcceptedFacts v) (f : KeepsForm v s) where
   header-line : lineAt s 0 ≡ blank
   header-line = ap (λ (k : Kind). k .says (entryAt s 0)) (kind-past (entryAt s 0 .w0) (omega (arith, f .header)))
 
@@ -138,7 +138,7 @@ module _ (v s : List ℕ) (good : Accepted v) (f : KeepsForm v s) where
 
   fits-inner : (i : ℕ) (l : Line) → functionFits v s i l ≡ true → Inner i l
   fits-inner i blank e = tt
-  fits-inner i named e = tt
+  fits-inner i theConstant e = tt
   fits-inner i (applied k t) e =
       let rest = both-right (isFunction v k) (earlierTerm s i t && not (repeated s i k t)) e in
       let earlier = both-left (earlierTerm s i t) (not (repeated s i k t)) rest in
@@ -155,7 +155,7 @@ module _ (v s : List ℕ) (good : Accepted v) (f : KeepsForm v s) where
       at : Dec (suc i < entries s) → Inner (suc i) (lineAt s (suc i))
       at (yes h) =
           let fit = f .terms (suc i) (omega arith) h in
-          fits-inner (suc i) l (both-right (Bool·beq (isNamed l) (eqb (suc i) 1)) (functionFits v s (suc i) l) fit)
+          fits-inner (suc i) l (both-right (Bool·beq (isConstant l) (eqb (suc i) 1)) (functionFits v s (suc i) l) fit)
       at (no n) = subst (Inner (suc i)) (sym (past-line (suc i) (omega arith))) tt
 
   pub term-eq : (i : ℕ) → termAt s i ≡ termOf (lineAt s i) (termAt s)

@@ -29,9 +29,9 @@ use Rattle.records.proofs.Laws.Lists.{All, all-occurring}
 use Rattle.types.specs.Comparison.{termCheck}
 use Rattle.columns.specs.Columns.{columnAt, takesY}
 use Rattle.scripts.specs.Steps.{Step, start, extension, reduction, stepBy}
-use Rattle.scripts.specs.Format.{entrySize, entryLimit, entryAt, entries, queryOf, firstStep, Line, blank, named, applied}
+use Rattle.scripts.specs.Format.{entrySize, entryLimit, entryAt, entries, queryOf, firstStep, Line, blank, theConstant, applied}
 use Rattle.scripts.specs.Format.{step, lineOf, lineAt, isStep, stepOf, recordStep, nextStep, chainFrom, chain, termAt}
-use Rattle.scripts.specs.Form.{lengthFits, lengthCheck, headerFits, headerCheck, queryCheck, kindFits, unusedFits}
+use Rattle.scripts.specs.Form.{lengthFits, lengthCheck, headerFits, headerCheck, queryTermsCheck, kindFits, unusedFits}
 use Rattle.scripts.specs.Form.{termFits, stepFits, lineFits, xFits, yFits, rowsCheck, entryCheck, entriesCheck, linkFits}
 use Rattle.scripts.specs.Form.{nextFits, linkCheck, linksCheck, formCheck}
 use Rattle.records.specs.Finite.{allZero}
@@ -152,7 +152,7 @@ next-onward s i e h =
 pub keeps-form : (v s : List ℕ) → formCheck v s ≡ pass → KeepsForm v s
 unfolding formCheck
 keeps-form v s e =
-    let query = queryCheck v (queryOf s) in
+    let query = queryTermsCheck v (queryOf s) in
     let entered = inTurn (entryCheck v s) 1 (entries s - 1) in
     let linked = inTurn (linkCheck s) 1 (entries s - 1) in
     let a = then-passed (lengthCheck s) (headerCheck s then query then entriesCheck v s then linksCheck s) tt e in
@@ -193,7 +193,7 @@ module _ (v s : List ℕ) where
   -- what a record says that is no step counts as start 0
   pub line-step : (i : ℕ) (l : Line) → lineFits v s i l ≡ true → stepFits v s i (stepOf l) ≡ true
   line-step i blank e = refl
-  line-step i named e = refl
+  line-step i theConstant e = refl
   line-step i (applied f t) e = refl
   line-step i (step t) e = e
 

@@ -18,7 +18,7 @@ use mathlib.Core.List.{List, [], _∷_, map}
 use lib.ListN.{length, getD, length-map, List·getD-eq-default}
 use borrow.Author.Tests.{not-false}
 use Rattle.records.proofs.Laws.Tests.{clash, both-left, both-right, both-true, unless-false}
-use Rattle.records.proofs.Theorems.Accepted.{Accepted}
+use Rattle.records.proofs.Theorems.Accepted.{AcceptedFacts}
 use Rattle.records.proofs.Laws.Lists.{All, all-entry}
 use Rattle.types.specs.Meaning.{Interpretation, belongs, AlwaysWithin}
 use Rattle.columns.specs.Literals.{SkolemTerm, constant, Literal, concept, role, complement, substitute, noLiteral}
@@ -96,7 +96,7 @@ module _ (I : Interpretation) (v : List ℕ) (k : Choice I) where
     derivation-sound (extended {l} {c} e h p above d) f =
         true-cons l c (extended-true l e h p (λ g. derivation-sound above (g, f))) (derivation-sound d f)
 
-pub derives-sound : (v : List ℕ) → Accepted v → (q : Query) (list : List (Step SkolemTerm)) → Derives v q list
+pub derives-sound : (v : List ℕ) → AcceptedFacts v → (q : Query) (list : List (Step SkolemTerm)) → Derives v q list
     → AlwaysWithin v (q .a) (q .b)
 unfolding columnsAt
 derives-sound v good q list derives I model d at first = unless-false (belongs I v (q .b) d) (λ second.

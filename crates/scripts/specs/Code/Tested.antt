@@ -11,7 +11,7 @@ use Rattle.columns.specs.Code.Packed.{literals}
 use Rattle.scripts.specs.Steps.{Extension}
 use Rattle.scripts.specs.Format.{entryAt, nextStep, recordStep, chainFrom, chain}
 use Rattle.scripts.specs.Calculus.{frameLimit}
-use Rattle.scripts.specs.Run.{Frames, extendBy, meets, leaves, stepCheck, stepped, run, chainCheck}
+use Rattle.scripts.specs.Run.{Frames, extendBy, connectedIn, remainderIn, stepCheck, stepped, run, chainCheck}
 use Rattle.records.specs.Finite.{isNil}
 use Rattle.scripts.specs.Code.Codes.{opposed}
 use Rattle.scripts.specs.Code.Machine.{framesFrom}
@@ -21,8 +21,8 @@ use Rattle.scripts.specs.declared.run.Tested.{Tested}
 -- Rows 21 and 23 at an extension, where the goal and the number of frames are given.
 abbrev pub extensionCheck : List ℕ → List ℕ → ℕ → ℕ → ℕ → Extension ℕ → Check
 extensionCheck v s i goal depth e =
-    require (opposed (meets (numbered v s) e) goal) 21 i
-    then require (isNil (leaves (numbered v s) e) || ltb depth frameLimit) 23 i
+    require (opposed (connectedIn (numbered v s) e) goal) 21 i
+    then require (isNil (remainderIn (numbered v s) e) || ltb depth frameLimit) 23 i
 
 -- Row 22, where the goal is given.
 abbrev pub reducesTo : Frames ℕ → ℕ → ℕ → Bool
@@ -32,7 +32,7 @@ reducesTo frames f goal =
 -- An extension was tested: its answer; where it passed, the column's other literals, for which there is room.
 pub record ExtensionTested (v s : List ℕ) (i goal depth : ℕ) (e : Extension ℕ) (t : Tested) : Type 0 where
   pub rows : checked (t .answer) ≡ extensionCheck v s i goal depth e
-  pub remainder : checked (t .answer) ≡ pass → literals (t .remainder) ≡ leaves (numbered v s) e
+  pub remainder : checked (t .answer) ≡ pass → literals (t .remainder) ≡ remainderIn (numbered v s) e
   pub room : checked (t .answer) ≡ pass → 0 < t .remainder .first → depth < frameLimit
 
 -- The step of record i was tested: its answer; where it passed, the literals that extend the frames, none for a reduction.

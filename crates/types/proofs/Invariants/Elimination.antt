@@ -37,15 +37,15 @@ list-enumerates S types left t l h ends =
     at u m (yes k) = l .finds u k m
     at u m (no k) = let none = ends u (omega arith) in absurd (clash (cc))
 
-pub enumerates-less : (live : List ℕ) (left : ℕ) (S R : List Bool) → Within R S → Enumerates live left S → Enumerates live left R
-enumerates-less live left S R less c =
+pub enumerates-less : (candidates : List ℕ) (left : ℕ) (S R : List Bool) → Within R S → Enumerates candidates left S → Enumerates candidates left R
+enumerates-less candidates left S R less c =
     record { few = c .few; inside = c .inside; finds = λ t h. c .finds t (less t h) }
 
-module _ (filling live : List ℕ) (S : List Bool) (room words : ℕ) where
+module _ (filling candidates : List ℕ) (S : List Bool) (room words : ℕ) where
   -- A table of the words of the fillers at the first j listed types.
   pub record Entered (joins : List ℕ) (j : ℕ) : Type 0 where
     pub size : length joins ≡ room
-    pub entered : Enters filling live S j words joins
+    pub entered : Enters filling candidates S j words joins
 
   module _ (joins : List ℕ) where
     pub enter-start : length joins ≡ room → ((x : ℕ) → x < words → getD joins x 0 ≡ 0) → Entered joins 0
@@ -55,26 +55,26 @@ module _ (filling live : List ℕ) (S : List Bool) (room words : ℕ) where
     module _ (j : ℕ) (l : Entered joins j) where
       -- Whether the listed type is a member whose word is x.
       abbrev hasWord : ℕ → ℕ → Bool
-      hasWord x i = has S (getD live i 0) && eqb (getD filling (getD live i 0) 0) x
+      hasWord x i = has S (getD candidates i 0) && eqb (getD filling (getD candidates i 0) 0) x
 
-      pub enter-more : has S (getD live j 0) ≡ true → getD filling (getD live j 0) 0 < room
-          → Entered (set joins (getD filling (getD live j 0) 0) (getD filling (getD live j 0) 0)) (j + 1)
+      pub enter-more : has S (getD candidates j 0) ≡ true → getD filling (getD candidates j 0) 0 < room
+          → Entered (set joins (getD filling (getD candidates j 0) 0) (getD filling (getD candidates j 0) 0)) (j + 1)
       enter-more m h =
           record { size = length-set joins o o ∙ l .size; entered = λ x k. at x k (ℕ-discrete x o) }
         where
           o : ℕ
-          o = getD filling (getD live j 0) 0
+          o = getD filling (getD candidates j 0) 0
 
           at : (x : ℕ) → x < words → Dec (x ≡ o) → getD (set joins o o) x 0 ≡ cond (anyBelow (hasWord x) (j + 1)) x 0
           at x k (yes q) =
               rw q (getD-set-same joins o o 0 (omega (arith, l .size))
               ∙ ap (λ (b : Bool). cond b o 0) (any-hit (hasWord o) j (both-true _ _ m (eq-eqb o o refl))))
           at x k (no q) =
-              let missed : hasWord x j ≡ false = rw (ne-eqb o x (λ e. q (sym e))) (and-false (has S (getD live j 0))) in
+              let missed : hasWord x j ≡ false = rw (ne-eqb o x (λ e. q (sym e))) (and-false (has S (getD candidates j 0))) in
               getD-set-other joins o x o 0 q ∙ l .entered x k
               ∙ ap (λ (b : Bool). cond b x 0) (any-miss (hasWord x) j _ refl missed)
 
-      pub enter-same : has S (getD live j 0) ≡ false → Entered joins (j + 1)
+      pub enter-same : has S (getD candidates j 0) ≡ false → Entered joins (j + 1)
       enter-same m =
           record {
             size = l .size;
@@ -133,9 +133,9 @@ module _ (f g : ℕ → Bool) (S R : List Bool) (a : Bool) (w : Keeps f S R a) w
           both-true (f t) (g t) first (z .same r t (w .kept t ∙ both-true (has S t) (f t) m first))
 
 -- The listed types tested so far were removed where they failed.
-module _ (met : ℕ → Bool) (live : List ℕ) (S : List Bool) where
+module _ (met : ℕ → Bool) (candidates : List ℕ) (S : List Bool) where
   abbrev listed : ℕ → ℕ → Bool
-  listed t i = eqb (getD live i 0) t
+  listed t i = eqb (getD candidates i 0) t
 
   abbrev passes : ℕ → ℕ → Bool
   passes j t = not (anyBelow (listed t) j) || met t
@@ -154,7 +154,7 @@ module _ (met : ℕ → Bool) (live : List ℕ) (S : List Bool) where
 
     -- the type listed next; it counts from now on, and the others as before
     abbrev u : ℕ
-    u = getD live j 0
+    u = getD candidates j 0
 
     counts : (t : ℕ) → u ≡ t → passes (j + 1) t ≡ met t
     counts t e = ap (λ (b : Bool). not b || met t) (sym (any-hit (listed t) j (eq-eqb u t e)))
@@ -191,8 +191,8 @@ module _ (met : ℕ → Bool) (live : List ℕ) (S : List Bool) where
             (λ q. rw q (or-true (not (anyBelow (listed t) j)))) ∙ sym (counts t e)
         at t m (no d) = other t d
 
-    pub remove-end : (left : ℕ) → Enumerates live left S → left ≤ j → Keeps met S R removed
+    pub remove-end : (left : ℕ) → Enumerates candidates left S → left ≤ j → Keeps met S R removed
     remove-end left c e =
         keeps-cong (passes j) met S R removed w
         (λ t m. let f = c .finds t m in ap (λ (b : Bool). not b || met t)
-        (any-intro (listed t) j (f .0) (omega (arith, f .1)) (eq-eqb (getD live (f .0) 0) t (f .2))))
+        (any-intro (listed t) j (f .0) (omega (arith, f .1)) (eq-eqb (getD candidates (f .0) 0) t (f .2))))

@@ -24,7 +24,7 @@ use Rattle.records.specs.Format.{roleCount, count}
 use Rattle.records.specs.Finite.{anyBelow, allBelow, has, number}
 use Rattle.records.proofs.Laws.Tests.{clash, both-left, both-right, same-truth, both-true, unless-false}
 use Rattle.records.proofs.Laws.Search.{any-at, any-intro, any-elim, any-cong}
-use Rattle.records.proofs.Theorems.Accepted.{Accepted, accepted-vocabulary}
+use Rattle.records.proofs.Theorems.Accepted.{AcceptedFacts, accepted-vocabulary}
 use Rattle.types.specs.Types.{types, served}
 use Rattle.types.specs.Survivors.{satisfies, round, removes, stage, rounds, survivors}
 use Rattle.types.specs.Comparison.{atomLimit, typeLimit}
@@ -120,9 +120,9 @@ module _ (v : List ℕ) where
           round-at S t h ∙ stays (has S t) (served v S t) (any-at (λ t. has S t && not (served v S t)) (types v) e t h)
       at (no h) = round-ends S t (omega arith) ∙ sym (ends t (omega arith))
 
-module _ {v : List ℕ} {bits : ℕ} {masks held live : List ℕ} {left : ℕ} {alive : List Bool}
-    (s : Eliminating v bits masks held live left alive) where
-  pub good : Accepted v
+module _ {v : List ℕ} {bits : ℕ} {masks held candidates : List ℕ} {left : ℕ} {alive : List Bool}
+    (s : Eliminating v bits masks held candidates left alive) where
+  pub good : AcceptedFacts v
   good = accepted-vocabulary v (count v) (s .accepts)
 
   pub bits-few : bits ≤ atomLimit
@@ -183,7 +183,7 @@ module _ {v : List ℕ} {bits : ℕ} {masks held live : List ℕ} {left : ℕ} {
           unless-false removed (λ r. let k = w .same r (f .0) m in clash (cc))
 
   pub eliminating-on : (R : List Bool) (removed : Bool) → AfterRound v alive R removed
-      → Eliminating v bits masks held live left R
+      → Eliminating v bits masks held candidates left R
   eliminating-on R removed a =
       record {
         accepts = s .accepts;
@@ -191,7 +191,7 @@ module _ {v : List ℕ} {bits : ℕ} {masks held live : List ℕ} {left : ℕ} {
         wide = s .wide;
         masked = s .masked;
         held-words = s .held-words;
-        listed = enumerates-less live left alive R within (s .listed);
+        listed = enumerates-less candidates left alive R within (s .listed);
         ends = λ t h. a .leaves t ∙ round-ends v alive t h;
         size = a .size ∙ s .size;
       }
@@ -206,12 +206,12 @@ module _ {v : List ℕ} {bits : ℕ} {masks held live : List ℕ} {left : ℕ} {
     fillerWord-in t m = rw (o t (member-below t m)) (word-in (fillerWord v t) (fillerWord-small v t))
 
     -- the words entered are those of the set
-    present-listed : (first : List ℕ) (words : ℕ) → Enters filling live alive left words first → (x : ℕ) → x < words
+    present-listed : (first : List ℕ) (words : ℕ) → Enters filling candidates alive left words first → (x : ℕ) → x < words
         → getD first x 0 ≡ presentWord v alive x
     present-listed first words enters x h = enters x h ∙ ap (λ (b : Bool). cond b x 0) (same-truth _ _ onward back)
       where
         listed : ℕ → Bool
-        listed i = has alive (getD live i 0) && eqb (getD filling (getD live i 0) 0) x
+        listed i = has alive (getD candidates i 0) && eqb (getD filling (getD candidates i 0) 0) x
 
         all : ℕ → Bool
         all t = has alive t && eqb (fillerWord v t) x
@@ -222,7 +222,7 @@ module _ {v : List ℕ} {bits : ℕ} {masks held live : List ℕ} {left : ℕ} {
         onward : anyBelow listed left ≡ true → anyBelow all (types v) ≡ true
         onward e =
             let f = any-elim listed left e in
-            let t = getD live (f .0) 0 in
+            let t = getD candidates (f .0) 0 in
             let k = member-below t (both-left (has alive t) (eqb (getD filling t 0) x) (f .2)) in
             any-intro all (types v) t k (sym (has-word t k) ∙ f .2)
 
@@ -233,7 +233,7 @@ module _ {v : List ℕ} {bits : ℕ} {masks held live : List ℕ} {left : ℕ} {
             any-intro listed left (g .0) (g .1)
             (subst (λ (t : ℕ). (has alive t && eqb (getD filling t 0) x) ≡ true) (sym (g .2)) (has-word (f .0) (f .1) ∙ f .2))
 
-    pub joins-done : (words : ℕ) (first last : List ℕ) → words ≡ 2 ^ bits → Enters filling live alive left words first
+    pub joins-done : (words : ℕ) (first last : List ℕ) → words ≡ 2 ^ bits → Enters filling candidates alive left words first
         → ZetaTo bits (2 ^ bits) first last → Joins v alive last
     joins-done words first last e enters zeta-step x h =
         let k : x < 2 ^ bits = omega (arith, ap (λ (n : ℕ). 2 ^ n) (s .wide)) in

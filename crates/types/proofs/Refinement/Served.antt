@@ -14,7 +14,7 @@ use borrow.Author.Tests.{eqb-true, eq-eqb, not-false}
 use Rattle.records.specs.Format.{recordAt, count, roleCount}
 use Rattle.records.proofs.Laws.Tests.{both-left, both-right, same-truth, implies-true, implies-rest}
 use Rattle.records.proofs.Laws.Search.{any-intro, any-elim, any-cong}
-use Rattle.records.proofs.Theorems.Accepted.{Accepted}
+use Rattle.records.proofs.Theorems.Accepted.{AcceptedFacts}
 use Rattle.records.specs.Finite.{allBelow, has, bit}
 use Rattle.types.specs.Meaning.{Restriction, some, all, plain, restrictionAt}
 use Rattle.types.specs.Types.{types, truth, allowed, witnessed, met, served}
@@ -134,7 +134,7 @@ module _ (v : List ℕ) where
       (λ w. filler-witness S t m h (joins-elim v S x m
       (only (bit (joins v S x) m) (bit (otherRoleWord v (role m)) m) (bit (restrictionWord v t) m) bits own w)))
 
-  pub roles-served : Accepted v → (S : List Bool) (t : ℕ) → ((r : ℕ) → r < roleCount v → roleServed v S t r ≡ true)
+  pub roles-served : AcceptedFacts v → (S : List Bool) (t : ℕ) → ((r : ℕ) → r < roleCount v → roleServed v S t r ≡ true)
       → served v S t ≡ true
   unfolding served
   roles-served good S t each =
@@ -143,7 +143,7 @@ module _ (v : List ℕ) where
       restriction-met S t m h (each (role m) (role-below v good (restriction v m) (z .before) (z .restricts))))
 
   -- The theorem.
-  pub served-by-words : Accepted v → (S : List Bool) (t : ℕ) → served v S t ≡ allBelow (roleServed v S t) (roleCount v)
+  pub served-by-words : AcceptedFacts v → (S : List Bool) (t : ℕ) → served v S t ≡ allBelow (roleServed v S t) (roleCount v)
   served-by-words good S t =
       same-truth (served v S t) (allBelow (roleServed v S t) (roleCount v))
       (λ e. all-intro (roleServed v S t) (roleCount v) (λ r l. served-role S t r e))

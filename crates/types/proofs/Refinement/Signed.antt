@@ -18,7 +18,7 @@ use Rattle.records.specs.Format.{recordAt, count, roleCount}
 use Rattle.records.specs.Kinds.{Construct, none, top, bottom, name, negation, conjunction, disjunction, existential, universal}
 use Rattle.records.specs.Kinds.{inclusion, constructOf, kindOf, isRestriction}
 use Rattle.records.proofs.Laws.Tests.{clash}
-use Rattle.records.proofs.Theorems.Accepted.{Accepted}
+use Rattle.records.proofs.Theorems.Accepted.{AcceptedFacts}
 use Rattle.records.proofs.Theorems.Constructs.{restricting, construct-restriction, RoleBelow, construct-role}
 use Rattle.records.proofs.Laws.Ranges.{restriction-kind}
 use Rattle.types.specs.Meaning.{some, all, plain, restrictionOf, restrictionAt}
@@ -85,14 +85,14 @@ module _ (v : List ℕ) (i : ℕ) where
       at (inr k) = rw (says-all k, k, Bool·not-not)
 
 -- the header of an accepted vocabulary is no restriction
-header-plain : (v : List ℕ) → Accepted v → restricts v 0 ≡ true → ⊥
+header-plain : (v : List ℕ) → AcceptedFacts v → restricts v 0 ≡ true → ⊥
 unfolding kindOf
 header-plain v good e = at (recordAt v 0 .kind) (good .header) e
   where
     at : (k : ℕ) → k ≡ 16 → isRestriction k ≡ true → ⊥
     at k q h = clash (cc)
 
-pub role-below : (v : List ℕ) → Accepted v → (i : ℕ) → i < count v → restricts v i ≡ true → recordAt v i .a < roleCount v
+pub role-below : (v : List ℕ) → AcceptedFacts v → (i : ℕ) → i < count v → restricts v i ≡ true → recordAt v i .a < roleCount v
 unfolding kindOf
 role-below v good zero l e = absurd (header-plain v good e)
 role-below v good (suc i) l e = at (restriction-kind (recordAt v (suc i) .kind) e)

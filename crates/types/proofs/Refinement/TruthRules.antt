@@ -16,7 +16,7 @@ use Rattle.records.proofs.Laws.Ranges.{between}
 use Rattle.records.proofs.Theorems.Constructs.{Earlier, says-past}
 use Rattle.records.specs.Finite.{bit}
 use Rattle.types.specs.Meaning.{evaluate}
-use Rattle.types.specs.Code.Rules.{Shape, shape, shapes, shapeOf, ruleOf, firstOf, secondOf, select}
+use Rattle.types.specs.Code.Rules.{Shape, shape, shapes, shapeOf, ruleOf, firstOperandOf, secondOperandOf, select}
 
 shape-past : (k : ℕ) → 10 ≤ k → shapeOf k ≡ shape 0 false false
 unfolding shapeOf
@@ -42,32 +42,32 @@ pub rule-high : (k : ℕ) → 10 ≤ k → 0 ≡ ruleOf k
 rule-high k h = sym (ap (λ (s : Shape). s .rule) (shape-past k h))
 
 module _ (x n : ℕ) where
-  pub first-operand : (k : ℕ) → 4 ≤ k → k < 7 → x ≡ firstOf k x n
+  pub first-operand : (k : ℕ) → 4 ≤ k → k < 7 → x ≡ firstOperandOf k x n
   unfolding shapeOf
-  first-operand = between (λ k. x ≡ firstOf k x n) 3 4 (refl, (refl, (refl, tt)))
+  first-operand = between (λ k. x ≡ firstOperandOf k x n) 3 4 (refl, (refl, (refl, tt)))
 
-  pub first-low : (k : ℕ) → k < 4 → n ≡ firstOf k x n
+  pub first-low : (k : ℕ) → k < 4 → n ≡ firstOperandOf k x n
   unfolding shapeOf
-  first-low k h = between (λ k. n ≡ firstOf k x n) 4 0 (refl, (refl, (refl, (refl, tt)))) k (omega arith) h
+  first-low k h = between (λ k. n ≡ firstOperandOf k x n) 4 0 (refl, (refl, (refl, (refl, tt)))) k (omega arith) h
 
-  pub first-above : (k : ℕ) → 7 ≤ k → (k ≡ 9 → ⊥) → n ≡ firstOf k x n
+  pub first-above : (k : ℕ) → 7 ≤ k → (k ≡ 9 → ⊥) → n ≡ firstOperandOf k x n
   unfolding shapeOf
   first-above k l m = at (decLt k 9)
     where
-      at : Dec (k < 9) → n ≡ firstOf k x n
-      at (yes h) = between (λ k. n ≡ firstOf k x n) 2 7 (refl, (refl, tt)) k l h
+      at : Dec (k < 9) → n ≡ firstOperandOf k x n
+      at (yes h) = between (λ k. n ≡ firstOperandOf k x n) 2 7 (refl, (refl, tt)) k l h
       at (no h) = rw (shape-past k (omega arith))
 
 module _ (x : ℕ) where
-  pub second-operand : (k : ℕ) → 5 ≤ k → k < 10 → x ≡ secondOf k x
+  pub second-operand : (k : ℕ) → 5 ≤ k → k < 10 → x ≡ secondOperandOf k x
   unfolding shapeOf
-  second-operand = between (λ k. x ≡ secondOf k x) 5 5 (refl, (refl, (refl, (refl, (refl, tt)))))
+  second-operand = between (λ k. x ≡ secondOperandOf k x) 5 5 (refl, (refl, (refl, (refl, (refl, tt)))))
 
-  pub second-low : (k : ℕ) → k < 5 → 0 ≡ secondOf k x
+  pub second-low : (k : ℕ) → k < 5 → 0 ≡ secondOperandOf k x
   unfolding shapeOf
-  second-low k h = between (λ k. 0 ≡ secondOf k x) 5 0 (refl, (refl, (refl, (refl, (refl, tt))))) k (omega arith) h
+  second-low k h = between (λ k. 0 ≡ secondOperandOf k x) 5 0 (refl, (refl, (refl, (refl, (refl, tt))))) k (omega arith) h
 
-  pub second-high : (k : ℕ) → 10 ≤ k → 0 ≡ secondOf k x
+  pub second-high : (k : ℕ) → 10 ≤ k → 0 ≡ secondOperandOf k x
   second-high k h = rw (shape-past k h)
 
 -- Two rules that agree at all four places.
@@ -86,18 +86,18 @@ agree f g h true true = h .3
 
 -- where an atom's own place has its truth already
 pub rule-evaluates : (r : Record) (n : ℕ) (f : ℕ → Bool)
-    → select (ruleOf (r .kind)) (f (firstOf (r .kind) (r .a) n)) (f (secondOf (r .kind) (r .b))) ≡ evaluate (constructOf r)
+    → select (ruleOf (r .kind)) (f (firstOperandOf (r .kind) (r .a) n)) (f (secondOperandOf (r .kind) (r .b))) ≡ evaluate (constructOf r)
     (f n) f
 unfolding kindOf shapeOf select bit
 rule-evaluates r n f = at (decLt (r .kind) 10)
   where
-    Connects : ℕ → Type 0
-    Connects k = select (ruleOf k) (f (firstOf k (r .a) n)) (f (secondOf k (r .b))) ≡ evaluate (kindOf k .says r) (f n) f
+    RuleHolds : ℕ → Type 0
+    RuleHolds k = select (ruleOf k) (f (firstOperandOf k (r .a) n)) (f (secondOperandOf k (r .b))) ≡ evaluate (kindOf k .says r) (f n) f
 
     never : (x y : Bool) → select 0 x y ≡ false
     never = agree (select 0) (λ x y. false) (refl, refl, refl, refl)
 
-    at : Dec (r .kind < 10) → Connects (r .kind)
+    at : Dec (r .kind < 10) → RuleHolds (r .kind)
     at (yes h) =
         let none = never (f n) (f 0) in
         let top = agree (select 15) (λ x y. true) (refl, refl, refl, refl) (f n) (f 0) in
@@ -107,17 +107,17 @@ rule-evaluates r n f = at (decLt (r .kind) 10)
         let or = agree (select 14) (λ x y. x || y) (refl, refl, refl, refl) (f (r .a)) (f (r .b)) in
         let some = agree (select 10) (λ x y. x) (refl, refl, refl, refl) (f n) (f (r .b)) in
         let sub = agree (select 13) (λ x y. not x || y) (refl, refl, refl, refl) (f (r .a)) (f (r .b)) in
-        between Connects 10 0 (none, (top, (none, (name, (neg, (and, (or, (some, (some, (sub, tt))))))))))
+        between RuleHolds 10 0 (none, (top, (none, (name, (neg, (and, (or, (some, (some, (sub, tt))))))))))
         (r .kind) (omega arith) h
     at (no m) = rw (shape-past (r .kind) (omega arith), says-past (r .kind) (omega arith) r) (never (f n) (f 0))
 
 pub operands-earlier : (r : Record) (i n : ℕ) → n ≤ i → Earlier i (constructOf r)
-    → (firstOf (r .kind) (r .a) n ≤ i) × (secondOf (r .kind) (r .b) ≤ i)
+    → (firstOperandOf (r .kind) (r .a) n ≤ i) × (secondOperandOf (r .kind) (r .b) ≤ i)
 unfolding kindOf shapeOf
 operands-earlier r i n l = at (decLt (r .kind) 10)
   where
     Bound : ℕ → Type 0
-    Bound k = Earlier i (kindOf k .says r) → (firstOf k (r .a) n ≤ i) × (secondOf k (r .b) ≤ i)
+    Bound k = Earlier i (kindOf k .says r) → (firstOperandOf k (r .a) n ≤ i) × (secondOperandOf k (r .b) ≤ i)
 
     none : Unit {0} → (n ≤ i) × (0 ≤ i)
     none e = (l, omega arith)

@@ -13,7 +13,7 @@ use lib.Dec.{eqb}
 use mathlib.Core.Logic.{_⊎_, inl, inr}
 use Rattle.records.specs.Format.{recordAt, count, recordLimit}
 use Rattle.records.specs.Chain.{chained}
-use Rattle.records.proofs.Theorems.Accepted.{Accepted, accepted-vocabulary}
+use Rattle.records.proofs.Theorems.Accepted.{AcceptedFacts, accepted-vocabulary}
 use Rattle.records.proofs.Laws.Ranges.{restriction-kind}
 use Rattle.records.proofs.Theorems.Chains.{chain-statement}
 use Rattle.types.specs.declared.type_data.TypeData.{TypeData}
@@ -22,9 +22,9 @@ use Rattle.types.specs.declared.restrict.Restrictions.{Restrictions}
 use Rattle.records.specs.Finite.{allBelow, number}
 use Rattle.types.specs.Types.{truth}
 use Rattle.types.specs.Survivors.{satisfies}
-use Rattle.types.specs.Code.Rules.{holding, Truths}
+use Rattle.types.specs.Code.Rules.{allTrue, Truths}
 use Rattle.types.specs.Code.Words.{width, restriction, signed, negated, restrictionWord, fillerWord}
-use Rattle.types.specs.Code.Settling.{Bounded, Stating, Prepared, wordAt, differ, typeDataAt}
+use Rattle.types.specs.Code.Settling.{Bounded, Stating, Prepared, truthWord, differ, typeDataAt}
 use Rattle.records.proofs.Laws.Tests.{implies-true, implies-rest, same-truth}
 use Rattle.records.proofs.Laws.Below.{all-intro, all-at}
 use Rattle.records.proofs.Laws.Bits.{number-cong}
@@ -37,7 +37,7 @@ module _ (v : List ℕ) (plan : Plan) (code statements : List ℕ) (p : Prepared
   abbrev listing : Restrictions
   listing = plan .restrictions
 
-  pub prepared-good : Accepted v
+  pub prepared-good : AcceptedFacts v
   prepared-good = accepted-vocabulary v (count v) (p .query .accepts)
 
   pub few-records : count v ≤ recordLimit
@@ -64,15 +64,15 @@ module _ (v : List ℕ) (plan : Plan) (code statements : List ℕ) (p : Prepared
         filler-below = λ m h. omega (arith, filler-in m (omega (arith, p .listed .all)), few-records);
       }
 
-  module _ (t : ℕ) (done : List Bool) (d : Truths v t done) where
-    satisfies-done : holding statements done (plan .found) ≡ satisfies v t
-    unfolding holding satisfies
+  module _ (t : ℕ) (values : List Bool) (d : Truths v t values) where
+    satisfies-done : allTrue statements values (plan .found) ≡ satisfies v t
+    unfolding allTrue satisfies
     satisfies-done = same-truth _ _ onward back
       where
-        done-at : (j : ℕ) → j < plan .found → getD done (getD statements j 0) false ≡ truth v t (getD statements j 0)
+        done-at : (j : ℕ) → j < plan .found → getD values (getD statements j 0) false ≡ truth v t (getD statements j 0)
         done-at j h = d .truth-at (getD statements j 0) (p .stated .within j h)
 
-        onward : allBelow (λ j. getD done (getD statements j 0) false) (plan .found) ≡ true
+        onward : allBelow (λ j. getD values (getD statements j 0) false) (plan .found) ≡ true
             → allBelow (λ i. not (chained v i) || truth v t i) (count v) ≡ true
         onward e =
             all-intro (λ i. not (chained v i) || truth v t i) (count v)
@@ -81,17 +81,17 @@ module _ (v : List ℕ) (plan : Plan) (code statements : List ℕ) (p : Prepared
             at : (i : ℕ) → (j : ℕ) × (j < plan .found) × (getD statements j 0 ≡ i) → truth v t i ≡ true
             at i f =
                 ap (truth v t) (sym (f .2)) ∙ sym (done-at (f .0) (f .1))
-                ∙ all-at (λ j. getD done (getD statements j 0) false) (plan .found) e (f .0) (f .1)
+                ∙ all-at (λ j. getD values (getD statements j 0) false) (plan .found) e (f .0) (f .1)
 
         back : allBelow (λ i. not (chained v i) || truth v t i) (count v) ≡ true
-            → allBelow (λ j. getD done (getD statements j 0) false) (plan .found) ≡ true
+            → allBelow (λ j. getD values (getD statements j 0) false) (plan .found) ≡ true
         back e =
-            all-intro (λ j. getD done (getD statements j 0) false) (plan .found)
+            all-intro (λ j. getD values (getD statements j 0) false) (plan .found)
             (λ j h. done-at j h ∙ implies-rest (chained v (getD statements j 0)) (truth v t (getD statements j 0))
             (all-at (λ i. not (chained v i) || truth v t i) (count v) e (getD statements j 0) (p .stated .within j h))
             (p .stated .states j h))
 
-    differ-done : not (Bool·beq (getD done (plan .a) false) (getD done (plan .b) false)) ≡ differ v (plan .a) (plan .b) t
+    differ-done : not (Bool·beq (getD values (plan .a) false) (getD values (plan .b) false)) ≡ differ v (plan .a) (plan .b) t
     differ-done =
         ap₂ (λ (x y : Bool). not (Bool·beq x y)) (d .truth-at (plan .a) (p .query .first))
         (d .truth-at (plan .b) (p .query .second))
@@ -99,17 +99,17 @@ module _ (v : List ℕ) (plan : Plan) (code statements : List ℕ) (p : Prepared
     -- the word of what stands at listed places
     word-done : (places : List ℕ) (at : ℕ → ℕ) → ((m : ℕ) → m < width v → getD places m 0 ≡ at m)
         → ((m : ℕ) → m < width v → at m < count v)
-        → wordAt done places (listing .signs) (listing .count)
+        → truthWord values places (listing .signs) (listing .count)
         ≡ number (width v) (λ m. signed (negated v (restriction v m)) (truth v t (at m)))
     word-done places at e l =
-        ap (wordAt done places (listing .signs)) (p .listed .all)
+        ap (truthWord values places (listing .signs)) (p .listed .all)
         ∙ number-cong (width v) _ _
-        (λ m h. ap₂ signed (p .listed .sign-at m h) (ap (λ (i : ℕ). getD done i false) (e m h) ∙ d .truth-at (at m) (l m h)))
+        (λ m h. ap₂ signed (p .listed .sign-at m h) (ap (λ (i : ℕ). getD values i false) (e m h) ∙ d .truth-at (at m) (l m h)))
 
-    pub describe-done : (fit apart : Bool) (x y : ℕ) → fit ≡ holding statements done (plan .found)
-        → apart ≡ not (Bool·beq (getD done (plan .a) false) (getD done (plan .b) false))
-        → x ≡ wordAt done (listing .places) (listing .signs) (listing .count)
-        → y ≡ wordAt done (listing .fillers) (listing .signs) (listing .count)
+    pub describe-done : (fit apart : Bool) (x y : ℕ) → fit ≡ allTrue statements values (plan .found)
+        → apart ≡ not (Bool·beq (getD values (plan .a) false) (getD values (plan .b) false))
+        → x ≡ truthWord values (listing .places) (listing .signs) (listing .count)
+        → y ≡ truthWord values (listing .fillers) (listing .signs) (listing .count)
         → _≡_ {A = TypeData} record { satisfies = fit; differs = apart; held = x; filling = y }
         (typeDataAt v (plan .a) (plan .b) t)
     unfolding restrictionWord fillerWord
@@ -126,7 +126,7 @@ module _ (v : List ℕ) (plan : Plan) (code statements : List ℕ) (p : Prepared
         filler-known m k = omega (arith, filler-in m k, p .listed .filler-at m k)
 
 -- The statements, from the marks along the chain.
-pub stating : (v : List ℕ) → Accepted v → (marks : List Bool) → ((i : ℕ) → getD marks i false ≡ chained v i)
+pub stating : (v : List ℕ) → AcceptedFacts v → (marks : List Bool) → ((i : ℕ) → getD marks i false ≡ chained v i)
     → (list : List ℕ) (found : ℕ) → ListedBelow recordLimit marks list found (count v) → Stating v list found
 stating v good marks marked list found l =
     record {

@@ -14,7 +14,7 @@ use Rattle.records.specs.Format.{recordAt, count}
 use Rattle.records.specs.Kinds.{constructOf}
 use Rattle.records.specs.Chain.{chained}
 use Rattle.records.proofs.Laws.Tests.{clash, implies-rest, unless-false, same-truth}
-use Rattle.records.proofs.Theorems.Accepted.{Accepted}
+use Rattle.records.proofs.Theorems.Accepted.{AcceptedFacts}
 use Rattle.records.proofs.Theorems.Constructs.{construct-earlier, construct-atom}
 use Rattle.records.proofs.Theorems.Chains.{chain-statement}
 use Rattle.records.specs.Finite.{has}
@@ -43,7 +43,7 @@ Serves v S = (t : ℕ) → has S t ≡ true → served v S t ≡ true
 abbrev pub Agrees : List ℕ → List Bool → Interpretation → ℕ → Type 0
 Agrees v S I b = (t : ℕ) → has S t ≡ true → belongs I v b t ≡ truth v t b
 
-module _ (v : List ℕ) (good : Accepted v) (S : List Bool) (serves : Serves v S) (I : Interpretation)
+module _ (v : List ℕ) (good : AcceptedFacts v) (S : List Bool) (serves : Serves v S) (I : Interpretation)
     (canonical : Canonical v S I) where
   canonical-pair : (r t s : ℕ) → Pair I r t s → (has S s ≡ true) × (allowed v r t s ≡ true)
   canonical-pair r t s p = (canonical .only s (p .element), sym (canonical .roles r t s) ∙ p .joined)
@@ -107,7 +107,7 @@ module _ (v : List ℕ) (good : Accepted v) (S : List Bool) (serves : Serves v S
   canonical-agrees i = agrees-below (suc i) i (omega arith)
 
 -- A set of types at which all statements hold besides.
-module _ (v : List ℕ) (good : Accepted v) (S : List Bool) (set : Serving v S) (I : Interpretation)
+module _ (v : List ℕ) (good : AcceptedFacts v) (S : List Bool) (set : Serving v S) (I : Interpretation)
     (canonical : Canonical v S I) where
   fits-at : (t i : ℕ) → has S t ≡ true → chained v i ≡ true → truth v t i ≡ true
   unfolding satisfies

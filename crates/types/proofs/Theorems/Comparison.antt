@@ -66,7 +66,7 @@ module _ (v : List ℕ) (a b lent : ℕ) where
   different-shown t s n e out =
       let c = answered v a b lent (different t s n) e in
       let first = named-first v a b t s n (decided v a b lent (different t s n) e) in
-      rw e (distinguishes-shown v (c .good) a b (c .few) t (first .parts) (drop bitmapBytes out))
+      rw e (distinguishes-shown v (c .good) a b (c .few) t (first .differs) (drop bitmapBytes out))
 
   -- "with the smallest survivor at which the two terms differ"
   pub different-first : (t s n : ℕ) → comparison v a b lent ≡ accepted (different t s n)
@@ -74,8 +74,8 @@ module _ (v : List ℕ) (a b lent : ℕ) where
       × ((u : ℕ) → u < t → has (survivors v) u ≡ true → truth v u a ≡ truth v u b)
   different-first t s n e =
       let first = named-first v a b t s n (decided v a b lent (different t s n) e) in (
-        distinguishes-survivor v a b t (first .parts),
-        distinguishes-differ v a b t (first .parts),
+        distinguishes-survivor v a b t (first .differs),
+        distinguishes-differ v a b t (first .differs),
         λ u l. indistinct-same v a b u (first .before u l),
       )
 

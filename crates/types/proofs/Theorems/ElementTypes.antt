@@ -17,7 +17,7 @@ use Rattle.records.specs.Format.{recordAt, count}
 use Rattle.records.specs.Kinds.{constructOf, isAtom}
 use Rattle.records.specs.Chain.{chained}
 use Rattle.records.proofs.Laws.Tests.{clash, both-left, both-right, both-true, either-true, implies-true, unless-true}
-use Rattle.records.proofs.Theorems.Accepted.{Accepted}
+use Rattle.records.proofs.Theorems.Accepted.{AcceptedFacts}
 use Rattle.records.proofs.Theorems.Constructs.{construct-earlier, construct-atom}
 use Rattle.records.specs.Atoms.{atoms, rank}
 use Rattle.records.proofs.Theorems.Ranks.{rank-below, rank-same}
@@ -48,7 +48,7 @@ pub type-small : (I : Interpretation) (v : List ℕ) (d : ℕ) → typeOf I v d 
 unfolding typeOf
 type-small I v d = number-small (atoms v) (λ j. belongs I v (atomRecord v j) d)
 
-module _ (v : List ℕ) (good : Accepted v) where
+module _ (v : List ℕ) (good : AcceptedFacts v) where
   pub record-of-atom : (i : ℕ) → isAtom (recordAt v i .kind) ≡ true → atomRecord v (rank v i) ≡ i
   unfolding atomRecord
   record-of-atom i a =

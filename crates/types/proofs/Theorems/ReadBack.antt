@@ -12,7 +12,7 @@ use mathlib.Core.Bool.{true}
 use mathlib.Core.List.{List, _++_}
 use lib.ListN.{getD, List·getD-append}
 use lib.Pow.{pow-mono}
-use Rattle.records.proofs.Theorems.Accepted.{Accepted}
+use Rattle.records.proofs.Theorems.Accepted.{AcceptedFacts}
 use Rattle.records.specs.Atoms.{atoms}
 use Rattle.records.specs.Finite.{table, has, bit}
 use Rattle.types.specs.Meaning.{belongs, Model}
@@ -52,7 +52,7 @@ module _ (v rest : List ℕ) where
         roles = λ r t s. refl;
       }
 
-module _ (v : List ℕ) (good : Accepted v) (few : atoms v ≤ atomLimit) (rest : List ℕ) where
+module _ (v : List ℕ) (good : AcceptedFacts v) (few : atoms v ≤ atomLimit) (rest : List ℕ) where
   pub read-agrees : (i t : ℕ) → has (survivors v) t ≡ true → belongs (readBack v (bitmap v ++ rest)) v i t ≡ truth v t i
   read-agrees =
       canonical-agrees v good (survivors v) (survivors-serving v .serves) (readBack v (bitmap v ++ rest))

@@ -19,7 +19,7 @@ use Rattle.records.specs.Kinds.{inclusion, constructOf, kindOf, isAtom}
 use Rattle.records.specs.Finite.{anyBelow, allBelow, bit}
 use Rattle.records.specs.Chain.{chained}
 use Rattle.records.proofs.Laws.Tests.{clash}
-use Rattle.records.proofs.Theorems.Accepted.{Accepted}
+use Rattle.records.proofs.Theorems.Accepted.{AcceptedFacts}
 use Rattle.records.proofs.Theorems.Constructs.{record-past, Earlier, construct-earlier, atomic, construct-atom}
 use Rattle.records.proofs.Theorems.Constructs.{construct-inclusion}
 use Rattle.records.proofs.Theorems.Chains.{chain-statement}
@@ -108,7 +108,7 @@ module _ (v : List ℕ) where
   restricted-atom i k q e =
       construct-atom (recordAt v i) ∙ restriction-atomic (constructOf (recordAt v i)) (ap restricted q ∙ e)
 
-module _ (v : List ℕ) (good : Accepted v) where
+module _ (v : List ℕ) (good : AcceptedFacts v) where
   filler-earlier : (i : ℕ) (k : Restriction) → restrictionAt v i ≡ k → FillerEarlier i k
   filler-earlier i k m =
       subst (FillerEarlier i) m (restriction-earlier i (constructOf (recordAt v i)) (construct-earlier v good i))
@@ -175,7 +175,7 @@ module _ (v : List ℕ) (good : Accepted v) where
   belongs-all I i d r b q = belongs-restricted I i d (all r b) q refl
 
 -- There is no atom past the end.
-pub atom-within : (v : List ℕ) → Accepted v → (i : ℕ) → isAtom (recordAt v i .kind) ≡ true → i < count v
+pub atom-within : (v : List ℕ) → AcceptedFacts v → (i : ℕ) → isAtom (recordAt v i .kind) ≡ true → i < count v
 unfolding kindOf
 atom-within v good i e = at (decLt i (count v))
   where

@@ -20,7 +20,7 @@ use Rattle.records.specs.Kinds.{isTerm}
 use Rattle.records.specs.Check.{vocabularyCheck}
 use Rattle.records.proofs.Laws.Tests.{clash, both-left, both-right, both-rest}
 use Rattle.records.proofs.Laws.Checks.{require-passed, then-passed}
-use Rattle.records.proofs.Theorems.Accepted.{Accepted, accepted-vocabulary}
+use Rattle.records.proofs.Theorems.Accepted.{AcceptedFacts, accepted-vocabulary}
 use Rattle.records.specs.Atoms.{atoms}
 use Rattle.records.specs.Finite.{has, members}
 use Rattle.types.specs.Meaning.{Interpretation, Element, belongs, Model, AlwaysEqual}
@@ -40,7 +40,7 @@ pub record Term (v : List ℕ) (x : ℕ) : Type 0 where
 
 -- What an answer gives.
 pub record Answered (v : List ℕ) (a b lent : ℕ) (x : Verdict) : Type 0 where
-  pub good : Accepted v
+  pub good : AcceptedFacts v
   pub first : Term v a
   pub second : Term v b
   pub few : atoms v ≤ atomLimit
@@ -123,7 +123,7 @@ decided v a b lent x e = verdict-decided v a b x (answered v a b lent x e .answe
 
 -- t is the smallest survivor that parts the terms.
 pub record First (v : List ℕ) (a b t : ℕ) : Type 0 where
-  pub parts : distinguishes v a b t ≡ true
+  pub differs : distinguishes v a b t ≡ true
   pub before : (u : ℕ) → u < t → distinguishes v a b u ≡ false
 
 pub named-first : (v : List ℕ) (a b t s n : ℕ) → Decided v a b (different t s n) → First v a b t
@@ -131,7 +131,7 @@ named-first v a b t s n (same none q) = absurd (clash (cc))
 named-first v a b t s n (apart l q) =
     let first : t ≡ firstDistinguishing v a b = cc in
     subst (First v a b) (sym first)
-    record { parts = least-holds (types v) (distinguishes v a b) l; before = least-before (types v) (distinguishes v a b) }
+    record { differs = least-holds (types v) (distinguishes v a b) l; before = least-before (types v) (distinguishes v a b) }
 
 module _ (v : List ℕ) (a b : ℕ) where
   -- what a survivor that parts the terms is
@@ -150,7 +150,7 @@ module _ (v : List ℕ) (a b : ℕ) where
 abbrev pub Apart : Interpretation → List ℕ → ℕ → ℕ → ℕ → Type 0
 Apart I v a b t = Model I v × Element I t × (belongs I v a t ≡ not (belongs I v b t))
 
-module _ (v : List ℕ) (good : Accepted v) (a b : ℕ) where
+module _ (v : List ℕ) (good : AcceptedFacts v) (a b : ℕ) where
   -- terms that no survivor distinguishes are equal in every model
   pub indistinct-equal : ((t : ℕ) → t < types v → distinguishes v a b t ≡ false) → AlwaysEqual v a b
   indistinct-equal none I model d at =

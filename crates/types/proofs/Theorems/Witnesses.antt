@@ -15,7 +15,7 @@ use borrow.Author.Tests.{eq-eqb}
 use Rattle.records.specs.Format.{count}
 use Rattle.records.proofs.Laws.Tests.{both-left, both-right, both-true, either-rest, implies-true, implies-rest, not-both}
 use Rattle.records.proofs.Laws.Search.{any-intro, any-elim}
-use Rattle.records.proofs.Theorems.Accepted.{Accepted}
+use Rattle.records.proofs.Theorems.Accepted.{AcceptedFacts}
 use Rattle.records.specs.Finite.{has}
 use Rattle.types.specs.Meaning.{Interpretation, Element, Restriction, some, all, restrictionAt, belongs}
 use Rattle.types.specs.Types.{types, truth, allows, allowed, witnessed, met, served}
@@ -47,7 +47,7 @@ module _ (I : Interpretation) (r d e : ℕ) where
         joined = both-right (I .domain e) (I .roles r d e) h;
       }
 
-module _ (v : List ℕ) (good : Accepted v) (I : Interpretation) (i d r b : ℕ) where
+module _ (v : List ℕ) (good : AcceptedFacts v) (I : Interpretation) (i d r b : ℕ) where
   pub some-holds : restrictionAt v i ≡ some r b → (e : ℕ) → Pair I r d e → belongs I v b e ≡ true → belongs I v i d ≡ true
   some-holds m e p h =
       belongs-some v good I i d r b m
@@ -108,7 +108,7 @@ module _ (v : List ℕ) (S : List Bool) (t r : ℕ) (wanted : ℕ → Bool) wher
       let pair = both-left (allowed v r t s) (wanted s) rest in
       (s, record { small = f .1; inside = inside; pair = pair; wants = both-right (allowed v r t s) (wanted s) rest })
 
-module _ (v : List ℕ) (good : Accepted v) where
+module _ (v : List ℕ) (good : AcceptedFacts v) where
   restriction-within : (i : ℕ) (k : Restriction) → restrictionAt v i ≡ k → restricted k ≡ true → i < count v
   restriction-within i k m e = atom-within v good i (restricted-atom v i k m e)
 

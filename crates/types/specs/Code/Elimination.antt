@@ -24,30 +24,30 @@ abbrev pub Masks : List ℕ → List ℕ → Type 0
 Masks v masks = (r : ℕ) → r < roleCount v → getD masks r 0 ≡ otherRoleWord v r
 
 -- A list of types that has every member of a set.
-pub record Enumerates (live : List ℕ) (left : ℕ) (S : List Bool) : Type 0 where
+pub record Enumerates (candidates : List ℕ) (left : ℕ) (S : List Bool) : Type 0 where
   pub few : left ≤ typeLimit
-  pub inside : (j : ℕ) → j < left → getD live j 0 < typeLimit
-  pub finds : (t : ℕ) → has S t ≡ true → (j : ℕ) × (j < left) × (getD live j 0 ≡ t)
+  pub inside : (j : ℕ) → j < left → getD candidates j 0 < typeLimit
+  pub finds : (t : ℕ) → has S t ≡ true → (j : ℕ) × (j < left) × (getD candidates j 0 ≡ t)
 
 -- The state of an elimination: an accepted vocabulary of few enough atoms, the tables of its roles and types, and the set of
 -- types that are left, with a list that has them all.
-pub record Eliminating (v : List ℕ) (bits : ℕ) (masks held live : List ℕ) (left : ℕ) (alive : List Bool) : Type 0 where
+pub record Eliminating (v : List ℕ) (bits : ℕ) (masks held candidates : List ℕ) (left : ℕ) (alive : List Bool) : Type 0 where
   pub accepts : IsAccepted v
   pub few : atoms v ≤ atomLimit
   pub wide : bits ≡ width v
   pub masked : Masks v masks
   pub held-words : RestrictionWords v held
-  pub listed : Enumerates live left alive
+  pub listed : Enumerates candidates left alive
   pub ends : (t : ℕ) → types v ≤ t → has alive t ≡ false
   pub size : length alive ≡ typeLimit
 
 -- x itself where one of the first n types listed is in the set and has it as its word of fillers, else 0; a table of that
 -- below a bound.
 abbrev pub presentAmong : List ℕ → List ℕ → List Bool → ℕ → ℕ → ℕ
-presentAmong filling live S n x = cond (anyBelow (λ i. has S (getD live i 0) && eqb (getD filling (getD live i 0) 0) x) n) x 0
+presentAmong filling candidates S n x = cond (anyBelow (λ i. has S (getD candidates i 0) && eqb (getD filling (getD candidates i 0) 0) x) n) x 0
 
 abbrev pub Enters : List ℕ → List ℕ → List Bool → ℕ → ℕ → List ℕ → Type 0
-Enters filling live S n words table = (x : ℕ) → x < words → getD table x 0 ≡ presentAmong filling live S n x
+Enters filling candidates S n words table = (x : ℕ) → x < words → getD table x 0 ≡ presentAmong filling candidates S n x
 
 -- Whether y lies from a on, before e.
 abbrev pub between : ℕ → ℕ → ℕ → Bool

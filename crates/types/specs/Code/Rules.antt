@@ -42,11 +42,11 @@ abbrev pub ruleOf : ℕ → ℕ
 ruleOf kind = shapeOf kind .rule
 
 -- A where it is an operand; else the record's own number, where an atom finds its truth.
-abbrev pub firstOf : ℕ → ℕ → ℕ → ℕ
-firstOf kind a own = cond (shapeOf kind .first) a own
+abbrev pub firstOperandOf : ℕ → ℕ → ℕ → ℕ
+firstOperandOf kind a own = cond (shapeOf kind .first) a own
 
-abbrev pub secondOf : ℕ → ℕ → ℕ
-secondOf kind b = cond (shapeOf kind .second) b 0
+abbrev pub secondOperandOf : ℕ → ℕ → ℕ
+secondOperandOf kind b = cond (shapeOf kind .second) b 0
 
 -- The truth that a rule gives where its operands are x and y.
 unfoldable pub select : ℕ → Bool → Bool → Bool
@@ -58,8 +58,8 @@ codeLength = 3 * recordLimit
 
 pub record Decoded (v code : List ℕ) : Type 0 where
   pub rule-at : (i : ℕ) → i < count v → getD code i 0 ≡ ruleOf (recordAt v i .kind)
-  pub first-at : (i : ℕ) → i < count v → getD code (recordLimit + i) 0 ≡ firstOf (recordAt v i .kind) (recordAt v i .a) i
-  pub second-at : (i : ℕ) → i < count v → getD code (2 * recordLimit + i) 0 ≡ secondOf (recordAt v i .kind) (recordAt v i .b)
+  pub first-at : (i : ℕ) → i < count v → getD code (recordLimit + i) 0 ≡ firstOperandOf (recordAt v i .kind) (recordAt v i .a) i
+  pub second-at : (i : ℕ) → i < count v → getD code (2 * recordLimit + i) 0 ≡ secondOperandOf (recordAt v i .kind) (recordAt v i .b)
 
 -- A list of the atoms' places: that of atom j is entry j.
 pub record AtomsListed (v places : List ℕ) : Type 0 where
@@ -68,14 +68,14 @@ pub record AtomsListed (v places : List ℕ) : Type 0 where
   pub finds : (i : ℕ) → i < count v → isAtom (recordAt v i .kind) ≡ true → getD places (rank v i) 0 ≡ i
 
 -- A table that holds the truths of the atoms at type t; one that holds those of all records.
-pub record AtomsSet (v : List ℕ) (t : ℕ) (done : List Bool) : Type 0 where
-  pub size : length done ≡ recordLimit
-  pub atom-at : (i : ℕ) → i < count v → isAtom (recordAt v i .kind) ≡ true → getD done i false ≡ bit t (rank v i)
+pub record AtomsSet (v : List ℕ) (t : ℕ) (values : List Bool) : Type 0 where
+  pub size : length values ≡ recordLimit
+  pub atom-at : (i : ℕ) → i < count v → isAtom (recordAt v i .kind) ≡ true → getD values i false ≡ bit t (rank v i)
 
-pub record Truths (v : List ℕ) (t : ℕ) (done : List Bool) : Type 0 where
-  pub size : length done ≡ recordLimit
-  pub truth-at : (i : ℕ) → i < count v → getD done i false ≡ truth v t i
+pub record Truths (v : List ℕ) (t : ℕ) (values : List Bool) : Type 0 where
+  pub size : length values ≡ recordLimit
+  pub truth-at : (i : ℕ) → i < count v → getD values i false ≡ truth v t i
 
--- Each of n listed records is done true.
-unfoldable pub holding : List ℕ → List Bool → ℕ → Bool
-holding places done n = allBelow (λ j. getD done (getD places j 0) false) n
+-- Each of n listed records is true.
+unfoldable pub allTrue : List ℕ → List Bool → ℕ → Bool
+allTrue places values n = allBelow (λ j. getD values (getD places j 0) false) n

@@ -69,8 +69,8 @@ abbrev pub Differs : List ℕ → ℕ → ℕ → List Bool → Type 0
 Differs v a b differs = (t : ℕ) → t < types v → getD differs t false ≡ differ v a b t
 
 -- The word of the truths at listed places, signed.
-abbrev pub wordAt : List Bool → List ℕ → List Bool → ℕ → ℕ
-wordAt done places signs bits = number bits (λ m. signed (getD signs m false) (getD done (getD places m 0) false))
+abbrev pub truthWord : List Bool → List ℕ → List Bool → ℕ → ℕ
+truthWord values places signs bits = number bits (λ m. signed (getD signs m false) (getD values (getD places m 0) false))
 
 -- Tables as they are lent: for the survivors, of which there are none yet; for the data of all types.
 pub record Vacant (alive differs : List Bool) : Type 0 where
@@ -78,9 +78,9 @@ pub record Vacant (alive differs : List Bool) : Type 0 where
   pub alive-size : length alive ≡ typeLimit
   pub differs-size : length differs ≡ typeLimit
 
-pub record Blank (done alive differs : List Bool) (held filling : List ℕ) : Type 0 where
+pub record Blank (values alive differs : List Bool) (held filling : List ℕ) : Type 0 where
   pub vacant : Vacant alive differs
-  pub done-size : length done ≡ recordLimit
+  pub values-size : length values ≡ recordLimit
   pub held-size : length held ≡ typeLimit
   pub filling-size : length filling ≡ typeLimit
 

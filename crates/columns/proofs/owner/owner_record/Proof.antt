@@ -8,13 +8,13 @@ use borrow.Author.Needs.{needs}
 use borrow.Author.Tests.{not-true, not-false}
 use Rattle.records.specs.Kinds.{kindOf, constructOf}
 use Rattle.records.specs.declared.fields.Record.{Record}
-use Rattle.records.proofs.Theorems.Accepted.{Accepted, accepted-vocabulary}
+use Rattle.records.proofs.Theorems.Accepted.{AcceptedFacts, accepted-vocabulary}
 use Rattle.columns.specs.Columns.{columnsOf, states}
 use Rattle.columns.proofs.Theorems.Owners.{columns-record, columns-silent, columns-past}
 use Rattle.columns.proofs.owner.owner_record.Statement.{statement}
 use Rattle.columns.proofs.owner.owner_record.Tie as tie
 
-good : (c : tie.Start) → Accepted (now (c .args .v))
+good : (c : tie.Start) → AcceptedFacts (now (c .args .v))
 good c = accepted-vocabulary _ _ (c .pre .vocabulary)
 
 returns : tie.Need-returns

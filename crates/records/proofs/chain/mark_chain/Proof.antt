@@ -8,7 +8,7 @@ use mathlib.Core.Path.{ap, subst}
 use denote.Ref.{now}
 use Rattle.records.specs.Format.{count}
 use Rattle.records.specs.declared.fields.Record.{Record}
-use Rattle.records.proofs.Theorems.Accepted.{Accepted, Later, well-formed-vocabulary}
+use Rattle.records.proofs.Theorems.Accepted.{AcceptedFacts, Later, well-formed-vocabulary}
 use Rattle.records.proofs.Theorems.Following.{left}
 use Rattle.records.proofs.chain.mark_chain.Proof.Marks.{Marking, start, standing, next, done, falls}
 use Rattle.records.proofs.chain.mark_chain.Statement.{statement}
@@ -20,7 +20,7 @@ Inv-loop v marks₀ at₀ marks at = Marking v marks at
 abbrev μ-loop : tie.MeasureT-loop
 μ-loop v marks₀ at₀ marks at = left (count v) at
 
-good : (c : tie.Start Inv-loop μ-loop) → Accepted (now (c .args .v))
+good : (c : tie.Start Inv-loop μ-loop) → AcceptedFacts (now (c .args .v))
 good c = well-formed-vocabulary (now (c .args .v)) (c .pre)
 
 -- the statement that the walk stands at

@@ -6,10 +6,10 @@ use mathlib.Core.Path.{_≡_, _∙_, refl, sym}
 use denote.Ref.{now}
 use borrow.Author.Needs.{needs}
 use Rattle.records.specs.Answers.{checked}
-use Rattle.records.specs.Check.{linkCheck, headCheck}
+use Rattle.records.specs.Check.{linkCheck, firstStatementCheck}
 use Rattle.records.specs.Outcome.{inTurn}
 use Rattle.records.proofs.Laws.Checks.{turn-refused, turn-passed, turns-end, then-refused, then-fine}
-use Rattle.records.proofs.Refinement.Rows.{head-at}
+use Rattle.records.proofs.Refinement.Rows.{first-statement-at}
 use Rattle.records.proofs.check.check_links.Statement.{statement}
 use Rattle.records.proofs.check.check_links.Tie as tie
 
@@ -27,8 +27,8 @@ pass-if-requires c κs = tt
 
 -- row 8 at the header
 head : (c : tie.After-pass-if Inv-loop μ-loop)
-    → checked (c .pass-if .result) ≡ headCheck (now (c .before .before .before .before .args .v))
-head c = head-at _ _ _ _ (c .before .before .read-at .ensures) (c .before .link-fits .ensures) (c .pass-if .ensures)
+    → checked (c .pass-if .result) ≡ firstStatementCheck (now (c .before .before .before .before .args .v))
+head c = first-statement-at _ _ _ _ (c .before .before .read-at .ensures) (c .before .link-fits .ensures) (c .pass-if .ensures)
 
 returns : tie.Need-returns Inv-loop μ-loop
 returns c =

@@ -9,7 +9,7 @@ use Rattle.records.specs.Outcome.{Check, pass, _then_, require}
 use Rattle.records.specs.Answers.{checked}
 use Rattle.records.proofs.Laws.Checks.{then-refused, then-fine, require-test}
 use Rattle.scripts.specs.Format.{entryAt, queryIn}
-use Rattle.scripts.specs.Form.{lengthCheck, headerFits, queryCheck, entriesCheck, linksCheck, formCheck}
+use Rattle.scripts.specs.Form.{lengthCheck, headerFits, queryTermsCheck, entriesCheck, linksCheck, formCheck}
 use Rattle.scripts.specs.declared.entry.Entry.{Entry}
 use Rattle.scripts.proofs.form.check_form.Statement.{statement}
 use Rattle.scripts.proofs.form.check_form.Tie as tie
@@ -19,7 +19,7 @@ abbrev entered : List ℕ → List ℕ → Check
 entered v s = entriesCheck v s then linksCheck s
 
 abbrev asking : List ℕ → List ℕ → Entry → Check
-asking v s header = queryCheck v (queryIn header) then entered v s
+asking v s header = queryTermsCheck v (queryIn header) then entered v s
 
 form-left : (v s : List ℕ) (header : Entry) → lengthCheck s ≡ pass → header ≡ entryAt s 0
     → (require (headerFits header) 14 0 then asking v s header) ≡ formCheck v s

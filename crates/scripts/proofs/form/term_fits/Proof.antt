@@ -6,14 +6,14 @@ use mathlib.Core.Bool.{Bool·beq}
 use lib.Dec.{eqb}
 use borrow.Author.Needs.{needs}
 use borrow.Author.Tests.{not-true, not-false}
-use Rattle.scripts.proofs.Refinement.Lines.{line-named}
+use Rattle.scripts.proofs.Refinement.Lines.{line-constant}
 use Rattle.scripts.proofs.form.term_fits.Statement.{statement}
 use Rattle.scripts.proofs.form.term_fits.Tie as tie
 
 returns : tie.Need-returns
 returns c =
     let a = c .before .before .before .before .args in
-    rw (line-named (a .e), not-true (Bool·beq (eqb (a .e .w0) 1) (eqb (a .i) 1)) (c .if1 .taken))
+    rw (line-constant (a .e), not-true (Bool·beq (eqb (a .e .w0) 1) (eqb (a .i) 1)) (c .if1 .taken))
 
 function-fits-requires : tie.Need-function-fits-requires
 function-fits-requires c κs = search needs
@@ -22,7 +22,7 @@ returns-2 : tie.Need-returns-2
 returns-2 c =
     let a = c .before .before .before .before .before .args in
     c .function-fits .ensures
-    ∙ rw (line-named (a .e), not-false (Bool·beq (eqb (a .e .w0) 1) (eqb (a .i) 1)) (c .before .if1 .left))
+    ∙ rw (line-constant (a .e), not-false (Bool·beq (eqb (a .e .w0) 1) (eqb (a .i) 1)) (c .before .if1 .left))
 
 pub term-fits-spec : {M : Type 1} → statement M
 term-fits-spec = tie.close (tie.spec returns function-fits-requires returns-2)

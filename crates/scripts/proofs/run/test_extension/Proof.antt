@@ -17,7 +17,7 @@ use Rattle.scripts.specs.Steps.{Extension}
 use Rattle.scripts.specs.Format.{queryOf, extensionOf}
 use Rattle.records.specs.Finite.{without, isNil}
 use Rattle.scripts.specs.Calculus.{frameLimit}
-use Rattle.scripts.specs.Run.{meets, leaves}
+use Rattle.scripts.specs.Run.{connectedIn, remainderIn}
 use Rattle.scripts.specs.Code.Codes.{opposed}
 use Rattle.scripts.specs.Code.Numbered.{noNumber, numbered}
 use Rattle.scripts.proofs.Refinement.Extensions.{read-extends}
@@ -42,12 +42,12 @@ named c = extensionOf (c .args .e)
 abbrev row21 : tie.Start → Check
 row21 c =
     let a = c .args in
-    require (opposed (meets (numbered (now (a .v)) (now (a .s))) (named c)) (a .goal)) 21 (a .i)
+    require (opposed (connectedIn (numbered (now (a .v)) (now (a .s))) (named c)) (a .goal)) 21 (a .i)
 
 abbrev row23 : tie.Start → Check
 row23 c =
     let a = c .args in
-    require (isNil (leaves (numbered (now (a .v)) (now (a .s))) (named c)) || ltb (a .depth) frameLimit) 23 (a .i)
+    require (isNil (remainderIn (numbered (now (a .v)) (now (a .s))) (named c)) || ltb (a .depth) frameLimit) 23 (a .i)
 
 used-column-requires : tie.Need-used-column-requires
 used-column-requires c κs = let p = c .before .before .pre in (p .0, p .1)
@@ -92,7 +92,7 @@ leave-out-requires c κs = placed (found (c .before .before))
 -- the column's other literals
 left : (c : tie.After-pass-if2)
     → let b = start (found (tried c)) in
-    literals (c .before .before .leave-out .result) ≡ leaves (numbered (now (b .args .v)) (now (b .args .s))) (named b)
+    literals (c .before .before .leave-out .result) ≡ remainderIn (numbered (now (b .args .v)) (now (b .args .s))) (named b)
 left c =
     let u = found (tried c) in
     c .before .before .leave-out .ensures ∙ ap (without (start u .args .e .w5)) (u .used-column .ensures)

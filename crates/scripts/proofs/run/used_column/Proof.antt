@@ -8,7 +8,7 @@ use mathlib.Core.Logic.{_⊎_, inl, inr}
 use lib.ListN.{length}
 use denote.Ref.{now}
 use borrow.Author.Needs.{needs}
-use Rattle.records.proofs.Theorems.Accepted.{Accepted, accepted-vocabulary}
+use Rattle.records.proofs.Theorems.Accepted.{AcceptedFacts, accepted-vocabulary}
 use Rattle.columns.specs.Columns.{columnAt}
 use Rattle.columns.specs.Code.Packed.{packedAt, termLimit}
 use Rattle.scripts.specs.Steps.{Extension}
@@ -34,7 +34,7 @@ used-as : (v s : List ℕ) (h : Entry) (e : Extension ℕ) (cx cy cf : ℕ) → 
     → packedAt cx cy cf (columnAt v (queryIn h) (e .owner) (e .column)) ≡ usedNumbers v s e
 used-as v s h e cx cy cf r p q i = rw (r, p, q, i)
 
-good : (c : tie.Start) → Accepted (now (c .args .v))
+good : (c : tie.Start) → AcceptedFacts (now (c .args .v))
 good c = accepted-vocabulary _ _ (c .pre .0 .begun .marked .vocabulary)
 
 form : (c : tie.Start) → KeepsForm (now (c .args .v)) (now (c .args .s))

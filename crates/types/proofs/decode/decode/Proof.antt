@@ -10,7 +10,7 @@ use denote.Ref.{now}
 use Rattle.records.proofs.Theorems.Accepted.{accepted-vocabulary}
 use Rattle.records.specs.Format.{count, recordAt, recordLimit}
 use Rattle.records.specs.declared.fields.Record.{Record}
-use Rattle.types.specs.Code.Rules.{ruleOf, firstOf, secondOf, codeLength}
+use Rattle.types.specs.Code.Rules.{ruleOf, firstOperandOf, secondOperandOf, codeLength}
 use Rattle.types.proofs.Invariants.Tables.{RightAt, right-turn, right-kept}
 use Rattle.types.proofs.decode.decode.Statement.{statement}
 use Rattle.types.proofs.decode.decode.Tie as tie
@@ -26,10 +26,10 @@ abbrev rule-of : List ℕ → ℕ → ℕ
 rule-of v i = ruleOf (recordAt v i .kind)
 
 abbrev first-of : List ℕ → ℕ → ℕ
-first-of v i = firstOf (recordAt v i .kind) (recordAt v i .a) i
+first-of v i = firstOperandOf (recordAt v i .kind) (recordAt v i .a) i
 
 abbrev second-of : List ℕ → ℕ → ℕ
-second-of v i = secondOf (recordAt v i .kind) (recordAt v i .b)
+second-of v i = secondOperandOf (recordAt v i .kind) (recordAt v i .b)
 
 record Decoding (v code : List ℕ) (i : ℕ) : Type 0 where
   within : i ≤ count v
@@ -133,8 +133,8 @@ loop-again c =
     let v = now (in-loop .before .before .before .args .v) in
     next v (l .code) (l .i) (l .inv) (inside in-loop) (in-loop .loop-test .taken) _ _ _
     (c .before .before .rule .ensures ∙ ap (λ (r : Record). ruleOf (r .kind)) read)
-    (c .before .first-operand .ensures ∙ ap (λ (r : Record). firstOf (r .kind) (r .a) (l .i)) read)
-    (c .second-operand .ensures ∙ ap (λ (r : Record). secondOf (r .kind) (r .b)) read)
+    (c .before .first-operand .ensures ∙ ap (λ (r : Record). firstOperandOf (r .kind) (r .a) (l .i)) read)
+    (c .second-operand .ensures ∙ ap (λ (r : Record). secondOperandOf (r .kind) (r .b)) read)
 
 returns : tie.Need-returns Inv-loop μ-loop
 returns c =

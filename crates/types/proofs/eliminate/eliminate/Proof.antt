@@ -18,21 +18,21 @@ use Rattle.types.proofs.Theorems.Survivors.{types-bound}
 use Rattle.types.proofs.eliminate.eliminate.Statement.{statement}
 use Rattle.types.proofs.eliminate.eliminate.Tie as tie
 
-record Standing (v : List ℕ) (bits : ℕ) (masks held live : List ℕ) (left : ℕ) (joins : List ℕ) (alive : List Bool) (done : ℕ)
+record Standing (v : List ℕ) (bits : ℕ) (masks held candidates : List ℕ) (left : ℕ) (joins : List ℕ) (alive : List Bool) (done : ℕ)
     : Type 0 where
-  state : Eliminating v bits masks held live left alive
+  state : Eliminating v bits masks held candidates left alive
   stage : AtStage v alive done
   room : length joins ≡ typeLimit
 
 abbrev Inv-loop : tie.InvT-loop
-Inv-loop v roles bits held filling size alive₀ masks live left joins₀ done₀ alive joins done =
-    Standing v bits masks held live left joins alive done
+Inv-loop v roles bits held filling size alive₀ masks candidates left joins₀ done₀ alive joins done =
+    Standing v bits masks held candidates left joins alive done
 
 abbrev μ-loop : tie.MeasureT-loop
-μ-loop v roles bits held filling size alive₀ masks live left joins₀ done₀ alive joins done = types v - done
+μ-loop v roles bits held filling size alive₀ masks candidates left joins₀ done₀ alive joins done = types v - done
 
-list-live-requires : tie.Need-list-live-requires Inv-loop μ-loop
-list-live-requires c κs =
+list-candidates-requires : tie.Need-list-candidates-requires Inv-loop μ-loop
+list-candidates-requires c κs =
     let start = c .before .before .before .before in
     let v = now (start .args .v) in
     let p = start .pre in
@@ -53,7 +53,7 @@ loop-holds c =
         wide = p .1 .1 .0;
         masked = masked .list-masks .ensures;
         held-words = p .1 .1 .1 .1 .0;
-        listed = c .list-live .ensures;
+        listed = c .list-candidates .ensures;
         ends = λ t h. same t ∙ stage-ends (now (start .args .v)) 0 t h;
         size = p .1 .1 .1 .1 .1 .1 .1 .1;
       };
@@ -106,5 +106,5 @@ loop-again c =
 pub eliminate-spec : {M : Type 1} → statement M
 eliminate-spec =
     tie.close
-    (tie.spec Inv-loop μ-loop (λ c κs. search needs) list-live-requires loop-holds remove-unserved-requires returns add-done
+    (tie.spec Inv-loop μ-loop (λ c κs. search needs) list-candidates-requires loop-holds remove-unserved-requires returns add-done
     loop-less loop-again)

@@ -13,10 +13,10 @@ use Rattle.types.proofs.eliminate.enter_words.Statement.{statement}
 use Rattle.types.proofs.eliminate.enter_words.Tie as tie
 
 abbrev Inv-loop : tie.InvT-loop
-Inv-loop filling alive live left size joins₀ j₀ joins j = (j ≤ left) × Entered filling live alive typeLimit size joins j
+Inv-loop filling alive candidates left size joins₀ j₀ joins j = (j ≤ left) × Entered filling candidates alive typeLimit size joins j
 
 abbrev μ-loop : tie.MeasureT-loop
-μ-loop filling alive live left size joins₀ j₀ joins j = left - j
+μ-loop filling alive candidates left size joins₀ j₀ joins j = left - j
 
 clear-words-requires : tie.Need-clear-words-requires Inv-loop μ-loop
 clear-words-requires c κs = c .before .pre .1 .1
@@ -29,7 +29,7 @@ place : (c : tie.In-loop Inv-loop μ-loop) → c .before .loop .j < typeLimit
 place c = omega (arith, c .before .before .before .before .pre .0 .few)
 
 inside : (c : tie.In-loop Inv-loop μ-loop)
-    → getD (now (c .before .before .before .before .args .live)) (c .before .loop .j) 0 < typeLimit
+    → getD (now (c .before .before .before .before .args .candidates)) (c .before .loop .j) 0 < typeLimit
 inside c = c .before .before .before .before .pre .0 .inside (c .before .loop .j) (c .loop-test .taken)
 
 mul-t : tie.Need-mul-t Inv-loop μ-loop

@@ -17,11 +17,11 @@ use Rattle.types.proofs.eliminate.remove_by_roles.Statement.{statement}
 use Rattle.types.proofs.eliminate.remove_by_roles.Tie as tie
 
 abbrev Inv-loop : tie.InvT-loop
-Inv-loop v bits masks held joins live left alive₀ count full removed₀ role₀ alive removed role =
+Inv-loop v bits masks held joins candidates left alive₀ count full removed₀ role₀ alive removed role =
     (role ≤ roleCount v) × AfterRoles v alive₀ role alive removed
 
 abbrev μ-loop : tie.MeasureT-loop
-μ-loop v bits masks held joins live left alive₀ count full removed₀ role₀ alive removed role = count - role
+μ-loop v bits masks held joins candidates left alive₀ count full removed₀ role₀ alive removed role = count - role
 
 read-at-requires : tie.Need-read-at-requires Inv-loop μ-loop
 read-at-requires c κs = omega (arith, good (c .before .pre .0) .sized .least)

@@ -17,17 +17,17 @@ use Rattle.types.proofs.eliminate.remove_unmet.Statement.{statement}
 use Rattle.types.proofs.eliminate.remove_unmet.Tie as tie
 
 abbrev Inv-loop : tie.InvT-loop
-Inv-loop held joins mask live left alive₀ removed₀ j₀ alive removed j =
-    RemovedBelow (metAt joins mask held) live alive₀ alive removed j
+Inv-loop held joins mask candidates left alive₀ removed₀ j₀ alive removed j =
+    RemovedBelow (metAt joins mask held) candidates alive₀ alive removed j
 
 abbrev μ-loop : tie.MeasureT-loop
-μ-loop held joins mask live left alive₀ removed₀ j₀ alive removed j = left - j
+μ-loop held joins mask candidates left alive₀ removed₀ j₀ alive removed j = left - j
 
 -- the place in the list, and the listed type, are in the tables
 place : (c : tie.In-loop Inv-loop μ-loop) → c .before .loop .j < typeLimit
 place c = omega (arith, c .before .before .pre .0 .few)
 
-inside : (c : tie.In-loop Inv-loop μ-loop) → getD (now (c .before .before .args .live)) (c .before .loop .j) 0 < typeLimit
+inside : (c : tie.In-loop Inv-loop μ-loop) → getD (now (c .before .before .args .candidates)) (c .before .loop .j) 0 < typeLimit
 inside c = c .before .before .pre .0 .inside (c .before .loop .j) (c .loop-test .taken)
 
 loop-holds : tie.Need-loop-holds Inv-loop μ-loop
@@ -67,7 +67,7 @@ loop-again c =
     let turn = c .before .before .before in
     let l = turn .before .loop .inv in
     let start = turn .before .before in
-    let u : getD (now (start .args .live)) (turn .before .loop .j) 0 < length (now (start .args .alive)) = omega
+    let u : getD (now (start .args .candidates)) (turn .before .loop .j) 0 < length (now (start .args .alive)) = omega
     (arith, inside turn, start .pre .1 .1) in
     ⊎-elim
     (λ w. rw (w .4, w .5) (remove-out _ _ _ _ _ _ l u (w .0 .taken) (sym (w .2 .ensures) ∙ not-true _ (w .3 .taken))))

@@ -15,27 +15,27 @@ use Rattle.types.proofs.restrict.words_of.Tie as tie
 
 -- bit m of the word of listed places
 abbrev bits : List Bool → List ℕ → List Bool → ℕ → Bool
-bits done places signs m = signed (getD signs m false) (getD done (getD places m 0) false)
+bits values places signs m = signed (getD signs m false) (getD values (getD places m 0) false)
 
-record Building (done : List Bool) (n : ℕ) (places fillers : List ℕ) (signs : List Bool) (held filling m : ℕ) : Type 0 where
+record Building (values : List Bool) (n : ℕ) (places fillers : List ℕ) (signs : List Bool) (held filling m : ℕ) : Type 0 where
   within : m ≤ n
-  held-words : held ≡ wordFrom n (bits done places signs) m
-  filling-words : filling ≡ wordFrom n (bits done fillers signs) m
+  held-words : held ≡ wordFrom n (bits values places signs) m
+  filling-words : filling ≡ wordFrom n (bits values fillers signs) m
 
 abbrev Inv-loop : tie.InvT-loop
-Inv-loop done listing held₀ filling₀ m₀ held filling m =
-    Building done (listing .count) (listing .places) (listing .fillers) (listing .signs) held filling m
+Inv-loop values listing held₀ filling₀ m₀ held filling m =
+    Building values (listing .count) (listing .places) (listing .fillers) (listing .signs) held filling m
 
 abbrev μ-loop : tie.MeasureT-loop
-μ-loop done listing held₀ filling₀ m₀ held filling m = m
+μ-loop values listing held₀ filling₀ m₀ held filling m = m
 
 loop-holds : tie.Need-loop-holds Inv-loop μ-loop
 loop-holds c =
     let l = c .args .t2 in
-    let done = now (c .args .done) in record {
+    let values = now (c .args .values) in record {
       within = omega arith;
-      held-words = word-start (l .count) (bits done (l .places) (l .signs));
-      filling-words = word-start (l .count) (bits done (l .fillers) (l .signs));
+      held-words = word-start (l .count) (bits values (l .places) (l .signs));
+      filling-words = word-start (l .count) (bits values (l .fillers) (l .signs));
     }
 
 -- the restriction is listed, and what it names in the table
@@ -70,7 +70,7 @@ push-bit-requires : tie.Need-push-bit-requires Inv-loop μ-loop
 push-bit-requires c κs =
     let at = c .before .before .before .before .before .before in
     let l = at .before .args .t2 in
-    word-bound (l .count) (bits (now (at .before .args .done)) (l .places) (l .signs)) (at .loop .m) _ (at .before .pre .few)
+    word-bound (l .count) (bits (now (at .before .args .values)) (l .places) (l .signs)) (at .loop .m) _ (at .before .pre .few)
     (at .loop .inv .held-words)
 
 element-copy-out-apply-sign-2 : tie.Need-element-copy-out-apply-sign-2 Inv-loop μ-loop
@@ -82,7 +82,7 @@ push-bit-requires-2 : tie.Need-push-bit-requires-2 Inv-loop μ-loop
 push-bit-requires-2 c κs =
     let at = c .before .before .before .before .before .before .before .before .before in
     let l = at .before .args .t2 in
-    word-bound (l .count) (bits (now (at .before .args .done)) (l .fillers) (l .signs)) (at .loop .m) _ (at .before .pre .few)
+    word-bound (l .count) (bits (now (at .before .args .values)) (l .fillers) (l .signs)) (at .loop .m) _ (at .before .pre .few)
     (at .loop .inv .filling-words)
 
 loop-again : tie.Need-loop-again Inv-loop μ-loop
@@ -90,26 +90,26 @@ loop-again c =
     let first = c .before .before .before in
     let at = first .before .before .before .before .before .before .before in
     let l = at .before .args .t2 in
-    let done = now (at .before .args .done) in
+    let values = now (at .before .args .values) in
     let w = at .loop .inv in record {
       within = omega (arith, w .within);
       held-words =
           first .push-bit .ensures
-          ∙ word-turn (l .count) (bits done (l .places) (l .signs)) (at .loop .m) (at .loop .held) _ (omega arith)
+          ∙ word-turn (l .count) (bits values (l .places) (l .signs)) (at .loop .m) (at .loop .held) _ (omega arith)
           (w .within) (w .held-words) (first .before .apply-sign .ensures);
       filling-words =
           c .push-bit2 .ensures
-          ∙ word-turn (l .count) (bits done (l .fillers) (l .signs)) (at .loop .m) (at .loop .filling) _ (omega arith)
+          ∙ word-turn (l .count) (bits values (l .fillers) (l .signs)) (at .loop .m) (at .loop .filling) _ (omega arith)
           (w .within) (w .filling-words) (c .before .apply-sign2 .ensures);
     }
 
 returns : tie.Need-returns Inv-loop μ-loop
 returns c =
     let l = c .before .before .args .t2 in
-    let done = now (c .before .before .args .done) in
+    let values = now (c .before .before .args .values) in
     let at = c .before .loop in (
-      word-end (l .count) (bits done (l .places) (l .signs)) (at .m) _ (omega arith) (at .inv .held-words),
-      word-end (l .count) (bits done (l .fillers) (l .signs)) (at .m) _ (omega arith) (at .inv .filling-words),
+      word-end (l .count) (bits values (l .places) (l .signs)) (at .m) _ (omega arith) (at .inv .held-words),
+      word-end (l .count) (bits values (l .fillers) (l .signs)) (at .m) _ (omega arith) (at .inv .filling-words),
     )
 
 pub words-of-spec : {M : Type 1} → statement M

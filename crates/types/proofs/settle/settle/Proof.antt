@@ -49,7 +49,7 @@ describe-types-requires c κs =
         stated = listed .list-statements .ensures;
         listed = lists .list-restrictions .ensures;
       },
-      record { vacant = p .1; done-size = refl; held-size = refl; filling-size = refl },
+      record { vacant = p .1; values-size = refl; held-size = refl; filling-size = refl },
     )
 
 shl-eliminate : tie.Need-shl-eliminate

@@ -19,37 +19,37 @@ use Rattle.types.specs.Code.Rules.{AtomsListed}
 use Rattle.types.proofs.truth.set_atoms.Statement.{statement}
 use Rattle.types.proofs.truth.set_atoms.Tie as tie
 
-record Setting (v : List ℕ) (t : ℕ) (done : List Bool) (j : ℕ) : Type 0 where
+record Setting (v : List ℕ) (t : ℕ) (values : List Bool) (j : ℕ) : Type 0 where
   within : j ≤ atoms v
-  size : length done ≡ recordLimit
-  below : (i : ℕ) → i < count v → isAtom (recordAt v i .kind) ≡ true → rank v i < j → getD done i false ≡ bit t (rank v i)
+  size : length values ≡ recordLimit
+  below : (i : ℕ) → i < count v → isAtom (recordAt v i .kind) ≡ true → rank v i < j → getD values i false ≡ bit t (rank v i)
 
-module _ (v places : List ℕ) (p : AtomsListed v places) (t : ℕ) (done : List Bool) (j : ℕ) (s : Setting v t done j)
+module _ (v places : List ℕ) (p : AtomsListed v places) (t : ℕ) (values : List Bool) (j : ℕ) (s : Setting v t values j)
     (h : j < atoms v) (x : Bool) where
   abbrev place : ℕ
   place = getD places j 0
 
-  next : place < recordLimit → x ≡ bit t j → Setting v t (set done place x) (j + 1)
+  next : place < recordLimit → x ≡ bit t j → Setting v t (set values place x) (j + 1)
   next l e =
       record {
         within = omega arith;
-        size = length-set done place x ∙ s .size;
+        size = length-set values place x ∙ s .size;
         below = λ i k a r. at i k a r (ℕ-discrete i place) (ℕ-discrete (rank v i) j);
       }
     where
       at : (i : ℕ) → i < count v → isAtom (recordAt v i .kind) ≡ true → rank v i < j + 1 → Dec (i ≡ place) → Dec (rank v i ≡ j)
-          → getD (set done place x) i false ≡ bit t (rank v i)
+          → getD (set values place x) i false ≡ bit t (rank v i)
       at i k a r (yes q) d =
-          ap (λ (n : ℕ). getD (set done place x) n false) q ∙ getD-set-same done place x false (omega (arith, s .size)) ∙ e
+          ap (λ (n : ℕ). getD (set values place x) n false) q ∙ getD-set-same values place x false (omega (arith, s .size)) ∙ e
           ∙ ap (bit t) (sym (ap (rank v) q ∙ p .ranked j h))
       at i k a r (no q) (yes d) = absurd (q (sym (p .finds i k a) ∙ ap (λ (n : ℕ). getD places n 0) d))
-      at i k a r (no q) (no d) = getD-set-other done place i x false q ∙ s .below i k a (omega arith)
+      at i k a r (no q) (no d) = getD-set-other values place i x false q ∙ s .below i k a (omega arith)
 
 abbrev Inv-loop : tie.InvT-loop
-Inv-loop v k places t done₀ j₀ done j = Setting v t done j
+Inv-loop v k places t values₀ j₀ values j = Setting v t values j
 
 abbrev μ-loop : tie.MeasureT-loop
-μ-loop v k places t done₀ j₀ done j = k - j
+μ-loop v k places t values₀ j₀ values j = k - j
 
 -- the atom is in the list, and its record in the vocabulary
 inside : (c : tie.In-loop Inv-loop μ-loop) → c .before .loop .j < atoms (now (c .before .before .args .v))
@@ -77,11 +77,11 @@ element-copy-out-at c = omega (arith, inside c, c .before .before .pre .1 .0)
 cast-at : tie.Need-cast-at Inv-loop μ-loop
 cast-at c = omega (arith, placed (c .before))
 
-shr-done : tie.Need-shr-done Inv-loop μ-loop
-shr-done c = omega (arith, inside (c .before), c .before .before .before .pre .1 .0)
+shr-values : tie.Need-shr-values Inv-loop μ-loop
+shr-values c = omega (arith, inside (c .before), c .before .before .before .pre .1 .0)
 
-element-write-done : tie.Need-element-write-done Inv-loop μ-loop
-element-write-done c = placed (c .before)
+element-write-values : tie.Need-element-write-values Inv-loop μ-loop
+element-write-values c = placed (c .before)
 
 add-j : tie.Need-add-j Inv-loop μ-loop
 add-j c = omega (arith, inside (c .before), c .before .before .before .pre .1 .0)
@@ -91,7 +91,7 @@ unfolding bit
 loop-again c =
     let l = c .before .before .loop in
     let start = c .before .before .before in
-    next (now (start .args .v)) (now (start .args .places)) (start .pre .1 .1 .1 .0) (start .args .t) (l .done) (l .j) (l .inv)
+    next (now (start .args .v)) (now (start .args .places)) (start .pre .1 .1 .1 .0) (start .args .t) (l .values) (l .j) (l .inv)
     (inside (c .before)) _ (placed (c .before)) refl
 
 returns : tie.Need-returns Inv-loop μ-loop
@@ -106,5 +106,5 @@ returns c =
 pub set-atoms-spec : {M : Type 1} → statement M
 set-atoms-spec =
     tie.close
-    (tie.spec Inv-loop μ-loop loop-holds mul-at element-copy-out-at cast-at shr-done element-write-done add-j
+    (tie.spec Inv-loop μ-loop loop-holds mul-at element-copy-out-at cast-at shr-values element-write-values add-j
     (λ c. omega arith) loop-again returns)

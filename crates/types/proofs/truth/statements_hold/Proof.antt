@@ -8,20 +8,20 @@ use lib.ListN.{getD}
 use borrow.Author.Tests.{not-true, not-false}
 use denote.Ref.{now}
 use Rattle.records.specs.Finite.{allBelow}
-use Rattle.types.specs.Code.Rules.{holding}
+use Rattle.types.specs.Code.Rules.{allTrue}
 use Rattle.records.proofs.Laws.Below.{all-miss}
 use Rattle.types.proofs.Invariants.Tables.{all-holds-turn}
 use Rattle.types.proofs.truth.statements_hold.Statement.{statement}
 use Rattle.types.proofs.truth.statements_hold.Tie as tie
 
 abbrev Inv-loop : tie.InvT-loop
-Inv-loop done statements found j₀ j = (j ≤ found) × (true ≡ holding statements done j)
+Inv-loop values statements found j₀ j = (j ≤ found) × (true ≡ allTrue statements values j)
 
 abbrev μ-loop : tie.MeasureT-loop
-μ-loop done statements found j₀ j = found - j
+μ-loop values statements found j₀ j = found - j
 
 loop-holds : tie.Need-loop-holds Inv-loop μ-loop
-unfolding holding allBelow
+unfolding allTrue allBelow
 loop-holds c = (omega arith, refl)
 
 mul-at : tie.Need-mul-at Inv-loop μ-loop
@@ -37,10 +37,10 @@ element-copy-out-if1 : tie.Need-element-copy-out-if1 Inv-loop μ-loop
 element-copy-out-if1 c = c .before .before .before .pre .1 (c .before .before .loop .j) (c .before .loop-test .taken)
 
 returns : tie.Need-returns Inv-loop μ-loop
-unfolding holding
+unfolding allTrue
 returns c =
     let a = c .before .before .before .before .before .args in sym
-    (all-miss (λ j. getD (now (a .done)) (getD (now (a .statements)) j 0) false) (a .found)
+    (all-miss (λ j. getD (now (a .values)) (getD (now (a .statements)) j 0) false) (a .found)
     (c .before .before .before .before .loop .j) (c .before .before .before .loop-test .taken)
     (not-true _ (c .if1 .taken)))
 
@@ -48,21 +48,21 @@ add-j : tie.Need-add-j Inv-loop μ-loop
 add-j c = omega (arith, c .before .before .before .before .before .pre .0)
 
 loop-again : tie.Need-loop-again Inv-loop μ-loop
-unfolding holding
+unfolding allTrue
 loop-again c =
     let l = c .before .before .before .before .loop in
     let a = c .before .before .before .before .before .args in (
       omega arith,
-      all-holds-turn (λ j. getD (now (a .done)) (getD (now (a .statements)) j 0) false) (l .j) true
+      all-holds-turn (λ j. getD (now (a .values)) (getD (now (a .statements)) j 0) false) (l .j) true
           (l .inv .1) (not-false _ (c .if1 .left)),
     )
 
 returns-2 : tie.Need-returns-2 Inv-loop μ-loop
-unfolding holding
+unfolding allTrue
 returns-2 c =
     let a = c .before .before .args in
     let e : c .before .loop .j ≡ a .found = omega arith in c .before .loop .inv .1 ∙ ap
-    (allBelow (λ j. getD (now (a .done)) (getD (now (a .statements)) j 0) false)) e
+    (allBelow (λ j. getD (now (a .values)) (getD (now (a .statements)) j 0) false)) e
 
 pub statements-hold-spec : {M : Type 1} → statement M
 statements-hold-spec =

@@ -10,7 +10,7 @@ use lib.ListN.{getD, set}
 use lib.Seq.{getD-set-other}
 use borrow.Author.Needs.{needs}
 use denote.Ref.{now}
-use Rattle.records.proofs.Theorems.Accepted.{Accepted, accepted-vocabulary}
+use Rattle.records.proofs.Theorems.Accepted.{AcceptedFacts, accepted-vocabulary}
 use Rattle.records.proofs.Theorems.Constructs.{construct-earlier, construct-atom}
 use Rattle.records.specs.Atoms.{rank}
 use Rattle.records.specs.Format.{count, recordAt, recordLimit}
@@ -24,10 +24,10 @@ use Rattle.types.proofs.Invariants.Tables.{Filled, fill-start, fill-tur
 use Rattle.types.proofs.truth.truths.Statement.{statement}
 use Rattle.types.proofs.truth.truths.Tie as tie
 
-record Filling (v : List ℕ) (t : ℕ) (done : List Bool) (i : ℕ) : Type 0 where
+record Filling (v : List ℕ) (t : ℕ) (values : List Bool) (i : ℕ) : Type 0 where
   within : i ≤ count v
-  filled : Filled false recordLimit done (truth v t) i
-  waiting : (j : ℕ) → i ≤ j → j < count v → isAtom (recordAt v j .kind) ≡ true → getD done j false ≡ bit t (rank v j)
+  filled : Filled false recordLimit values (truth v t) i
+  waiting : (j : ℕ) → i ≤ j → j < count v → isAtom (recordAt v j .kind) ≡ true → getD values j false ≡ bit t (rank v j)
 
 -- the operands of record i
 abbrev first : List ℕ → ℕ → ℕ
@@ -36,7 +36,7 @@ first code i = getD code (recordLimit + i) 0
 abbrev second : List ℕ → ℕ → ℕ
 second code i = getD code (2 * recordLimit + i) 0
 
-module _ (v code : List ℕ) (good : Accepted v) (d : Decoded v code) (i : ℕ) (h : i < count v) where
+module _ (v code : List ℕ) (good : AcceptedFacts v) (d : Decoded v code) (i : ℕ) (h : i < count v) where
   operands : (first code i < recordLimit) × (second code i < recordLimit)
   operands =
       let early = operands-earlier (recordAt v i) i i (omega arith) (construct-earlier v good i) in (
@@ -44,32 +44,32 @@ module _ (v code : List ℕ) (good : Accepted v) (d : Decoded v code) (i : ℕ) 
         omega (arith, d .second-at i h, early .1, good .sized .most),
       )
 
-  module _ (t : ℕ) (done : List Bool) (f : Filling v t done i) where
+  module _ (t : ℕ) (values : List Bool) (f : Filling v t values i) where
     -- the rule gives the truth
-    given : select (getD code i 0) (getD done (first code i) false) (getD done (second code i) false) ≡ truth v t i
+    given : select (getD code i 0) (getD values (first code i) false) (getD values (second code i) false) ≡ truth v t i
     given =
-        ap (λ (r : ℕ). select r (getD done (first code i) false) (getD done (second code i) false)) (d .rule-at i h)
-        ∙ ap₂ (λ (m n : ℕ). select (ruleOf (recordAt v i .kind)) (getD done m false) (getD done n false))
+        ap (λ (r : ℕ). select r (getD values (first code i) false) (getD values (second code i) false)) (d .rule-at i h)
+        ∙ ap₂ (λ (m n : ℕ). select (ruleOf (recordAt v i .kind)) (getD values m false) (getD values n false))
         (d .first-at i h) (d .second-at i h)
-        ∙ rule-evaluates (recordAt v i) i (λ j. getD done j false)
-        ∙ evaluate-cong i (constructOf (recordAt v i)) (getD done i false) (bit t (rank v i)) (λ j. getD done j false) (truth v t)
+        ∙ rule-evaluates (recordAt v i) i (λ j. getD values j false)
+        ∙ evaluate-cong i (constructOf (recordAt v i)) (getD values i false) (bit t (rank v i)) (λ j. getD values j false) (truth v t)
         (λ a. f .waiting i (omega arith) h (construct-atom (recordAt v i) ∙ a)) (construct-earlier v good i) (f .filled .right)
         ∙ sym (truth-eq v good t i)
 
-    next : (x : Bool) → x ≡ select (getD code i 0) (getD done (first code i) false) (getD done (second code i) false)
-        → Filling v t (set done i x) (i + 1)
+    next : (x : Bool) → x ≡ select (getD code i 0) (getD values (first code i) false) (getD values (second code i) false)
+        → Filling v t (set values i x) (i + 1)
     next x e =
         record {
           within = omega arith;
-          filled = fill-turn false recordLimit done (truth v t) i x (omega (arith, good .sized .most)) (f .filled) (e ∙ given);
-          waiting = λ j l k a. getD-set-other done i j x false (λ q. omega arith) ∙ f .waiting j (omega arith) k a;
+          filled = fill-turn false recordLimit values (truth v t) i x (omega (arith, good .sized .most)) (f .filled) (e ∙ given);
+          waiting = λ j l k a. getD-set-other values i j x false (λ q. omega arith) ∙ f .waiting j (omega arith) k a;
         }
 
 abbrev Inv-loop : tie.InvT-loop
-Inv-loop v code k places t done₀ records i₀ done i = Filling v t done i
+Inv-loop v code k places t values₀ records i₀ values i = Filling v t values i
 
 abbrev μ-loop : tie.MeasureT-loop
-μ-loop v code k places t done₀ records i₀ done i = count v - i
+μ-loop v code k places t values₀ records i₀ values i = count v - i
 
 set-atoms-requires : tie.Need-set-atoms-requires Inv-loop μ-loop
 set-atoms-requires c κs =
@@ -88,7 +88,7 @@ loop-holds c =
 abbrev start : tie.In-loop Inv-loop μ-loop → tie.Start Inv-loop μ-loop
 start c = c .before .before .before .before .before
 
-good : (c : tie.In-loop Inv-loop μ-loop) → Accepted (now (start c .args .v))
+good : (c : tie.In-loop Inv-loop μ-loop) → AcceptedFacts (now (start c .args .v))
 good c = accepted-vocabulary _ _ (start c .pre .0)
 
 inside : (c : tie.In-loop Inv-loop μ-loop) → c .before .loop .i < recordLimit
@@ -136,8 +136,8 @@ element-copy-out-apply-2 c = first-inside (c .before .before .before)
 element-copy-out-apply-3 : tie.Need-element-copy-out-apply-3 Inv-loop μ-loop
 element-copy-out-apply-3 c = second-inside (c .before .before .before .before)
 
-element-write-done : tie.Need-element-write-done Inv-loop μ-loop
-element-write-done c = inside (c .before .before .before .before .before .before)
+element-write-values : tie.Need-element-write-values Inv-loop μ-loop
+element-write-values c = inside (c .before .before .before .before .before .before)
 
 add-i : tie.Need-add-i Inv-loop μ-loop
 add-i c = omega (arith, inside (c .before .before .before .before .before .before))
@@ -148,7 +148,7 @@ loop-again c =
     let l = in-loop .before .loop in
     let a = start in-loop .args in
     next (now (a .v)) (now (a .code)) (good in-loop) (start in-loop .pre .1 .1 .1 .0) (l .i) (in-loop .loop-test .taken)
-    (a .t) (l .done) (l .inv) _ (c .apply .ensures)
+    (a .t) (l .values) (l .inv) _ (c .apply .ensures)
 
 returns : tie.Need-returns Inv-loop μ-loop
 returns c =
@@ -160,5 +160,5 @@ truths-spec =
     tie.close
     (tie.spec Inv-loop μ-loop set-atoms-requires loop-holds add-first mul-first element-copy-out-first cast-first
     (λ c. omega arith) add-second mul-second-2 element-copy-out-second cast-second mul-apply element-copy-out-apply
-    element-copy-out-apply-2 element-copy-out-apply-3 (λ c κs. search needs) element-write-done add-i (λ c. omega arith)
+    element-copy-out-apply-2 element-copy-out-apply-3 (λ c κs. search needs) element-write-values add-i (λ c. omega arith)
     loop-again returns)

@@ -24,9 +24,9 @@ use Rattle.types.proofs.type_data.describe_types.Tie as tie
 use Rattle.records.specs.Format.{recordLimit}
 use Rattle.types.specs.Comparison.{typeLimit}
 
-record Profiling (v : List ℕ) (a b : ℕ) (done alive differs : List Bool) (held filling : List ℕ) (t : ℕ) : Type 0 where
+record Profiling (v : List ℕ) (a b : ℕ) (values alive differs : List Bool) (held filling : List ℕ) (t : ℕ) : Type 0 where
   within : t ≤ types v
-  done-size : length done ≡ recordLimit
+  values-size : length values ≡ recordLimit
   alive-filled : Filled false typeLimit alive (satisfies v) t
   ends : Ends alive t
   differs-filled : Filled false typeLimit differs (differ v a b) t
@@ -44,11 +44,11 @@ alive-at v alive f e t = at (decLt t (types v))
     at (no h) = e t (omega arith) ∙ sym (table-past (types v) (satisfies v) false t (omega arith))
 
 abbrev Inv-loop : tie.InvT-loop
-Inv-loop v plan code statements done₀ alive₀ differs₀ held₀ filling₀ size t₀ done alive differs held filling t =
-    Profiling v (plan .a) (plan .b) done alive differs held filling t
+Inv-loop v plan code statements values₀ alive₀ differs₀ held₀ filling₀ size t₀ values alive differs held filling t =
+    Profiling v (plan .a) (plan .b) values alive differs held filling t
 
 abbrev μ-loop : tie.MeasureT-loop
-μ-loop v plan code statements done₀ alive₀ differs₀ held₀ filling₀ size t₀ done alive differs held filling t = size - t
+μ-loop v plan code statements values₀ alive₀ differs₀ held₀ filling₀ size t₀ values alive differs held filling t = size - t
 
 shl-size : tie.Need-shl-size Inv-loop μ-loop
 shl-size c = let q = c .before .before .pre .0 .query in omega (arith, q .few, q .counts)
@@ -69,7 +69,7 @@ loop-holds : tie.Need-loop-holds Inv-loop μ-loop
 loop-holds c =
     let blank = c .before .before .pre .1 in record {
       within = omega arith;
-      done-size = blank .done-size;
+      values-size = blank .values-size;
       alive-filled = fill-start _ _ _ _ (blank .vacant .alive-size);
       ends = λ u h. blank .vacant .none u;
       differs-filled = fill-start _ _ _ _ (blank .vacant .differs-size);
@@ -80,7 +80,7 @@ loop-holds c =
 describe-requires : tie.Need-describe-requires Inv-loop μ-loop
 describe-requires c κs =
     let at = c .before .before in
-    (at .before .before .before .pre .0, at .loop .inv .done-size)
+    (at .before .before .before .pre .0, at .loop .inv .values-size)
 
 element-write-alive : tie.Need-element-write-alive Inv-loop μ-loop
 element-write-alive c = in-tables (c .before .before)
@@ -111,7 +111,7 @@ loop-again c =
     let at = in-tables in-loop in
     let e = c .describe .ensures .0 in record {
       within = omega (arith, inside in-loop);
-      done-size = c .describe .ensures .1;
+      values-size = c .describe .ensures .1;
       alive-filled = fill-turn _ _ _ _ _ _ at (w .alive-filled) (ap (λ (p : TypeData). p .satisfies) e);
       ends = ends-turn (l .alive) (l .t) (c .describe .result .satisfies) (w .ends);
       differs-filled = fill-turn _ _ _ _ _ _ at (w .differs-filled) (ap (λ (p : TypeData). p .differs) e);

@@ -14,7 +14,7 @@ use borrow.Author.Tests.{eq-eqb, ne-eqb}
 use Rattle.records.specs.Format.{recordLimit, recordAt, count, firstStatement}
 use Rattle.records.specs.Chain.{nextStatement, chainFrom, chained}
 use Rattle.records.specs.Finite.{occurs}
-use Rattle.records.proofs.Theorems.Accepted.{Accepted, IsStatement, Later, Linked}
+use Rattle.records.proofs.Theorems.Accepted.{AcceptedFacts, IsStatement, Later, Linked}
 use Rattle.records.proofs.Theorems.Chains.{chain-step}
 use Rattle.records.proofs.Theorems.Following.{follow-nil, left, left-falls, onward-from}
 
@@ -28,7 +28,7 @@ unmarked zero i = refl
 unmarked (suc n) zero = refl
 unmarked (suc n) (suc i) = unmarked n i
 
-module _ (v : List ℕ) (good : Accepted v) where
+module _ (v : List ℕ) (good : AcceptedFacts v) where
   pub start : (at : ℕ) → at ≡ firstStatement v → Marking v (replicate recordLimit false) at
   start at e =
       record {

@@ -1,4 +1,4 @@
--- `types::eliminate::list_live` meets its contract. The loop's invariant: the types below `t` that are alive are listed.
+-- `types::eliminate::list_candidates` meets its contract. The loop's invariant: the types below `t` that are alive are listed.
 -- From `size` on there are none.
 -- Assumes nothing.
 use Prim.Native.Nat.{_-_, _≤_, _<_}
@@ -7,14 +7,14 @@ use mathlib.Core.Logic.{⊎-elim}
 use Rattle.types.specs.Comparison.{typeLimit}
 use Rattle.types.proofs.Invariants.Lists.{ListedBelow, list-start, list-more, list-same}
 use Rattle.types.proofs.Invariants.Elimination.{list-enumerates}
-use Rattle.types.proofs.eliminate.list_live.Statement.{statement}
-use Rattle.types.proofs.eliminate.list_live.Tie as tie
+use Rattle.types.proofs.eliminate.list_candidates.Statement.{statement}
+use Rattle.types.proofs.eliminate.list_candidates.Tie as tie
 
 abbrev Inv-loop : tie.InvT-loop
-Inv-loop alive size live₀ left₀ t₀ live left t = (t ≤ size) × ListedBelow typeLimit alive live left t
+Inv-loop alive size candidates₀ left₀ t₀ candidates left t = (t ≤ size) × ListedBelow typeLimit alive candidates left t
 
 abbrev μ-loop : tie.MeasureT-loop
-μ-loop alive size live₀ left₀ t₀ live left t = size - t
+μ-loop alive size candidates₀ left₀ t₀ candidates left t = size - t
 
 loop-holds : tie.Need-loop-holds Inv-loop μ-loop
 loop-holds c = (omega arith, list-start _ _ _ (c .pre .1 .1))
@@ -29,14 +29,14 @@ place c = omega (arith, inside c, c .before .loop .inv .1 .few)
 element-copy-out-if1 : tie.Need-element-copy-out-if1 Inv-loop μ-loop
 element-copy-out-if1 c = inside c
 
-cast-live : tie.Need-cast-live Inv-loop μ-loop
-cast-live c = omega (arith, inside (c .before .before))
+cast-candidates : tie.Need-cast-candidates Inv-loop μ-loop
+cast-candidates c = omega (arith, inside (c .before .before))
 
-mul-live : tie.Need-mul-live Inv-loop μ-loop
-mul-live c = omega (arith, place (c .before .before))
+mul-candidates : tie.Need-mul-candidates Inv-loop μ-loop
+mul-candidates c = omega (arith, place (c .before .before))
 
-element-write-live : tie.Need-element-write-live Inv-loop μ-loop
-element-write-live c = omega (arith, place (c .before .before))
+element-write-candidates : tie.Need-element-write-candidates Inv-loop μ-loop
+element-write-candidates c = omega (arith, place (c .before .before))
 
 add-left : tie.Need-add-left Inv-loop μ-loop
 add-left c = omega (arith, place (c .before .before))
@@ -59,8 +59,8 @@ returns c =
     let start = c .before .before .pre in
     list-enumerates _ _ _ _ (c .before .loop .inv .1) (omega (arith, start .0)) (λ u h. start .1 .0 u (omega arith))
 
-pub list-live-spec : {M : Type 1} → statement M
-list-live-spec =
+pub list-candidates-spec : {M : Type 1} → statement M
+list-candidates-spec =
     tie.close
-    (tie.spec Inv-loop μ-loop loop-holds element-copy-out-if1 cast-live mul-live element-write-live add-left add-t
+    (tie.spec Inv-loop μ-loop loop-holds element-copy-out-if1 cast-candidates mul-candidates element-write-candidates add-left add-t
     (λ c. omega arith) loop-again returns)
