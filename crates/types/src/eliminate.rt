@@ -42,7 +42,7 @@ fn list_masks(
     masks
 }
 
-// The types that fit, in rising order, and how many: no round looks at any other.
+// The types of the set, in rising order, and how many: no round looks at any other.
 fn list_live(
     alive: &[bool; TypeData::TYPES],
     size: usize,

@@ -1,5 +1,5 @@
--- The truth rules as the code keeps them, and the tables it decodes a vocabulary into. No promise to a caller speaks of
--- them: proofs/Connects.antt shows that the rules are the paper's.
+-- The truth rules as the code keeps them, and the tables it decodes a vocabulary into. No promise of the four calls
+-- speaks of them: proofs/Refinement/TruthRules.antt shows that the rules are the paper's.
 use Prim.Native.Nat.{ℕ, _+_, _*_, _<_}
 use mathlib.Core.Path.{_≡_}
 use mathlib.Core.Bool.{Bool, true, false, cond}
@@ -76,6 +76,6 @@ pub record Truths (v : List ℕ) (t : ℕ) (done : List Bool) : Type 0 where
   pub size : length done ≡ recordLimit
   pub truth-at : (i : ℕ) → i < count v → getD done i false ≡ truth v t i
 
--- Each of n listed records is done true.
+-- Each of n listed records is true.
 unfoldable pub holding : List ℕ → List Bool → ℕ → Bool
 holding places done n = allBelow (λ j. getD done (getD places j 0) false) n
