@@ -91,7 +91,8 @@ static inline unsigned judge_refusal(uint64_t answer)
 }
 
 /* Bits 8-39 of a refusal: its place. Refusals 3 to 8: the vocabulary's record; 9 and 10: the number asked for; 11: the
- * number of atoms; 15 to 25: the script's record; the others: 0. */
+ * number of atoms; 15 to 25: the script's record (17: 1 if record 1 is absent; 20: 0 if there is no step);
+ * the others: 0. */
 static inline uint32_t judge_place(uint64_t answer)
 {
     return (uint32_t)(answer >> 8);

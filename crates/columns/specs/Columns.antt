@@ -59,7 +59,7 @@ within m n = record { a = m; b = n }
 abbrev pub queryColumns : Query → List Column
 queryColumns q = (isNot (q .a) a ∷ []) ∷ (is (q .b) a ∷ []) ∷ []
 
--- Record i has columns: "9, chained", and every term.
+-- Whether record i may have columns: a term always, a statement if it is chained ("9, chained").
 abbrev pub states : List ℕ → ℕ → Bool
 states v i = not (isStatement (recordAt v i .kind)) || chained v i
 

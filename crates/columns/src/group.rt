@@ -118,7 +118,7 @@ pub fn group_column(fields: Record, i: u16, n: u16, at: Terms) -> Column
     }
 }
 
-// The size of column n of at most three, which have these; 0 past them.
+// The size of column n, where the columns, at most three, have these sizes; 0 past them.
 pub fn size_at(n: u16, first: usize, second: usize, third: usize) -> usize
     ensures { λ r. ⌜ r ≡ getD (first ∷ second ∷ third ∷ []) n 0 ⌝ }
 {

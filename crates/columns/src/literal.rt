@@ -1,4 +1,4 @@
-// Literals as numbers (specs/Packed.antt).
+// Literals as numbers (specs/Code/Packed.antt).
 ghost use mathlib.Core.Path.{_≡_};
 ghost use mathlib.Core.Bool.{not};
 ghost use Prim.Native.Nat.{_<_};

@@ -21,9 +21,10 @@ use Rattle.demands.specs.Table.{vocabularyTable, recordTable, comparison
 use Rattle.demands.specs.Table.{TermOf, InForm}
 
 -- Demand 1: "Every call ends on every input, refuses unfit input itself by a fixed number and place, and a refusal alters no
--- lent byte." Each call follows its table; otherwise it answers the number of records, the record's offset, the verdict, the
--- number of steps. That a call ends is part of what the prover checks of every function. The comparison alone is lent bytes
--- that it may write; the record call, refused, hands back an empty part.
+-- lent byte." Each call follows its table, and where no row applies answers the number of records, the record's offset, the
+-- verdict, the number of steps. That a call ends is part of what the prover checks of every function. The comparison alone is
+-- lent bytes that it may write; the record call, refused, hands back an empty part. `untouched` and `empty` speak of the
+-- definitions; of the bytes themselves ComparisonReturns and RecordReturns (Returns.antt) and `.exit` in src/lib.rt speak.
 pub record Demand1 : Type 0 where
   pub vocabulary : (v : List ℕ) → Follows (vocabularyTable v) (count v) (vocabularyCheck v)
   pub recording : (v : List ℕ) (number : ℕ) → Follows (recordTable v number) (8 * number) (recordCall v number)
@@ -65,8 +66,9 @@ pub record Shown (I : Interpretation) (v : List ℕ) (a b t : ℕ) : Type 0 wher
   pub never-both : (r s : List ℕ) (m n : ℕ) → queryOf r .a ≡ a → queryOf r .b ≡ b → queryOf s .a ≡ b → queryOf s .b ≡ a
       → scriptCheck v r ≡ accepted m → scriptCheck v s ≡ accepted n → ⊥
 
--- "answers Equal exactly when the terms are equal in every finite interpretation satisfying the statements; otherwise Different,
--- naming an element, and what it wrote, read back as the paper says", shows it.
+-- What makes an answer right, where `after` are the lent bytes after the call: the comparison "answers Equal exactly when the
+-- terms are equal in every finite interpretation satisfying the statements; otherwise Different, naming an element, and what it
+-- wrote, read back as the paper says", is an interpretation as in Shown.
 abbrev pub Right : List ℕ → ℕ → ℕ → List ℕ → Verdict → Type 0
 Right v a b after (equal survivors rounds) = AlwaysEqual v a b
 Right v a b after (different t survivors rounds) = (AlwaysEqual v a b → ⊥) × Shown (readBack v after) v a b t

@@ -20,8 +20,7 @@ use Rattle.scripts.specs.Format.{queryOf, chain}
 use Rattle.scripts.specs.declared.answers.Judged.{Judged}
 use Rattle.scripts.specs.declared.answers.Judged.the-variants as judged
 use Rattle.demands.specs.Table.{vocabularyTable, recordTable, comparisonTable, scriptTable, AcceptedVocabulary}
-use Rattle.demands.specs.Table.{NoneApplies, Refuses}
-use Rattle.demands.specs.Table.{AcceptedVocabulary, InForm}
+use Rattle.demands.specs.Table.{NoneApplies, Refuses, InForm}
 use Rattle.demands.specs.Demands.{ChainDerives, Shown}
 
 -- The vocabulary check "answers the number of records, header included".

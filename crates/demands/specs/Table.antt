@@ -140,7 +140,7 @@ module _ (v s : List ℕ) where
   laterRows frames last [] = row 24 last (not (isNil frames)) ∷ []
   laterRows frames last (i ∷ rest) = stepRows frames i ++ laterRows (framesAfter frames i) i rest
 
-  -- The first step has to be a start, and then none of the others applies to it.
+  -- The first step has to be a start: 20. Before it nothing was opened, so 25 does not apply, and a start meets none of 21 to 23.
   unfoldable pub chainTable : List ℕ → List Row
   chainTable [] = row 20 0 true ∷ []
   chainTable (i ∷ rest) = row 20 i (not (isStart (stepAt s i))) ∷ laterRows (framesAfter [] i) i rest

@@ -15,7 +15,7 @@ follow next (suc n) (suc i) = suc i ∷ follow next n (next (suc i))
 abbrev pub nextStatement : List ℕ → ℕ → ℕ
 nextStatement v i = recordAt v i .next
 
--- The statements from i on; a chain that rises ends before it has as many as there are records (proofs/Chains.antt).
+-- The statements from i on; a chain that rises ends before it has as many as there are records (proofs/Theorems/Chains.antt).
 abbrev pub chainFrom : List ℕ → ℕ → List ℕ
 chainFrom v i = follow (nextStatement v) (count v) i
 

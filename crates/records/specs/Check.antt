@@ -48,7 +48,7 @@ labelled v i label = anyBelow (named v label) i
 abbrev pub termFits : List ℕ → ℕ → ℕ → Bool
 termFits v i x = leb 1 x && (ltb x i && isTerm (recordAt v x .kind))
 
--- "0 [or] a later statement"
+-- Row 8 does not apply: it is "not 0 and not a later statement".
 abbrev pub linkFits : List ℕ → ℕ → ℕ → Bool
 linkFits v i x = eqb x 0 || (ltb i x && (ltb x (count v) && isStatement (recordAt v x .kind)))
 

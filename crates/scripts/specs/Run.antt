@@ -116,7 +116,7 @@ writtenOut v q =
 abbrev pub stepAt : List ℕ → ℕ → Step SkolemTerm
 stepAt s i = stepBy (termAt s) (recordStep s i)
 
--- The order "for a script check [is] 1 to 8, 13, 14, 10, then 15 on"; acceptance goes "with the number of steps".
+-- The order is "for a script check 1 to 8, 13, 14, 10, then 15 on"; acceptance goes "with the number of steps".
 unfoldable pub scriptCheck : List ℕ → List ℕ → Outcome ℕ
 scriptCheck v s =
     vocabularyCheck v

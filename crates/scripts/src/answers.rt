@@ -12,7 +12,7 @@ pub enum Judged {
     Refused { number: u8, place: usize },
 }
 
-// The script check's answer where the vocabulary was refused; with none refused it would be empty.
+// The script check's answer where the vocabulary was refused: called on a refused one only; the other arm is never taken.
 pub fn judge_after_count(vocabulary: Counted) -> Judged
     ensures { λ r. ⌜ judged r ≡ (counted vocabulary then accepted 0) ⌝ }
 {

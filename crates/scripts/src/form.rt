@@ -18,9 +18,10 @@ ghost use Rattle.records.specs.Answers.{checked};
 ghost use Rattle.columns.specs.Columns.{Query};
 ghost use Rattle.columns.specs.Code.Packed.{Marked};
 ghost use Rattle.scripts.specs.Format.{entrySize, entryOf, queryIn, firstStep, extensionOf, lineOf};
-ghost use Rattle.scripts.specs.Form.{lengthFits, headerFits, queryTermsCheck, kindFits, unusedFits, earlierTerm, isFunction};
-ghost use Rattle.scripts.specs.Form.{repeats, repeated, termFits, functionFits, xFits, yFits, extensionFits, lineFits};
-ghost use Rattle.scripts.specs.Form.{rowsCheck, entryCheck, entriesCheck, linkFits, linkCheck, linksCheck, formCheck};
+ghost use Rattle.scripts.specs.Form.{lengthFits, headerFits, queryTermsCheck, kindFits, unusedFits, earlierTerm};
+ghost use Rattle.scripts.specs.Form.{isFunction, repeats, repeated, termFits, functionFits, xFits, yFits, extensionFits};
+ghost use Rattle.scripts.specs.Form.{lineFits, rowsCheck, entryCheck, entriesCheck, linkFits, linkCheck, linksCheck};
+ghost use Rattle.scripts.specs.Form.{formCheck};
 ghost use Rattle.records.specs.Finite.{allZero};
 ghost use Rattle.scripts.specs.Code.Ready.{HasEntry, HasBefore, Begun};
 

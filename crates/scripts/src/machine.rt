@@ -12,8 +12,8 @@ ghost use Rattle.scripts.specs.Run.{close, extendBy};
 ghost use Rattle.scripts.specs.Code.Numbered.{noNumber};
 ghost use Rattle.scripts.specs.Code.Machine.{places, opened, framesOf, Standing, Shows};
 
-// Frame f's literals stand in a table, which is lent (specs/Machine.antt); the first `closed[f]` of them are closed, and
-// the next is its goal. So handing the machine on copies few bytes.
+// Frame f's literals stand in a table, which is lent (specs/Code/Machine.antt); the first `closed[f]` of them are closed,
+// and the next is its goal. So handing the machine on copies few bytes.
 pub struct Machine {
     pub depth: usize,
     pub closed: [u8; Machine::FRAMES],

@@ -50,7 +50,7 @@ fn no_frame(answer: Checked) -> Tested
     }
 }
 
-// Function f at the term of record t as a number (specs/Codes.antt).
+// Function f at the term of record t as a number (specs/Code/Codes.antt).
 fn code_of(f: u16, t: u16) -> u32
     ensures { λ r. ⌜ r ≡ codeOf f t ⌝ }
 {

@@ -29,6 +29,6 @@ unfoldable pub rounds : List ℕ → ℕ
 rounds v = least (λ n. not (removes v (stage v n))) (types v)
 
 -- Survivors, as the paper calls what the rounds leave; that they are the largest set of types at which all statements
--- hold and which serves each of its members is proved (proofs/Largest.antt).
+-- hold and which serves each of its members is proved (proofs/Theorems/Survivors.antt).
 unfoldable pub survivors : List ℕ → List Bool
 survivors v = stage v (rounds v)

@@ -23,7 +23,7 @@ pub enum Compared {
     },
 }
 
-// The comparison's answer where the vocabulary was refused; with none refused it would be empty.
+// The comparison's answer where the vocabulary was refused: called on a refused one only; the other arm is never taken.
 pub fn compare_after_count(vocabulary: Counted) -> Compared
     ensures { λ r. ⌜ compared r ≡ (counted vocabulary then accepted (different 0 0 0)) ⌝ }
 {

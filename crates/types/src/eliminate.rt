@@ -42,7 +42,7 @@ fn list_masks(
     masks
 }
 
-// The types that fit, in rising order, and how many: no round looks at any other.
+// The types of the set, in rising order, and how many: no round looks at any other.
 fn list_candidates(
     alive: &[bool; TypeData::TYPES],
     size: usize,
@@ -79,7 +79,8 @@ fn enter_words(
     requires { ⌜ size ≤ typeLimit ⌝ }
     requires { ⌜ length (now joins) ≡ typeLimit ⌝ }
     ensures { λ _. ⌜ length (now (joins .exit)) ≡ typeLimit ⌝ }
-    ensures { λ _. ⌜ Enters (now (filling .entry)) (now (candidates .entry)) (now (alive .entry)) left size (now (joins .exit)) ⌝ }
+    ensures { λ _. ⌜ Enters (now (filling .entry)) (now (candidates .entry)) (now (alive .entry)) left size
+        (now (joins .exit)) ⌝ }
 {
     clear_words(joins, size);
     let mut j = 0;

@@ -1,4 +1,4 @@
--- What the code computes with: rows 4 to 7 at a record, field by field. No promise to a caller speaks of it.
+-- What the code computes with: rows 4 to 7 at a record, field by field. No promise of the four calls speaks of it.
 use Prim.Native.Nat.{ℕ, _*_, _≤_, min}
 use mathlib.Core.Path.{_≡_}
 use mathlib.Core.Bool.{Bool, cond, _&&_, _||_}
@@ -15,7 +15,8 @@ use Rattle.records.specs.declared.kinds.Sort.{Sort}
 abbrev pub fieldFits : List ℕ → ℕ → Sort → ℕ → Bool
 fieldFits v i sort x = eqb (row sort) 8 || sortFits v i sort x
 
--- Of the fields that do not fit, the smallest row is the first that applies (proofs/Rows.antt); above all rows, where all fit.
+-- Of the fields that do not fit, the smallest row is the first that applies (proofs/Refinement/Rows.antt); above all rows,
+-- where all fit.
 abbrev pub noFault : ℕ
 noFault = 255
 

@@ -6,8 +6,8 @@
 --   open-none, open-some                             a column's literals are the next frame; with none the goal is closed
 --   goal-first, goal-next                            a frame's goal, and whether a literal is open after it, by the table
 --   frames-length, frame-at                          there are as many frames as are asked for; a frame, counted from the start
---   Wrote, frames-write, stands-write                literals written above the frames change none of them
---   frames-push, stands-push                         and are the next frame
+--   written, written-size                            the table after a column's literals were written above the frames
+--   frames-push, stands-push                         they are the next frame, and those under it are as before
 --   frames-none, stands-none, stands-part            no frame; fewer frames
 --   close-drop, close-none, close-last, close-next   the goal closed: no frame, a frame that goes, one that stays
 --   stands-next                                      a frame that stays has a goal

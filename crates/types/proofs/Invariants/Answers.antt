@@ -1,11 +1,12 @@
 -- What a set of types shows: how many there are, the first at which the terms differ, and the bitmap.
---   count-start, count-hit, count-miss          numbers counted, one number further
---   count-bound, count-cong, members-counted    how many there can be; tests that agree; the members of a set
---   inBoth, first-..                            the first number in both of two sets, looked for in order
+--   count-start, count-hit, count-miss              numbers counted, one number further
+--   count-bound, count-cong, members-counted        how many there can be; tests that agree; the members of a set
+--   inBoth, first-..                                the first number in both of two sets, looked for in order
 --   tableOver, over-start, over-turn, over-length   a table written over the front of a list
---   alive-counted, alive-first, alive-bitmap      what a table that holds the survivors shows of them
---   size-word, verdict-same, byte-none   the number of types, the verdict and an empty byte as the code makes them
---   cleared-start, cleared-length, cleared-turn, cleared-over   zeros written over the front of a list
+--   alive-counted, alive-first, alive-bitmap        what a table that holds the survivors shows of them
+--   size-word, verdict-same, byte-none              the number of types, the verdict and an empty byte as the code makes them
+--   cleared-start, cleared-length, cleared-turn     zeros written into a list, from a place on
+--   cleared-over                                    zeros after a table, where it has zeros itself
 -- Assumes nothing.
 use Prim.Native.Nat.{ℕ, zero, suc, _+_, _-_, _*_, _%_, _^_, _≤_, _<_}
 use native.Mathlib.Omega.{arith}

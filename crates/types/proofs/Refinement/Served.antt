@@ -28,7 +28,8 @@ use Rattle.types.proofs.Refinement.Allowed.{allowed-inside, inside-allo
 use Rattle.types.proofs.Refinement.Words.{Fills, restrictionWord-bit, fillerWord-bit, otherRoleWord-bit}
 use Rattle.types.proofs.Refinement.Words.{otherRoleWord-small, reached-small, joins-intro, joins-elim, joins-small}
 
--- joined or other, held or other: the same, if they are where the restriction is no other's
+-- c or o is d or o, if c entails d or o, and, where o is false, d entails c. At a restriction's bit: c is the join's, d that of
+-- what holds at the type, o whether the restriction is of another role.
 agree : (c o d : Bool) → (c ≡ true → (d || o) ≡ true) → (o ≡ false → d ≡ true → c ≡ true) → (c || o) ≡ (d || o)
 agree c true d f g = or-true c ∙ sym (or-true d)
 agree true false true f g = refl

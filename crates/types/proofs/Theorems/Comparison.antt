@@ -1,4 +1,4 @@
--- The comparison's answer is right, on every vocabulary, for every pair of terms: demand 3, as far as this crate goes.
+-- The comparison's answer is right wherever it answers: demand 3, as far as this crate goes.
 --   equal-exactly       Equal is answered exactly where the two terms are equal in every model
 --   written-survivors   the survivors are the elements of the interpretation written, a model if there is one
 --   different-shown     with Different, it is a model in which the element named belongs to one of the two terms alone

@@ -1,11 +1,13 @@
 -- What a verdict rests on.
---   Term, Answered, answered                        where the comparison answers, no row refused
---   answers-always                                  where no row refuses, it answers
---   Decided, decided                                Equal if no survivor distinguishes the terms, else Different with the first
---   First, named-first                              the element that Different names
---   distinguishes-survivor, distinguishes-differ, indistinct-same    what a type that distinguishes the terms is
---   indistinct-equal                                  terms that no survivor distinguishes are equal in every model
---   Apart, distinguishes-shown, distinguishes-unequal             terms that a survivor distinguishes are apart
+--   Term, Answered, answered                       where the comparison answers, no row refused
+--   answers-always                                 where no row refuses, it answers
+--   Decided, decided                               Equal if no survivor distinguishes the terms, else Different with the first
+--   First, named-first                             the element that Different names
+--   distinguishes-survivor, distinguishes-differ   a type that distinguishes the terms survives, and they differ at it
+--   indistinct-same                                at a survivor that does not, they have the same truth
+--   indistinct-equal                               terms that no survivor distinguishes are equal in every model
+--   Apart, distinguishes-shown                     terms that a survivor distinguishes are apart in the interpretation written
+--   distinguishes-unequal                          and so they are not equal in every model
 -- Assumes nothing.
 use Prim.Native.Nat.{ℕ, _≤_, _<_}
 use native.Mathlib.Omega.{arith}
@@ -101,7 +103,7 @@ never-not : (a : Bool) → a ≡ not a → ⊥
 never-not true e = clash (cc)
 never-not false e = clash (cc)
 
--- No survivor parts the terms and the answer is Equal, or there is a smallest one and it is named.
+-- No survivor distinguishes the terms and the answer is Equal, or there is a smallest one and it is named.
 pub data Decided (v : List ℕ) (a b : ℕ) (x : Verdict) : Type 0 where
   same : ((t : ℕ) → t < types v → distinguishes v a b t ≡ false) → x ≡ equal (members (survivors v)) (rounds v) → Decided v a b x
   apart : firstDistinguishing v a b < types v → x ≡ different (firstDistinguishing v a b) (members (survivors v)) (rounds v)
@@ -121,7 +123,7 @@ verdict-decided v a b x e = at (ltb (firstDistinguishing v a b) (types v)) refl 
 pub decided : (v : List ℕ) (a b lent : ℕ) (x : Verdict) → comparison v a b lent ≡ accepted x → Decided v a b x
 decided v a b lent x e = verdict-decided v a b x (answered v a b lent x e .answer)
 
--- t is the smallest survivor that parts the terms.
+-- t is the smallest survivor that distinguishes the terms.
 pub record First (v : List ℕ) (a b t : ℕ) : Type 0 where
   pub differs : distinguishes v a b t ≡ true
   pub before : (u : ℕ) → u < t → distinguishes v a b u ≡ false
@@ -134,7 +136,7 @@ named-first v a b t s n (apart l q) =
     record { differs = least-holds (types v) (distinguishes v a b) l; before = least-before (types v) (distinguishes v a b) }
 
 module _ (v : List ℕ) (a b : ℕ) where
-  -- what a survivor that parts the terms is
+  -- what a survivor that distinguishes the terms is
   pub distinguishes-survivor : (t : ℕ) → distinguishes v a b t ≡ true → has (survivors v) t ≡ true
   distinguishes-survivor t h = both-left (has (survivors v) t) (not (Bool·beq (truth v t a) (truth v t b))) h
 
@@ -159,7 +161,7 @@ module _ (v : List ℕ) (good : AcceptedFacts v) (a b : ℕ) where
       ∙ indistinct-same v a b t (none t (type-small I v d)) (type-survives v good I model d at)
       ∙ type-agrees v good I d b
 
-  -- terms that a survivor parts are apart in the interpretation written
+  -- terms that a survivor distinguishes are apart in the interpretation written
   pub distinguishes-shown : atoms v ≤ atomLimit → (t : ℕ) → distinguishes v a b t ≡ true → (rest : List ℕ)
       → Apart (readBack v (bitmap v ++ rest)) v a b t
   distinguishes-shown few t h rest =

@@ -1,5 +1,5 @@
--- The truth rules as the code keeps them, and the tables it decodes a vocabulary into. No promise to a caller speaks of
--- them: proofs/Connects.antt shows that the rules are the paper's.
+-- The truth rules as the code keeps them, and the tables it decodes a vocabulary into. No promise of the four calls
+-- speaks of them: proofs/Refinement/TruthRules.antt shows that the rules are the paper's.
 use Prim.Native.Nat.{ℕ, _+_, _*_, _<_}
 use mathlib.Core.Path.{_≡_}
 use mathlib.Core.Bool.{Bool, true, false, cond}

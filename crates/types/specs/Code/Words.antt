@@ -1,5 +1,5 @@
--- The words by which the code tests `served`, and the table it keeps of them. No promise to a caller speaks of them:
--- proofs/Served.antt shows that the test is the paper's.
+-- The words by which the code tests `served`, and the table it keeps of them. No promise of the four calls speaks of
+-- them: proofs/Refinement/Served.antt shows that the test is the paper's.
 use Prim.Native.Nat.{ℕ, zero, suc, _-_, _^_, _≤_, _<_}
 use mathlib.Core.Path.{_≡_}
 use mathlib.Core.Bool.{Bool, true, false, cond, not, _&&_, _||_}
@@ -55,10 +55,11 @@ presentWord v S x = cond (anyBelow (λ s. has S s && eqb (fillerWord v s) x) (ty
 abbrev pub joins : List ℕ → List Bool → ℕ → ℕ
 joins v S x = zeta (presentWord v S) (width v) x
 
--- What t needs by restrictions of role r is met: the join of the words allowed for it has them all.
+-- The restrictions that hold at t, and all those of other roles than r.
 abbrev pub reached : List ℕ → ℕ → ℕ → ℕ
 reached v t r = bitOr (restrictionWord v t) (otherRoleWord v r)
 
+-- What t needs by restrictions of role r is met: the join of the words allowed for it has them all.
 abbrev pub roleServed : List ℕ → List Bool → ℕ → ℕ → Bool
 roleServed v S t r = eqb (bitOr (joins v S (reached v t r)) (otherRoleWord v r)) (reached v t r)
 
