@@ -38,11 +38,4 @@ returns-2 c = (
 pub judge-check-vocabulary-spec : {M : Type 1} → statement M
 judge-check-vocabulary-spec =
     tie.close
-    (tie.spec
-    (λ c κs. search needs)
-    (λ c. search needs)
-    pack-requires
-    (λ c. search needs)
-    pack-requires-2
-    returns
-    returns-2)
+    (tie.spec (λ c κs. search needs) (λ c. search needs) pack-requires (λ c. search needs) pack-requires-2 returns returns-2)

@@ -62,17 +62,5 @@ returns-3 c =
 pub judge-compare-spec : {M : Type 1} → statement M
 judge-compare-spec =
     tie.close
-    (tie.spec
-    (λ c κs. search needs)
-    (λ c. search needs)
-    pack-verdict-requires
-    (λ c. search needs)
-    pack-verdict-requires-2
-    (λ c. search needs)
-    pack-requires
-    (λ c. search needs)
-    returns
-    (λ c. search needs)
-    returns-2
-    (λ c. search needs)
-    returns-3)
+    (tie.spec (λ c κs. search needs) (λ c. search needs) pack-verdict-requires (λ c. search needs) pack-verdict-requires-2
+    (λ c. search needs) pack-requires (λ c. search needs) returns (λ c. search needs) returns-2 (λ c. search needs) returns-3)

@@ -41,11 +41,4 @@ returns-2 c = (
 pub judge-record-spec : {M : Type 1} → statement M
 judge-record-spec =
     tie.close
-    (tie.spec
-    (λ c κs. search needs)
-    (λ c. search needs)
-    pack-requires
-    (λ c. search needs)
-    pack-requires-2
-    returns
-    returns-2)
+    (tie.spec (λ c κs. search needs) (λ c. search needs) pack-requires (λ c. search needs) pack-requires-2 returns returns-2)
