@@ -10,7 +10,8 @@ ghost use Prim.Native.Nat.{ℕ};
 ghost use lib.ListN.{length, getD};
 ghost use Rattle.records.specs.Kinds.{constructOf, negation, inclusion};
 ghost use Rattle.columns.specs.Columns.{columnsOf, takesY};
-ghost use Rattle.columns.specs.Code.Packed.{SmallTerms, packedBy, literals, constantGroup, junctionGroup, restrictionGroup};
+ghost use Rattle.columns.specs.Code.Packed.{SmallTerms, packedBy, literals, constantGroup, junctionGroup};
+ghost use Rattle.columns.specs.Code.Packed.{restrictionGroup};
 
 // Top and bottom.
 fn constant_column(sign: bool, i: u16, n: u16, at: Terms) -> Column

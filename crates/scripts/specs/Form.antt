@@ -11,8 +11,8 @@ use Rattle.records.specs.Kinds.{isRestriction}
 use Rattle.types.specs.Comparison.{termCheck}
 use Rattle.columns.specs.Columns.{Query, Column, columnAt, takesY}
 use Rattle.scripts.specs.Steps.{Extension, Step, start, extension, reduction}
-use Rattle.scripts.specs.Format.{entrySize, entryLimit, entryAt, entries, queryOf, firstStep, Line, blank, theConstant, applied}
-use Rattle.scripts.specs.Format.{step, kindOf, lineOf, isTerm, isStep, nextStep}
+use Rattle.scripts.specs.Format.{entrySize, entryLimit, entryAt, entries, queryOf, firstStep, Line, blank, theConstant}
+use Rattle.scripts.specs.Format.{applied, step, kindOf, lineOf, isTerm, isStep, nextStep}
 use Rattle.scripts.specs.declared.entry.Entry.{Entry}
 
 -- Row 13: "under 16, over 32,768 or no multiple of 16"; "at most 2,048 records"

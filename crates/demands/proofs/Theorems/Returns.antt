@@ -31,8 +31,8 @@ use Rattle.scripts.specs.Answers as scripts
 use Rattle.scripts.specs.declared.answers.Judged.{Judged}
 use Rattle.scripts.specs.declared.answers.Judged.the-variants as judged
 use Rattle.scripts.proofs.Theorems.Scripts.{checked-parts, accepted-derives, accepted-within}
-use Rattle.demands.specs.Returns.{VocabularyReturns, OffsetReturns, RecordReturns, handed, empty, EitherAnswer}
-use Rattle.demands.specs.Returns.{Smallest, ComparisonReturns, ScriptReturns}
+use Rattle.demands.specs.Returns.{VocabularyReturns, OffsetReturns, RecordReturns, handed, empty, EitherAnswer, Smallest}
+use Rattle.demands.specs.Returns.{ComparisonReturns, ScriptReturns}
 use Rattle.demands.proofs.Theorems.Demands.{demand-2}
 use Rattle.demands.proofs.Theorems.Tables.{vocabulary-follows, record-follows, comparison-follows, script-follows}
 use Rattle.demands.proofs.Theorems.Denials.{right-verdict}

@@ -24,8 +24,8 @@ use Rattle.scripts.specs.Run.{isStart, connects, reduces, hasRoom, stepCheck, r
 use Rattle.demands.specs.Table.{Row, Follows, recordRows, nextRows, vocabularyTable, recordTable, termRow}
 use Rattle.demands.specs.Table.{comparisonTable, entryRows, nextStepRows, formTable, OpenFrames, framesAfter, stepRows}
 use Rattle.demands.specs.Table.{laterRows, chainTable, scriptTable, TermOf, InForm}
-use Rattle.demands.proofs.Laws.Rows.{then-assoc, none-passed, row-passed, Tries, follows, tries-append, tries-row, tries-plain}
-use Rattle.demands.proofs.Laws.Rows.{tries-last, tries-in-turn}
+use Rattle.demands.proofs.Laws.Rows.{then-assoc, none-passed, row-passed, Tries, follows, tries-append, tries-row}
+use Rattle.demands.proofs.Laws.Rows.{tries-plain, tries-last, tries-in-turn}
 
 -- what comes after the vocabulary check comes after its rows
 after-count : {B C : Type 0} (v : List ℕ) (b : Outcome B) (c : Outcome C)
@@ -65,7 +65,8 @@ module _ (v : List ℕ) where
   unfolding recordCall
   record-follows number =
       let known = ltb number (count v) in
-      follows (tries-row (lengthFits v) 1 0 (tries-last known 9 number)) (sym (then-assoc (lengthCheck v) (require known 9 number) _))
+      follows (tries-row (lengthFits v) 1 0 (tries-last known 9 number))
+      (sym (then-assoc (lengthCheck v) (require known 9 number) _))
 
   term-is : (x : ℕ) {rows : List Row} {c : Check} → Tries rows c → Tries (termRow v x ∷ rows) (termCheck v x then c)
   term-is x = tries-row (ltb x (count v) && isTerm (recordAt v x .kind)) 10 x
@@ -92,7 +93,8 @@ module _ (v s : List ℕ) where
   unfolding script.formCheck script.linkCheck
   tries-form =
       let entered = tries-in-turn (entryRows v s) (script.entryCheck v s) (entries s - 1) 1 tries-entry in
-      let linked = tries-in-turn (nextStepRows s) (script.linkCheck s) (entries s - 1) 1 (λ i. tries-last (script.nextFits s i) 19 i) in
+      let linked = tries-in-turn (nextStepRows s) (script.linkCheck s) (entries s - 1) 1
+      (λ i. tries-last (script.nextFits s i) 19 i) in
       let b = queryOf s .b in
       let asked = term-is v (queryOf s .a) (tries-last (ltb b (count v) && isTerm (recordAt v b .kind)) 10 b) in
       tries-row (script.lengthFits s) 13 0

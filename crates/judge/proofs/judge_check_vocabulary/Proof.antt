@@ -31,7 +31,8 @@ returns c = (
 
 returns-2 : tie.Need-returns-2
 returns-2 c = (
-  rw (← c .before .before .before .before .check-vocabulary .ensures .0, c .before .before .answer2 .given .1) (c .pack2 .ensures),
+  rw (← c .before .before .before .before .check-vocabulary .ensures .0, c .before .before .answer2 .given .1)
+      (c .pack2 .ensures),
   refl,
 )
 

@@ -22,9 +22,9 @@ use Rattle.records.specs.Kinds.{Construct, none, top, bottom, name, nega
 use Rattle.records.specs.Kinds.{universal, inclusion, sorts, negationFields, restrictionFields, Class, Silent, Connective}
 use Rattle.records.specs.Kinds.{Name, Restriction, Statement, Kind, noKind, kinds, kindOf, sortsOf, isTerm, isStatement}
 use Rattle.records.specs.Kinds.{Sorts}
-use Rattle.records.specs.Check.{firstStatementCheck, lengthFits, lengthCheck, headerFits, headerCheck, kindCheck, named, labelled}
-use Rattle.records.specs.Check.{termFits, linkFits, rowsCheck, recordCheck, nextFits, linkCheck, linksCheck, IsWellFormed}
-use Rattle.records.specs.Check.{recordsCheck, vocabularyCheck}
+use Rattle.records.specs.Check.{firstStatementCheck, lengthFits, lengthCheck, headerFits, headerCheck, kindCheck, named}
+use Rattle.records.specs.Check.{labelled, termFits, linkFits, rowsCheck, recordCheck, nextFits, linkCheck, linksCheck}
+use Rattle.records.specs.Check.{IsWellFormed, recordsCheck, vocabularyCheck}
 use Rattle.records.specs.Code.Fields.{fieldFits}
 use Rattle.records.specs.declared.fields.Record.{Record}
 use Rattle.records.specs.declared.kinds.Sort.{Sort}

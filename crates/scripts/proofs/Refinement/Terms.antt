@@ -33,8 +33,8 @@ use Rattle.records.proofs.Laws.InOrder.{in-order}
 use Rattle.columns.specs.Literals.{SkolemTerm, constant, apply, sameTerm}
 use Rattle.columns.specs.Code.Packed.{termLimit}
 use Rattle.columns.proofs.Theorems.Literals.{sameTerm-true, sameTerm-refl}
-use Rattle.scripts.specs.Format.{entrySize, entryAt, entries, Line, blank, theConstant, applied, step, Kind, kindOf, lineAt}
-use Rattle.scripts.specs.Format.{isTerm, termOf, termAt}
+use Rattle.scripts.specs.Format.{entrySize, entryAt, entries, Line, blank, theConstant, applied, step, Kind, kindOf}
+use Rattle.scripts.specs.Format.{lineAt, isTerm, termOf, termAt}
 use Rattle.records.specs.Finite.{allZero}
 use Rattle.scripts.specs.Form.{unusedFits, earlierTerm, isFunction, repeats, repeated, isConstant, functionFits, termFits}
 use Rattle.scripts.specs.Code.Codes.{functionLimit, codeOf, codeAt, codeTerm}

@@ -29,8 +29,9 @@ use Rattle.records.proofs.Laws.Lists.{All, all-occurring}
 use Rattle.types.specs.Comparison.{termCheck}
 use Rattle.columns.specs.Columns.{columnAt, takesY}
 use Rattle.scripts.specs.Steps.{Step, start, extension, reduction, stepBy}
-use Rattle.scripts.specs.Format.{entrySize, entryLimit, entryAt, entries, queryOf, firstStep, Line, blank, theConstant, applied}
-use Rattle.scripts.specs.Format.{step, lineOf, lineAt, isStep, stepOf, recordStep, nextStep, chainFrom, chain, termAt}
+use Rattle.scripts.specs.Format.{entrySize, entryLimit, entryAt, entries, queryOf, firstStep, Line, blank, theConstant}
+use Rattle.scripts.specs.Format.{applied, step, lineOf, lineAt, isStep, stepOf, recordStep, nextStep, chainFrom, chain}
+use Rattle.scripts.specs.Format.{termAt}
 use Rattle.scripts.specs.Form.{lengthFits, lengthCheck, headerFits, headerCheck, queryTermsCheck, kindFits, unusedFits}
 use Rattle.scripts.specs.Form.{termFits, stepFits, lineFits, xFits, yFits, rowsCheck, entryCheck, entriesCheck, linkFits}
 use Rattle.scripts.specs.Form.{nextFits, linkCheck, linksCheck, formCheck}

@@ -37,7 +37,8 @@ list-enumerates S types left t l h ends =
     at u m (yes k) = l .finds u k m
     at u m (no k) = let none = ends u (omega arith) in absurd (clash (cc))
 
-pub enumerates-less : (candidates : List ℕ) (left : ℕ) (S R : List Bool) → Within R S → Enumerates candidates left S → Enumerates candidates left R
+pub enumerates-less : (candidates : List ℕ) (left : ℕ) (S R : List Bool) → Within R S → Enumerates candidates left S
+    → Enumerates candidates left R
 enumerates-less candidates left S R less c =
     record { few = c .few; inside = c .inside; finds = λ t h. c .finds t (less t h) }
 

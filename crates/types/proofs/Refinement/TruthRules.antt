@@ -86,13 +86,15 @@ agree f g h true true = h .3
 
 -- where an atom's own place has its truth already
 pub rule-evaluates : (r : Record) (n : ℕ) (f : ℕ → Bool)
-    → select (ruleOf (r .kind)) (f (firstOperandOf (r .kind) (r .a) n)) (f (secondOperandOf (r .kind) (r .b))) ≡ evaluate (constructOf r)
+    → select (ruleOf (r .kind)) (f (firstOperandOf (r .kind) (r .a) n)) (f (secondOperandOf (r .kind) (r .b))) ≡ evaluate
+    (constructOf r)
     (f n) f
 unfolding kindOf shapeOf select bit
 rule-evaluates r n f = at (decLt (r .kind) 10)
   where
     RuleHolds : ℕ → Type 0
-    RuleHolds k = select (ruleOf k) (f (firstOperandOf k (r .a) n)) (f (secondOperandOf k (r .b))) ≡ evaluate (kindOf k .says r) (f n) f
+    RuleHolds k = select (ruleOf k) (f (firstOperandOf k (r .a) n)) (f (secondOperandOf k (r .b))) ≡ evaluate (kindOf k .says r)
+        (f n) f
 
     never : (x y : Bool) → select 0 x y ≡ false
     never = agree (select 0) (λ x y. false) (refl, refl, refl, refl)

@@ -44,7 +44,8 @@ pub record Eliminating (v : List ℕ) (bits : ℕ) (masks held candidates : List
 -- x itself where one of the first n types listed is in the set and has it as its word of fillers, else 0; a table of that
 -- below a bound.
 abbrev pub presentAmong : List ℕ → List ℕ → List Bool → ℕ → ℕ → ℕ
-presentAmong filling candidates S n x = cond (anyBelow (λ i. has S (getD candidates i 0) && eqb (getD filling (getD candidates i 0) 0) x) n) x 0
+presentAmong filling candidates S n x = cond
+    (anyBelow (λ i. has S (getD candidates i 0) && eqb (getD filling (getD candidates i 0) 0) x) n) x 0
 
 abbrev pub Enters : List ℕ → List ℕ → List Bool → ℕ → ℕ → List ℕ → Type 0
 Enters filling candidates S n words table = (x : ℕ) → x < words → getD table x 0 ≡ presentAmong filling candidates S n x

@@ -59,7 +59,8 @@ codeLength = 3 * recordLimit
 pub record Decoded (v code : List ℕ) : Type 0 where
   pub rule-at : (i : ℕ) → i < count v → getD code i 0 ≡ ruleOf (recordAt v i .kind)
   pub first-at : (i : ℕ) → i < count v → getD code (recordLimit + i) 0 ≡ firstOperandOf (recordAt v i .kind) (recordAt v i .a) i
-  pub second-at : (i : ℕ) → i < count v → getD code (2 * recordLimit + i) 0 ≡ secondOperandOf (recordAt v i .kind) (recordAt v i .b)
+  pub second-at : (i : ℕ) → i < count v → getD code (2 * recordLimit + i) 0 ≡ secondOperandOf (recordAt v i .kind)
+      (recordAt v i .b)
 
 -- A list of the atoms' places: that of atom j is entry j.
 pub record AtomsListed (v places : List ℕ) : Type 0 where

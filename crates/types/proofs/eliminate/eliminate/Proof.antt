@@ -18,7 +18,8 @@ use Rattle.types.proofs.Theorems.Survivors.{types-bound}
 use Rattle.types.proofs.eliminate.eliminate.Statement.{statement}
 use Rattle.types.proofs.eliminate.eliminate.Tie as tie
 
-record Standing (v : List ℕ) (bits : ℕ) (masks held candidates : List ℕ) (left : ℕ) (joins : List ℕ) (alive : List Bool) (done : ℕ)
+record Standing (v : List ℕ) (bits : ℕ) (masks held candidates : List ℕ) (left : ℕ) (joins : List ℕ) (alive : List Bool)
+    (done : ℕ)
     : Type 0 where
   state : Eliminating v bits masks held candidates left alive
   stage : AtStage v alive done

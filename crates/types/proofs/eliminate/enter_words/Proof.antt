@@ -13,7 +13,8 @@ use Rattle.types.proofs.eliminate.enter_words.Statement.{statement}
 use Rattle.types.proofs.eliminate.enter_words.Tie as tie
 
 abbrev Inv-loop : tie.InvT-loop
-Inv-loop filling alive candidates left size joins₀ j₀ joins j = (j ≤ left) × Entered filling candidates alive typeLimit size joins j
+Inv-loop filling alive candidates left size joins₀ j₀ joins j =
+    (j ≤ left) × Entered filling candidates alive typeLimit size joins j
 
 abbrev μ-loop : tie.MeasureT-loop
 μ-loop filling alive candidates left size joins₀ j₀ joins j = left - j

@@ -62,5 +62,6 @@ returns c =
 pub list-candidates-spec : {M : Type 1} → statement M
 list-candidates-spec =
     tie.close
-    (tie.spec Inv-loop μ-loop loop-holds element-copy-out-if1 cast-candidates mul-candidates element-write-candidates add-left add-t
+    (tie.spec Inv-loop μ-loop loop-holds element-copy-out-if1 cast-candidates mul-candidates element-write-candidates add-left
+    add-t
     (λ c. omega arith) loop-again returns)

@@ -52,7 +52,8 @@ module _ (v code : List ℕ) (good : AcceptedFacts v) (d : Decoded v code) (i : 
         ∙ ap₂ (λ (m n : ℕ). select (ruleOf (recordAt v i .kind)) (getD values m false) (getD values n false))
         (d .first-at i h) (d .second-at i h)
         ∙ rule-evaluates (recordAt v i) i (λ j. getD values j false)
-        ∙ evaluate-cong i (constructOf (recordAt v i)) (getD values i false) (bit t (rank v i)) (λ j. getD values j false) (truth v t)
+        ∙ evaluate-cong i (constructOf (recordAt v i)) (getD values i false) (bit t (rank v i)) (λ j. getD values j false)
+        (truth v t)
         (λ a. f .waiting i (omega arith) h (construct-atom (recordAt v i) ∙ a)) (construct-earlier v good i) (f .filled .right)
         ∙ sym (truth-eq v good t i)
 
