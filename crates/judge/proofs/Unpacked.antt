@@ -19,7 +19,8 @@ use Rattle.records.proofs.Laws.Tests.{clash}
 use Rattle.types.specs.Comparison.{Verdict, equal, different, comparison}
 use Rattle.scripts.specs.Run.{scriptCheck}
 use Rattle.demands.proofs.Theorems.Bounds.{Small, SmallVerdict, vocabulary-small, record-small, most, comparison-small}
-use Rattle.demands.proofs.Theorems.Bounds.{mostPlace, script-small, query-below}
+use Rattle.demands.proofs.Theorems.Bounds.{mostPlace, script-small}
+use Rattle.scripts.proofs.Theorems.Form.{query-below}
 use Rattle.judge.specs.Packed.{numberOf, valueOf, packed, packedVerdict}
 
 pub record Unpacked (o : Outcome ℕ) : Type 0 where

@@ -1,8 +1,8 @@
 -- A list of rows as a check, and what follows from that.
---   first                                                    the refusal of the first row that applies
---   Tries, tries-append, tries-row, tries-plain, tries-last, tries-in-turn   rows are the checks that they are made of
---   none-passed, row-passed, refuses-first                   no row applies; a row does not; the first that applies
---   follows                                                  a call that tries its rows and then has a value follows them
+--   first                                    the refusal of the first row that applies
+--   Tries, tries-append, .., tries-in-turn   rows are the checks that they are made of
+--   none-passed, row-passed, refuses-first   no row applies; a row does not; the first that applies
+--   follows                                  a call that tries its rows and then has a value follows them
 -- Assumes nothing.
 use Prim.Native.Nat.{ℕ, zero, suc}
 use mathlib.Core.Path.{_≡_, refl, sym, ap, _∙_}
@@ -10,15 +10,12 @@ use mathlib.Core.Bool.{Bool, true, false, not}
 use mathlib.Core.List.{List, [], _∷_, _++_}
 use Rattle.records.specs.Outcome.{Outcome, Check, accepted, refused, pass, _then_, require, inTurn}
 use Rattle.records.proofs.Laws.Tests.{clash}
+use Rattle.records.proofs.Laws.Checks.{then-assoc}
 use Rattle.demands.specs.Table.{Row, row, rowsInTurn, NoneApplies, Refuses, Follows}
 
 abbrev pub first : List Row → Check
 first [] = pass
 first (r ∷ rows) = require (not (r .applies)) (r .number) (r .place) then first rows
-
-pub then-assoc : {A B C : Type 0} (a : Outcome A) (b : Outcome B) (c : Outcome C) → ((a then b) then c) ≡ (a then b then c)
-then-assoc (accepted x) b c = refl
-then-assoc (refused n p) b c = refl
 
 first-then : (xs ys : List Row) → first (xs ++ ys) ≡ (first xs then first ys)
 first-then [] ys = refl

@@ -5,15 +5,13 @@
 --   refusal-near, small                     so a refusal is near, and with a small value the answer small
 --   vocabulary-small, record-small          the count or place is at most 512; the offset or place 4,096 or the number
 --   most, comparison-small                  the verdict's numbers are at most 2^12
---   mostPlace, script-small, query-below    the steps or place are at most 2,048, or a number of the query, of 16 bits
+--   mostPlace, script-small                 the steps or place are at most 2,048, or a number of the query
 -- Assumes nothing.
 use Prim.Native.Nat.{ℕ, zero, suc, _+_, _-_, _*_, _≤_, _<_, max}
 use native.Mathlib.Omega.{arith}
-use mathlib.Core.Path.{_≡_, refl, sym, subst, _∙_}
+use mathlib.Core.Path.{_≡_, refl, sym, _∙_}
 use mathlib.Core.Bool.{Bool, true, false, not}
 use mathlib.Core.List.{List, [], _∷_, _++_, tail}
-use lib.ListN.{getD, drop}
-use lib.Seq.{getD-take, getD-drop}
 use lib.Dec.{ltb}
 use borrow.Author.Tests.{ltb-true}
 use Rattle.records.specs.Outcome.{Outcome, Check, accepted, refused, _then_, require}
@@ -26,15 +24,11 @@ use Rattle.records.proofs.Theorems.Accepted.{Sized, length-passed}
 use Rattle.records.proofs.Laws.Checks.{require-passed}
 use Rattle.records.proofs.Laws.Lists.{All}
 use Rattle.records.proofs.Theorems.Ranks.{rank-bound}
-use Rattle.records.specs.Finite.{members}
-use Rattle.types.specs.Types.{types}
-use Rattle.types.specs.Survivors.{rounds, survivors}
 use Rattle.types.specs.Comparison.{Verdict, equal, different, typeLimit, comparison}
-use Rattle.records.proofs.Laws.Sets.{members-bound}
-use Rattle.types.proofs.Theorems.Survivors.{types-bound, stage-length, survivors-serving}
+use Rattle.types.proofs.Theorems.Survivors.{types-bound, survivors-serving, survivors-few}
 use Rattle.types.proofs.Theorems.Verdicts.{answered}
 use Rattle.types.proofs.Theorems.Comparison.{counts, different-first}
-use Rattle.scripts.specs.Format.{entrySize, entryLimit, partAt, entryAt, entries, queryOf, firstStep, chain}
+use Rattle.scripts.specs.Format.{entryLimit, entries, queryOf, firstStep, chain}
 use Rattle.scripts.specs.Form as script
 use Rattle.scripts.specs.Run.{scriptCheck}
 use Rattle.scripts.proofs.Theorems.Form.{OnChain, KeepsForm, length-sized, keeps-form, chain-ahead, chain-few}
@@ -179,10 +173,6 @@ record-small v n =
     let below = ltb-true n (count v) (require-passed (ltb n (count v)) 9 n (row-passed (ltb n (count v)) 9 n (none .1 .0))) in
     omega arith)
 
-members-types : (v : List ℕ) → members (survivors v) ≤ types v
-unfolding survivors
-members-types v = omega (arith, members-bound (survivors v), stage-length v (rounds v))
-
 module _ (v : List ℕ) (a b lent : ℕ) where
   abbrev pub most : ℕ
   most = max recordLimit (max a b)
@@ -191,13 +181,13 @@ module _ (v : List ℕ) (a b lent : ℕ) where
   answer-small (equal s n) e =
       let few = types-bound v (answered v a b lent (equal s n) e .few) in
       let c = counts v a b lent (equal s n) e in
-      (omega (arith, c .0, members-types v), omega (arith, c .2))
+      (omega (arith, c .0, survivors-few v), omega (arith, c .2))
   answer-small (different t s n) e =
       let few = types-bound v (answered v a b lent (different t s n) e .few) in
       let c = counts v a b lent (different t s n) e in
       let first = different-first v a b lent t s n e in (
         omega (arith, survivors-serving v .small t (first .0)),
-        omega (arith, c .0, members-types v),
+        omega (arith, c .0, survivors-few v),
         omega (arith, c .2),
       )
 
@@ -243,15 +233,3 @@ script-small v s =
     let chained = chain-within m s (chain s) (omega (arith, f .sized .most)) (chain-ahead v s f) in
     near-bounded m (chainTable v s (chain s)) (chain-near m v s (chain s) chained)))
     (λ none. omega (arith, kept-form v s (none-left begun _ none) .sized .most, chain-few s (firstStep s)))
-
-header-byte : (s : List ℕ) (i : ℕ) → i < entrySize → ((j : ℕ) → getD s j 0 < 256) → getD (partAt s 0) i 0 < 256
-header-byte s i h bytes =
-    let e = getD-take entrySize (drop (entrySize * 0) s) i 0 h ∙ getD-drop (entrySize * 0) s i 0 in
-    subst (λ (x : ℕ). x < 256) (sym e) (bytes (entrySize * 0 + i))
-
-pub query-below : (s : List ℕ) → ((i : ℕ) → getD s i 0 < 256) → (queryOf s .a < 65536) × (queryOf s .b < 65536)
-unfolding entryAt
-query-below s bytes = (
-  omega (arith, header-byte s 2 (omega arith) bytes, header-byte s 3 (omega arith) bytes),
-  omega (arith, header-byte s 4 (omega arith) bytes, header-byte s 5 (omega arith) bytes),
-)

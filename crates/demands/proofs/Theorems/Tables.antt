@@ -9,7 +9,7 @@ use mathlib.Core.Bool.{_&&_}
 use mathlib.Core.List.{List, [], _∷_}
 use lib.ListN.{length}
 use lib.Dec.{ltb, leb}
-use Rattle.records.specs.Outcome.{Outcome, Check, accepted, refused, pass, _then_, require}
+use Rattle.records.specs.Outcome.{Check, accepted, pass, _then_, require}
 use Rattle.records.specs.Format.{recordAt, count, firstStatement}
 use Rattle.records.specs.Kinds.{sortsOf, isTerm}
 use Rattle.records.specs.Check.{lengthFits, lengthCheck, headerFits, kindFits, rowFits, recordCheck, linkFits, nextFits}
@@ -21,21 +21,13 @@ use Rattle.scripts.specs.Format.{entryAt, entries, queryOf, firstStep, lineOf, 
 use Rattle.scripts.specs.Form as script
 use Rattle.records.specs.Finite.{isNil}
 use Rattle.scripts.specs.Run.{isStart, connects, reduces, hasRoom, stepCheck, run, chainCheck, writtenOut, stepAt, scriptCheck}
+use Rattle.records.proofs.Laws.Checks.{then-assoc}
+use Rattle.records.proofs.Theorems.Accepted.{vocabulary-then}
 use Rattle.demands.specs.Table.{Row, Follows, recordRows, nextRows, vocabularyTable, recordTable, termRow}
 use Rattle.demands.specs.Table.{comparisonTable, entryRows, nextStepRows, formTable, OpenFrames, framesAfter, stepRows}
 use Rattle.demands.specs.Table.{laterRows, chainTable, scriptTable, TermOf, InForm}
-use Rattle.demands.proofs.Laws.Rows.{then-assoc, none-passed, row-passed, Tries, follows, tries-append, tries-row}
-use Rattle.demands.proofs.Laws.Rows.{tries-plain, tries-last, tries-in-turn}
-
--- what comes after the vocabulary check comes after its rows
-after-count : {B C : Type 0} (v : List ℕ) (b : Outcome B) (c : Outcome C)
-    → (vocabularyCheck v then b then c) ≡ ((recordsCheck v then b) then c)
-unfolding vocabularyCheck
-after-count v b c = at (recordsCheck v)
-  where
-    at : (r : Check) → ((r then accepted (count v)) then b then c) ≡ ((r then b) then c)
-    at (accepted u) = refl
-    at (refused n p) = refl
+use Rattle.demands.proofs.Laws.Rows.{none-passed, row-passed, Tries, follows, tries-append, tries-row, tries-plain}
+use Rattle.demands.proofs.Laws.Rows.{tries-last, tries-in-turn}
 
 module _ (v : List ℕ) where
   tries-record : (i : ℕ) → Tries (recordRows v i) (recordCheck v i)
@@ -68,8 +60,8 @@ module _ (v : List ℕ) where
       follows (tries-row (lengthFits v) 1 0 (tries-last known 9 number))
       (sym (then-assoc (lengthCheck v) (require known 9 number) _))
 
-  term-is : (x : ℕ) {rows : List Row} {c : Check} → Tries rows c → Tries (termRow v x ∷ rows) (termCheck v x then c)
-  term-is x = tries-row (ltb x (count v) && isTerm (recordAt v x .kind)) 10 x
+  tries-term : (x : ℕ) {rows : List Row} {c : Check} → Tries rows c → Tries (termRow v x ∷ rows) (termCheck v x then c)
+  tries-term x = tries-row (ltb x (count v) && isTerm (recordAt v x .kind)) 10 x
 
   pub term-passed : (x : ℕ) → TermOf v x → termCheck v x ≡ pass
   term-passed x h = row-passed (ltb x (count v) && isTerm (recordAt v x .kind)) 10 x (h .0)
@@ -77,8 +69,8 @@ module _ (v : List ℕ) where
   pub comparison-follows : (a b lent : ℕ) → Follows (comparisonTable v a b lent) (verdict v a b) (comparison v a b lent)
   unfolding comparison
   comparison-follows a b lent =
-      let query = term-is a (term-is b (tries-row (leb (atoms v) 12) 11 (atoms v) (tries-last (leb 512 lent) 12 0))) in
-      follows (tries-append tries-vocabulary query) (after-count v (queryCheck v a b lent) (accepted (verdict v a b)))
+      let query = tries-term a (tries-term b (tries-row (leb (atoms v) 12) 11 (atoms v) (tries-last (leb 512 lent) 12 0))) in
+      follows (tries-append tries-vocabulary query) (vocabulary-then v (queryCheck v a b lent) (accepted (verdict v a b)))
 
 module _ (v s : List ℕ) where
   tries-entry : (i : ℕ) → Tries (entryRows v s i) (script.entryCheck v s i)
@@ -96,7 +88,7 @@ module _ (v s : List ℕ) where
       let linked = tries-in-turn (nextStepRows s) (script.linkCheck s) (entries s - 1) 1
       (λ i. tries-last (script.nextFits s i) 19 i) in
       let b = queryOf s .b in
-      let asked = term-is v (queryOf s .a) (tries-last (ltb b (count v) && isTerm (recordAt v b .kind)) 10 b) in
+      let asked = tries-term v (queryOf s .a) (tries-last (ltb b (count v) && isTerm (recordAt v b .kind)) 10 b) in
       tries-row (script.lengthFits s) 13 0
       (tries-row (script.headerFits (entryAt s 0)) 14 0
       (tries-append asked
@@ -132,5 +124,5 @@ module _ (v s : List ℕ) where
       let ran = chainCheck (writtenOut v (queryOf s)) (stepAt s) (chain s) in
       let value = accepted (length (chain s)) in
       follows (tries-append (tries-append (tries-vocabulary v) tries-form) (tries-chain (chain s)))
-      (after-count v (script.formCheck v s) (ran then value)
+      (vocabulary-then v (script.formCheck v s) (ran then value)
       ∙ sym (then-assoc (recordsCheck v then script.formCheck v s) ran value))

@@ -9,7 +9,8 @@ use borrow.Author.Needs.{needs}
 use Rattle.scripts.specs.Format.{queryOf}
 use Rattle.scripts.specs.Answers.{judged}
 use Rattle.scripts.specs.declared.answers.Judged.{Judged}
-use Rattle.demands.proofs.Theorems.Bounds.{Small, mostPlace, script-small, query-below}
+use Rattle.demands.proofs.Theorems.Bounds.{Small, mostPlace, script-small}
+use Rattle.scripts.proofs.Theorems.Form.{query-below}
 use Rattle.judge.proofs.judge_check_script.Statement.{statement}
 use Rattle.judge.proofs.judge_check_script.Tie as tie
 

@@ -1,4 +1,5 @@
 -- Checks in order: what a chain of checks answers, what one turn of checks in turn does, and what passed checks tell.
+--   then-assoc                                 checks one after the other, whichever are taken together
 --   then-refused, then-refused-as, then-fine   a chain `a then b` where the first check refuses, or passes
 --   require-test                               a row whose test was made by a call
 --   checked-fine                               a check whose answer is `Fine`
@@ -17,6 +18,10 @@ use Rattle.records.specs.Answers.{checked}
 use Rattle.records.specs.declared.answers.Checked.{Checked}
 use Rattle.records.specs.declared.answers.Checked.the-variants.{Fine, Refused}
 use Rattle.records.proofs.Laws.Tests.{clash}
+
+pub then-assoc : {A B C : Type 0} (a : Outcome A) (b : Outcome B) (c : Outcome C) → ((a then b) then c) ≡ (a then b then c)
+then-assoc (accepted x) b c = refl
+then-assoc (refused n p) b c = refl
 
 module _ (k : Checked) {B : Type 0} (a : Check) (b : Outcome B) where
   -- what was made of a refusal

@@ -5,6 +5,7 @@
 --   Operand, Linked, SortHolds, WellFounded, AcceptedFacts   what is told of a field, of a record, of a vocabulary
 --   well-formed-vocabulary                         a vocabulary that passed rows 1 to 8 gives AcceptedFacts
 --   accepted-well-formed                           one that the vocabulary check accepts passed them
+--   vocabulary-then   what comes after the vocabulary check
 --   accepted-vocabulary                            and so gives them
 -- Assumes nothing.
 use Prim.Native.Nat.{ℕ, zero, suc, _-_, _*_, _%_, _≤_, _<_}
@@ -16,7 +17,7 @@ use lib.ListN.{length, getD}
 use mathlib.Core.Logic.{inl, inr}
 use lib.Dec.{ltb, leb, eqb}
 use borrow.Author.Tests.{ltb-true, leb-true, eqb-true, eq-eqb, not-true}
-use Rattle.records.specs.Outcome.{accepted, pass, _then_, inTurn}
+use Rattle.records.specs.Outcome.{Outcome, Check, accepted, refused, pass, _then_, inTurn}
 use Rattle.records.specs.Format.{recordSize, recordLimit, roleLimit, recordAt, count, firstStatement, roleCount}
 use Rattle.records.specs.Kinds.{Construct, none, top, bottom, name, negation, conjunction, disjunction, existential}
 use Rattle.records.specs.Kinds.{universal, inclusion, sorts, negationFields, restrictionFields, Class, Silent, Connective}
@@ -255,3 +256,13 @@ accepted-well-formed v n e = then-passed (recordsCheck v) (accepted (count v)) n
 
 pub accepted-vocabulary : (v : List ℕ) (n : ℕ) → vocabularyCheck v ≡ accepted n → AcceptedFacts v
 accepted-vocabulary v n e = well-formed-vocabulary v (accepted-well-formed v n e)
+
+-- What comes after the vocabulary check comes after rows 1 to 8.
+pub vocabulary-then : {B C : Type 0} (v : List ℕ) (b : Outcome B) (c : Outcome C)
+    → (vocabularyCheck v then b then c) ≡ ((recordsCheck v then b) then c)
+unfolding vocabularyCheck
+vocabulary-then v b c = at (recordsCheck v)
+  where
+    at : (r : Check) → ((r then accepted (count v)) then b then c) ≡ ((r then b) then c)
+    at (accepted u) = refl
+    at (refused n p) = refl

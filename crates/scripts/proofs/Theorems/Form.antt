@@ -7,16 +7,18 @@
 --   keeps-form                               what a passed form tells of a script
 --   step-listed, line-step, step-fits        row 18: a step uses what is listed; at a record; at a record of the chain
 --   chain-few                                the length of the chain
+--   query-below                              the query's numbers have 16 bits
 --   OnChain, chain-ahead                     the chain has steps alone
 --   steps-listed, chain-listed               each of these uses what is listed
 -- Assumes nothing.
-use Prim.Native.Nat.{ℕ, _*_, _-_, _%_, _≤_, _<_}
+use Prim.Native.Nat.{ℕ, _+_, _*_, _-_, _%_, _≤_, _<_}
 use native.Mathlib.Omega.{arith}
-use mathlib.Core.Path.{_≡_, refl}
+use mathlib.Core.Path.{_≡_, refl, sym, subst, _∙_}
 use mathlib.Core.Bool.{Bool, true, false, _&&_, _||_}
 use mathlib.Core.List.{List, [], _∷_, map}
 use mathlib.Core.Logic.{inl, inr}
-use lib.ListN.{length}
+use lib.ListN.{length, getD, drop}
+use lib.Seq.{getD-take, getD-drop}
 use lib.Dec.{ltb, leb, eqb}
 use borrow.Author.Tests.{ltb-true, leb-true, eqb-true}
 use Rattle.records.specs.Outcome.{pass, _then_, require, inTurn}
@@ -29,9 +31,9 @@ use Rattle.records.proofs.Laws.Lists.{All, all-occurring}
 use Rattle.types.specs.Comparison.{termCheck}
 use Rattle.columns.specs.Columns.{columnAt, takesY}
 use Rattle.scripts.specs.Steps.{Step, start, extension, reduction, stepBy}
-use Rattle.scripts.specs.Format.{entrySize, entryLimit, entryAt, entries, queryOf, firstStep, Line, blank, theConstant}
-use Rattle.scripts.specs.Format.{applied, step, lineOf, lineAt, isStep, stepOf, recordStep, nextStep, chainFrom, chain}
-use Rattle.scripts.specs.Format.{termAt}
+use Rattle.scripts.specs.Format.{entrySize, entryLimit, partAt, entryAt, entries, queryOf, firstStep, Line, blank}
+use Rattle.scripts.specs.Format.{theConstant, applied, step, lineOf, lineAt, isStep, stepOf, recordStep, nextStep}
+use Rattle.scripts.specs.Format.{chainFrom, chain, termAt}
 use Rattle.scripts.specs.Form.{lengthFits, lengthCheck, headerFits, headerCheck, queryTermsCheck, kindFits, unusedFits}
 use Rattle.scripts.specs.Form.{termFits, stepFits, lineFits, xFits, yFits, rowsCheck, entryCheck, entriesCheck, linkFits}
 use Rattle.scripts.specs.Form.{nextFits, linkCheck, linksCheck, formCheck}
@@ -216,3 +218,16 @@ module _ (v s : List ℕ) where
 
     pub chain-listed : AllListed v (queryOf s) (map (stepAt s) (chain s))
     chain-listed = steps-listed (chain s) chain-ahead
+
+-- The query's numbers have 16 bits, where the script consists of bytes.
+header-byte : (s : List ℕ) (i : ℕ) → i < entrySize → ((j : ℕ) → getD s j 0 < 256) → getD (partAt s 0) i 0 < 256
+header-byte s i h bytes =
+    let e = getD-take entrySize (drop (entrySize * 0) s) i 0 h ∙ getD-drop (entrySize * 0) s i 0 in
+    subst (λ (x : ℕ). x < 256) (sym e) (bytes (entrySize * 0 + i))
+
+pub query-below : (s : List ℕ) → ((i : ℕ) → getD s i 0 < 256) → (queryOf s .a < 65536) × (queryOf s .b < 65536)
+unfolding entryAt
+query-below s bytes = (
+  omega (arith, header-byte s 2 (omega arith) bytes, header-byte s 3 (omega arith) bytes),
+  omega (arith, header-byte s 4 (omega arith) bytes, header-byte s 5 (omega arith) bytes),
+)

@@ -6,6 +6,7 @@
 --   stage-length                           each stage says of each type whether it is in it
 --   rounds-bound, rounds-end               the rounds are at most 2^k, and the last leaves nothing to remove
 --   rounds-before, rounds-is               which number of rounds it is
+--   survivors-few                          there are no more survivors than types
 --   Serving                                a set of types at which all statements hold, and which serves each of its members
 --   survivors-serving, survivors-largest   the survivors are one, and the largest
 -- Assumes nothing.
@@ -181,3 +182,8 @@ module _ (v : List ℕ) where
       (λ R more t h. table-has (types v) (stays v R) t (set .small t h)
       (both-true (has R t) (served v R t) (more t h) (served-more v S R more t (set .serves t h))))
       (λ t h. table-has (types v) (satisfies v) t (set .small t h) (set .fit t h)) (rounds v)
+
+-- There are no more survivors than types.
+pub survivors-few : (v : List ℕ) → members (survivors v) ≤ types v
+unfolding survivors
+survivors-few v = omega (arith, members-bound (survivors v), stage-length v (rounds v))
