@@ -5,7 +5,10 @@ pub mod Search
 pub mod Lists
 pub mod Below
 pub mod Sets
+pub mod Counting
 pub mod Bits
 pub mod Width
+pub mod Filling
+pub mod Listing
 pub mod InOrder
 pub mod Ranges

@@ -1,6 +1,4 @@
 -- One turn of each of the code's loops, over plain values.
-pub mod Tables
-pub mod Lists
 pub mod Zeta
 pub mod Elimination
 pub mod Answers

@@ -1,12 +1,9 @@
 -- What a set of types shows: how many there are, the first at which the terms differ, and the bitmap.
---   count-start, count-hit, count-miss              numbers counted, one number further
---   count-bound, count-cong, members-counted        how many there can be; tests that agree; the members of a set
---   inBoth, first-..                                the first number in both of two sets, looked for in order
---   tableOver, over-start, over-turn, over-length   a table written over the front of a list
---   alive-counted, alive-first, alive-bitmap        what a table that holds the survivors shows of them
---   size-word, verdict-same, byte-none              the number of types, the verdict and an empty byte as the code makes them
---   cleared-start, cleared-length, cleared-turn     zeros written into a list, from a place on
---   cleared-over                                    zeros after a table, where it has zeros itself
+--   inBoth, first-..                              the first number in both of two sets, looked for in order
+--   alive-counted, alive-first, alive-bitmap      what a table that holds the survivors shows of them
+--   size-word, verdict-same, byte-none            the number of types, the verdict and an empty byte as the code makes them
+--   cleared-start, cleared-length, cleared-turn   zeros written into a list, from a place on
+--   cleared-over                                  zeros after a table, where it has zeros itself
 -- Assumes nothing.
 use Prim.Native.Nat.{ℕ, zero, suc, _+_, _-_, _*_, _%_, _^_, _≤_, _<_}
 use native.Mathlib.Omega.{arith}
@@ -19,8 +16,8 @@ use lib.Pow.{shl-exact}
 use lib.ListN.{length, getD, set, drop, length-append, length-drop, length-set}
 use Rattle.records.specs.Outcome.{Outcome, accepted}
 use Rattle.records.specs.Atoms.{atoms}
-use Rattle.records.specs.Finite.{digit, least, table, has, members, countBelow, number}
-use Rattle.records.proofs.Laws.Bits.{digit-small, number-cong}
+use Rattle.records.specs.Finite.{least, table, has, members, countBelow, number}
+use Rattle.records.proofs.Laws.Bits.{number-cong}
 use Rattle.types.specs.Types.{types}
 use Rattle.types.specs.Survivors.{survivors, rounds}
 use Rattle.types.specs.Comparison.{Verdict, distinguishes, firstDistinguishing, verdictWith, verdict, atomLimit}
@@ -30,42 +27,10 @@ use Rattle.types.specs.Code.Words.{SameSet}
 use Rattle.types.specs.Code.Settling.{Differs, cleared}
 use Rattle.records.proofs.Laws.Tests.{both-true}
 use Rattle.records.proofs.Laws.Below.{least-is, least-end, least-cong, None, none-turn}
-use Rattle.records.proofs.Laws.Sets.{length-table, table-cong}
+use Rattle.records.proofs.Laws.Sets.{table-cong}
+use Rattle.records.proofs.Laws.Counting.{count-cong, members-counted}
+use Rattle.records.proofs.Laws.Filling.{tableOver, over-turn}
 use Rattle.types.proofs.Theorems.Survivors.{stage-length}
-
-module _ (test : ℕ → Bool) where
-  pub count-start : 0 ≡ countBelow test 0
-  unfolding countBelow
-  count-start = refl
-
-  pub count-hit : (t found : ℕ) → found ≡ countBelow test t → test t ≡ true → found + 1 ≡ countBelow test (t + 1)
-  unfolding countBelow
-  count-hit t found e q = rw (add-one t, e, q)
-
-  pub count-miss : (t found : ℕ) → found ≡ countBelow test t → test t ≡ false → found ≡ countBelow test (t + 1)
-  unfolding countBelow
-  count-miss t found e q = rw (add-one t, q) (omega arith)
-
-  pub count-bound : (n : ℕ) → countBelow test n ≤ n
-  unfolding countBelow
-  count-bound zero = omega arith
-  count-bound (suc n) = omega (arith, count-bound n, digit-small (test n))
-
-pub count-cong : (n : ℕ) (f g : ℕ → Bool) → ((t : ℕ) → t < n → f t ≡ g t) → countBelow f n ≡ countBelow g n
-unfolding countBelow
-count-cong zero f g h = refl
-count-cong (suc n) f g h = rw (count-cong n f g (λ t l. h t (omega arith)), h n (omega arith))
-
--- counted from the front
-count-front : (n : ℕ) (test : ℕ → Bool) → countBelow test (suc n) ≡ digit (test 0) + countBelow (λ t. test (suc t)) n
-unfolding countBelow
-count-front zero test = omega arith
-count-front (suc n) test = let r = count-front n test in omega arith
-
-pub members-counted : (S : List Bool) → members S ≡ countBelow (has S) (length S)
-unfolding members countBelow
-members-counted [] = refl
-members-counted (b ∷ S) = ap (λ (x : ℕ). digit b + x) (members-counted S) ∙ sym (count-front (length S) (has (b ∷ S)))
 
 -- Whether a number is in both of two sets.
 abbrev pub inBoth : List Bool → List Bool → ℕ → Bool
@@ -83,29 +48,6 @@ module _ (S R : List Bool) (t : ℕ) where
 
   pub first-none : (n : ℕ) → n ≤ t → None (inBoth S R) t → n ≡ least (inBoth S R) n
   first-none n l none = sym (least-end n (inBoth S R) (λ u h. none u (omega arith)))
-
--- A table of n entries over the front of a list.
-abbrev pub tableOver : {A : Type 0} → (ℕ → A) → ℕ → List A → List A
-tableOver f n l = table n f ++ drop n l
-
-module _ {A : Type 0} where
-  pub over-start : (f : ℕ → A) (l : List A) → l ≡ tableOver f 0 l
-  unfolding table
-  over-start f l = refl
-
-  pub over-length : (f : ℕ → A) (n : ℕ) (l now : List A) → n ≤ length l → now ≡ tableOver f n l → length now ≡ length l
-  over-length f n l now h e =
-      ap length e ∙ length-append (table n f) (drop n l) ∙ omega (arith, length-table n f, length-drop n l)
-
-  over-next : (f : ℕ → A) (n : ℕ) (l : List A) → n < length l → set (tableOver f n l) n (f n) ≡ tableOver f (suc n) l
-  unfolding table
-  over-next f n [] h = absurd (omega arith)
-  over-next f zero (x ∷ l) h = refl
-  over-next f (suc n) (x ∷ l) h = ap (λ (r : List A). f 0 ∷ r) (over-next (λ i. f (suc i)) n l (omega arith))
-
-  pub over-turn : (f : ℕ → A) (n : ℕ) (l now : List A) (x : A) → n < length l → now ≡ tableOver f n l → x ≡ f n
-      → set now n x ≡ tableOver f (n + 1) l
-  over-turn f n l now x h e q = rw (e, q, add-one) (over-next f n l h)
 
 module _ (v : List ℕ) (alive : List Bool) (same : SameSet alive (survivors v)) where
   pub alive-counted : countBelow (has alive) (types v) ≡ members (survivors v)

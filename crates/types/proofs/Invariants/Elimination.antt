@@ -20,7 +20,7 @@ use Rattle.records.proofs.Laws.Search.{any-hit, any-miss, any-intro}
 use Rattle.records.proofs.Laws.Tests.{clash, both-left, both-true, same-truth}
 use Rattle.types.specs.Comparison.{typeLimit}
 use Rattle.types.specs.Code.Elimination.{Enumerates, Enters, Keeps}
-use Rattle.types.proofs.Invariants.Lists.{ListedBelow}
+use Rattle.records.proofs.Laws.Listing.{ListedBelow}
 use Rattle.records.proofs.Laws.Sets.{Within}
 
 -- The members of a set, listed, enumerate it.

@@ -16,7 +16,7 @@ use Rattle.records.specs.Atoms.{atoms, rank}
 use Rattle.records.specs.Finite.{digit, allBelow}
 use Rattle.types.specs.Code.Words.{width, restriction}
 use Rattle.records.proofs.Laws.Below.{all-intro, all-at}
-use Rattle.types.proofs.Invariants.Lists.{entries, entry, entries-none, entries-length, entry-sound, entry-found}
+use Rattle.records.proofs.Laws.Listing.{entries, entry, entries-none, entries-length, entry-sound, entry-found}
 
 restricts-atom : (k : ℕ) → digit (isRestriction k) ≤ digit (isAtom k)
 restricts-atom k = at (kindOf k .class)

@@ -35,7 +35,7 @@ use Rattle.records.proofs.Laws.Sets.{Within, table-at, table-past, table-cong}
 use Rattle.records.proofs.Laws.Bits.{number-cong}
 use Rattle.types.proofs.Theorems.Survivors.{has-table, Removing, stage-falls, rounds-is}
 use Rattle.types.proofs.Laws.Zeta.{zeta-cong}
-use Rattle.types.proofs.Invariants.Tables.{Ends}
+use Rattle.records.proofs.Laws.Filling.{Ends}
 use Rattle.types.proofs.Refinement.Restrictions.{width-bound}
 use Rattle.types.proofs.Refinement.Words.{reached-small, fillerWord-small}
 use Rattle.types.proofs.Refinement.Served.{served-by-words, served-cong, role-unused}

@@ -28,7 +28,7 @@ use Rattle.types.specs.Code.Settling.{Bounded, Stating, Prepared, truthW
 use Rattle.records.proofs.Laws.Tests.{implies-true, implies-rest, same-truth}
 use Rattle.records.proofs.Laws.Below.{all-intro, all-at}
 use Rattle.records.proofs.Laws.Bits.{number-cong}
-use Rattle.types.proofs.Invariants.Lists.{ListedBelow}
+use Rattle.records.proofs.Laws.Listing.{ListedBelow}
 use Rattle.types.proofs.Theorems.Truth.{some-earlier, all-earlier}
 use Rattle.types.proofs.Refinement.Restrictions.{restricts, restriction-sound, width-bound}
 use Rattle.types.proofs.Refinement.Signed.{says-some, says-all}

@@ -9,7 +9,8 @@ use denote.Ref.{now}
 use Rattle.records.specs.Finite.{has}
 use Rattle.types.specs.Bitmap.{byteOf}
 use Rattle.records.proofs.Laws.Bits.{number-small}
-use Rattle.types.proofs.Invariants.Tables.{wordFrom, word-start, word-turn, word-end, word-bound}
+use Rattle.records.proofs.Laws.Filling.{wordFrom, word-start, word-turn, word-end, word-bound}
+use Rattle.types.specs.Comparison.{atomLimit}
 use Rattle.types.proofs.bitmap.byte_of.Statement.{statement}
 use Rattle.types.proofs.bitmap.byte_of.Tie as tie
 
@@ -30,7 +31,7 @@ push-bit-requires : tie.Need-push-bit-requires Inv-loop μ-loop
 push-bit-requires c κs =
     let at = c .before .before in
     let a = at .before .args in
-    word-bound 8 (bits (now (a .alive)) (a .n)) (at .loop .j) _ (omega arith) (at .loop .inv .1)
+    word-bound 8 (bits (now (a .alive)) (a .n)) atomLimit (at .loop .j) _ (omega arith) (at .loop .inv .1)
 
 loop-again : tie.Need-loop-again Inv-loop μ-loop
 loop-again c =

@@ -6,7 +6,7 @@ use mathlib.Core.Logic.{⊎-elim}
 use mathlib.Core.Path.{_≡_, _∙_, ap}
 use denote.Ref.{now}
 use Rattle.records.specs.Finite.{has, countBelow}
-use Rattle.types.proofs.Invariants.Answers.{count-start, count-hit, count-miss, count-bound}
+use Rattle.records.proofs.Laws.Counting.{count-start, count-hit, count-miss, count-bound}
 use Rattle.types.proofs.bitmap.count_alive.Statement.{statement}
 use Rattle.types.proofs.bitmap.count_alive.Tie as tie
 

@@ -9,7 +9,8 @@ use borrow.Author.Needs.{needs}
 use Rattle.types.specs.Comparison.{bitmapBytes}
 use Rattle.types.specs.Bitmap.{byteOf}
 use Rattle.types.specs.Code.Settling.{cleared}
-use Rattle.types.proofs.Invariants.Answers.{tableOver, byte-none, cleared-over}
+use Rattle.records.proofs.Laws.Filling.{tableOver}
+use Rattle.types.proofs.Invariants.Answers.{byte-none, cleared-over}
 use Rattle.types.proofs.bitmap.write_bitmap.Statement.{statement}
 use Rattle.types.proofs.bitmap.write_bitmap.Tie as tie
 

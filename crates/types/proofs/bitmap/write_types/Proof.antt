@@ -7,7 +7,7 @@ use mathlib.Core.Path.{_≡_, _∙_, ap}
 use lib.ListN.{length}
 use denote.Ref.{now}
 use Rattle.types.specs.Bitmap.{byteOf}
-use Rattle.types.proofs.Invariants.Answers.{tableOver, over-start, over-turn, over-length}
+use Rattle.records.proofs.Laws.Filling.{tableOver, over-start, over-turn, over-length}
 use Rattle.types.proofs.bitmap.write_types.Statement.{statement}
 use Rattle.types.proofs.bitmap.write_types.Tie as tie
 

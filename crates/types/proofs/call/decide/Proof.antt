@@ -13,7 +13,7 @@ use Rattle.types.specs.Types.{types}
 use Rattle.types.proofs.Invariants.Answers.{size-word, verdict-same, alive-counted, alive-first, alive-bitmap}
 use Rattle.types.proofs.Refinement.Rounds.{survivors-end}
 use Rattle.types.proofs.Theorems.Survivors.{types-bound}
-use Rattle.types.proofs.Invariants.Tables.{ends-empty}
+use Rattle.records.proofs.Laws.Filling.{ends-empty}
 use Rattle.types.proofs.call.decide.Statement.{statement}
 use Rattle.types.proofs.call.decide.Tie as tie
 

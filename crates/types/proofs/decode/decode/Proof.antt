@@ -11,7 +11,7 @@ use Rattle.records.proofs.Theorems.Accepted.{accepted-vocabulary}
 use Rattle.records.specs.Format.{count, recordAt, recordLimit}
 use Rattle.records.specs.declared.fields.Record.{Record}
 use Rattle.types.specs.Code.Rules.{ruleOf, firstOperandOf, secondOperandOf, codeLength}
-use Rattle.types.proofs.Invariants.Tables.{RightAt, right-turn, right-kept}
+use Rattle.records.proofs.Laws.Filling.{RightAt, right-turn, right-kept}
 use Rattle.types.proofs.decode.decode.Statement.{statement}
 use Rattle.types.proofs.decode.decode.Tie as tie
 

@@ -5,7 +5,7 @@ use Prim.Native.Nat.{_-_, _≤_, _<_}
 use native.Mathlib.Omega.{arith}
 use mathlib.Core.Logic.{⊎-elim}
 use Rattle.types.specs.Comparison.{typeLimit}
-use Rattle.types.proofs.Invariants.Lists.{ListedBelow, list-start, list-more, list-same}
+use Rattle.records.proofs.Laws.Listing.{ListedBelow, list-start, list-more, list-same}
 use Rattle.types.proofs.Invariants.Elimination.{list-enumerates}
 use Rattle.types.proofs.eliminate.list_candidates.Statement.{statement}
 use Rattle.types.proofs.eliminate.list_candidates.Tie as tie

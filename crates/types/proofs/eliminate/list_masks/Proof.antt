@@ -10,7 +10,7 @@ use Rattle.records.proofs.Theorems.Accepted.{accepted-vocabulary}
 use Rattle.types.specs.Code.Words.{otherRoleWord}
 use Rattle.types.proofs.Refinement.Restrictions.{width-bound}
 use Rattle.types.proofs.Refinement.Rounds.{otherRoleWord-done}
-use Rattle.types.proofs.Invariants.Tables.{Filled, fill-start, fill-turn}
+use Rattle.records.proofs.Laws.Filling.{Filled, fill-start, fill-turn}
 use Rattle.types.proofs.eliminate.list_masks.Statement.{statement}
 use Rattle.types.proofs.eliminate.list_masks.Tie as tie
 

@@ -19,10 +19,10 @@ use Rattle.records.specs.declared.fields.Record.{Record}
 use Rattle.types.specs.Comparison.{atomLimit}
 use Rattle.records.specs.Kinds.{isRestriction}
 use Rattle.types.specs.Code.Words.{width, negated}
-use Rattle.types.proofs.Invariants.Lists.{entries, entry, entries-none, entries-length, total-turn, fill-entry-kept}
-use Rattle.types.proofs.Invariants.Lists.{fill-entry-more}
+use Rattle.records.proofs.Laws.Listing.{entries, entry, entries-none, entries-length, total-turn, fill-entry-kept}
+use Rattle.records.proofs.Laws.Listing.{fill-entry-more}
 use Rattle.types.proofs.Refinement.Restrictions.{restricts, restrictions-few}
-use Rattle.types.proofs.Invariants.Tables.{Filled, fill-start}
+use Rattle.records.proofs.Laws.Filling.{Filled, fill-start}
 use Rattle.types.proofs.restrict.list_restrictions.Statement.{statement}
 use Rattle.types.proofs.restrict.list_restrictions.Tie as tie
 

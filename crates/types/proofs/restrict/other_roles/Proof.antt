@@ -5,7 +5,8 @@ use native.Mathlib.Omega.{arith}
 use mathlib.Core.Path.{_≡_, refl, _∙_}
 use denote.Ref.{now}
 use Rattle.types.specs.Code.Elimination.{otherRole}
-use Rattle.types.proofs.Invariants.Tables.{wordFrom, word-start, word-turn, word-end, word-bound}
+use Rattle.records.proofs.Laws.Filling.{wordFrom, word-start, word-turn, word-end, word-bound}
+use Rattle.types.specs.Comparison.{atomLimit}
 use Rattle.types.proofs.restrict.other_roles.Statement.{statement}
 use Rattle.types.proofs.restrict.other_roles.Tie as tie
 
@@ -22,7 +23,7 @@ push-bit-requires : tie.Need-push-bit-requires Inv-loop μ-loop
 push-bit-requires c κs =
     let at = c .before .before in
     let a = at .before .args in
-    word-bound (a .bits) (otherRole (now (a .roles)) (a .role)) (at .loop .m) _ (at .before .pre) (at .loop .inv .1)
+    word-bound (a .bits) (otherRole (now (a .roles)) (a .role)) atomLimit (at .loop .m) _ (at .before .pre) (at .loop .inv .1)
 
 loop-again : tie.Need-loop-again Inv-loop μ-loop
 loop-again c =

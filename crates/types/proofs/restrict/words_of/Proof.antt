@@ -9,7 +9,8 @@ use lib.ListN.{getD}
 use borrow.Author.Needs.{needs}
 use denote.Ref.{now}
 use Rattle.types.specs.Code.Words.{signed}
-use Rattle.types.proofs.Invariants.Tables.{wordFrom, word-start, word-turn, word-end, word-bound}
+use Rattle.records.proofs.Laws.Filling.{wordFrom, word-start, word-turn, word-end, word-bound}
+use Rattle.types.specs.Comparison.{atomLimit}
 use Rattle.types.proofs.restrict.words_of.Statement.{statement}
 use Rattle.types.proofs.restrict.words_of.Tie as tie
 
@@ -70,7 +71,8 @@ push-bit-requires : tie.Need-push-bit-requires Inv-loop μ-loop
 push-bit-requires c κs =
     let at = c .before .before .before .before .before .before in
     let l = at .before .args .t2 in
-    word-bound (l .count) (bits (now (at .before .args .values)) (l .places) (l .signs)) (at .loop .m) _ (at .before .pre .few)
+    word-bound (l .count) (bits (now (at .before .args .values)) (l .places) (l .signs)) atomLimit (at .loop .m) _
+    (at .before .pre .few)
     (at .loop .inv .held-words)
 
 element-copy-out-apply-sign-2 : tie.Need-element-copy-out-apply-sign-2 Inv-loop μ-loop
@@ -82,7 +84,8 @@ push-bit-requires-2 : tie.Need-push-bit-requires-2 Inv-loop μ-loop
 push-bit-requires-2 c κs =
     let at = c .before .before .before .before .before .before .before .before .before in
     let l = at .before .args .t2 in
-    word-bound (l .count) (bits (now (at .before .args .values)) (l .fillers) (l .signs)) (at .loop .m) _ (at .before .pre .few)
+    word-bound (l .count) (bits (now (at .before .args .values)) (l .fillers) (l .signs)) atomLimit (at .loop .m) _
+    (at .before .pre .few)
     (at .loop .inv .filling-words)
 
 loop-again : tie.Need-loop-again Inv-loop μ-loop

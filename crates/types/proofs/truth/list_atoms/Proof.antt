@@ -18,9 +18,9 @@ use Rattle.records.specs.Kinds.{isAtom}
 use Rattle.records.specs.declared.fields.Record.{Record}
 use Rattle.types.specs.Comparison.{atomLimit}
 use Rattle.types.specs.Code.Rules.{AtomsListed}
-use Rattle.types.proofs.Invariants.Lists.{entries, entry, entries-none, entries-length, entry-sound, entry-number}
-use Rattle.types.proofs.Invariants.Lists.{entry-at, total-turn, fill-entry-kept, fill-entry-more}
-use Rattle.types.proofs.Invariants.Tables.{Filled, fill-start}
+use Rattle.records.proofs.Laws.Listing.{entries, entry, entries-none, entries-length, entry-sound, entry-number, entry-at}
+use Rattle.records.proofs.Laws.Listing.{total-turn, fill-entry-kept, fill-entry-more}
+use Rattle.records.proofs.Laws.Filling.{Filled, fill-start}
 use Rattle.types.proofs.truth.list_atoms.Statement.{statement}
 use Rattle.types.proofs.truth.list_atoms.Tie as tie
 

@@ -10,7 +10,7 @@ use denote.Ref.{now}
 use Rattle.records.specs.Finite.{allBelow}
 use Rattle.types.specs.Code.Rules.{allTrue}
 use Rattle.records.proofs.Laws.Below.{all-miss}
-use Rattle.types.proofs.Invariants.Tables.{all-holds-turn}
+use Rattle.records.proofs.Laws.Filling.{all-holds-turn}
 use Rattle.types.proofs.truth.statements_hold.Statement.{statement}
 use Rattle.types.proofs.truth.statements_hold.Tie as tie
 

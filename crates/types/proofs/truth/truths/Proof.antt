@@ -20,7 +20,7 @@ use Rattle.types.specs.Code.Rules.{Decoded, select, ruleOf}
 use Rattle.types.specs.Types.{truth}
 use Rattle.types.proofs.Refinement.TruthRules.{rule-evaluates, operands-earlier}
 use Rattle.types.proofs.Theorems.Truth.{truth-eq, evaluate-cong}
-use Rattle.types.proofs.Invariants.Tables.{Filled, fill-start, fill-turn}
+use Rattle.records.proofs.Laws.Filling.{Filled, fill-start, fill-turn}
 use Rattle.types.proofs.truth.truths.Statement.{statement}
 use Rattle.types.proofs.truth.truths.Tie as tie
 

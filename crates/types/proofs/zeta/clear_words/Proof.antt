@@ -4,7 +4,7 @@ use Prim.Native.Nat.{_-_, _<_}
 use native.Mathlib.Omega.{arith}
 use mathlib.Core.Path.{refl}
 use Rattle.types.specs.Comparison.{typeLimit}
-use Rattle.types.proofs.Invariants.Tables.{Filled, fill-start, fill-turn}
+use Rattle.records.proofs.Laws.Filling.{Filled, fill-start, fill-turn}
 use Rattle.types.proofs.zeta.clear_words.Statement.{statement}
 use Rattle.types.proofs.zeta.clear_words.Tie as tie
 

@@ -16,9 +16,9 @@ use mathlib.Core.List.{List, [], _∷_}
 use mathlib.Core.Logic.{_⊎_, inl, inr}
 use lib.ListN.{length, getD, set, length-set, length-append, List·getD-append}
 use lib.Seq.{getD-set-same, getD-set-other, getD-append-seam}
 use Rattle.records.specs.Finite.{digit, has, appendIf, listBelow}
 use Rattle.records.proofs.Laws.Tests.{clash}
-use Rattle.types.proofs.Invariants.Tables.{Filled, fill-turn, fill-same}
+use Rattle.records.proofs.Laws.Filling.{Filled, fill-turn, fill-same}
 
 -- The members of a set below t, listed.
 pub record ListedBelow (room : ℕ) (S : List Bool) (list : List ℕ) (left t : ℕ) : Type 0 where

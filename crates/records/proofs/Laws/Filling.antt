@@ -1,24 +1,25 @@
--- One turn of the code's loops, over plain values.
---   Filled, fill-start, fill-turn                 a table filled in order
---   RightAt, right-turn, right-kept               a part of a table filled in order
---   zeros                                         a table of nothing but zeros
---   Ends, ends-turn, ends-empty                   a set that has nothing from there on
---   all-holds-turn                                a test of all, one number further
---   word-start, word-turn, word-end, word-bound   a word built from its top bit
+-- Tables filled one entry after the other, and words built bit by bit: one turn of a loop, over plain values.
+--   Filled, fill-start, fill-turn                   a table filled in order
+--   RightAt, right-turn, right-kept                 a part of a table filled in order
+--   tableOver, over-start, over-turn, over-length   a table written over the front of a list
+--   zeros                                           a table of nothing but zeros
+--   Ends, ends-turn, ends-empty                     a set that has nothing from there on
+--   all-holds-turn                                  a test of all, one number further
+--   word-start, word-turn, word-end, word-bound     a word built from its top bit
 -- Assumes nothing.
-use Prim.Native.Nat.{ℕ, zero, suc, _+_, _-_, _*_, _≤_, _<_}
+use Prim.Native.Nat.{ℕ, zero, suc, _+_, _-_, _*_, _^_, _≤_, _<_}
 use native.Mathlib.Omega.{arith}
 use native.Mathlib.Decide.{ℕ-discrete}
 use native.Mathlib.Numerals.{add-one}
 use mathlib.Core.Path.{_≡_, refl, sym, ap, _∙_}
 use mathlib.Core.Bool.{Bool, true, false, and-true}
-use mathlib.Core.List.{List}
-use lib.ListN.{length, getD, set, replicate, length-set}
+use mathlib.Core.List.{List, [], _∷_, _++_}
+use lib.ListN.{length, getD, set, drop, replicate, length-set, length-append, length-drop}
 use lib.Pow.{pow-mono}
 use lib.Seq.{getD-set-same, getD-set-other}
-use Rattle.records.specs.Finite.{digit, allBelow, number}
+use Rattle.records.specs.Finite.{digit, allBelow, table, number}
 use Rattle.records.proofs.Laws.Bits.{number-step, number-small, number-cong}
-use Rattle.types.specs.Comparison.{atomLimit, typeLimit}
+use Rattle.records.proofs.Laws.Sets.{length-table}
 
 -- The entries below i are right.
 abbrev pub Right : {A : Type 0} → A → List A → (ℕ → A) → ℕ → Type 0
@@ -87,9 +88,9 @@ module _ (bits : ℕ) (f : ℕ → Bool) where
   unfolding number
   word-start = let none : bits - bits ≡ 0 = omega arith in rw none
 
-  pub word-bound : (m w : ℕ) → bits ≤ atomLimit → w ≡ wordFrom m → w < typeLimit
-  word-bound m w h e =
-      omega (arith, number-small (bits - m) (λ i. f (m + i)), pow-mono {i = bits - m} {j = atomLimit} (omega arith))
+  pub word-bound : (limit m w : ℕ) → bits ≤ limit → w ≡ wordFrom m → w < 2 ^ limit
+  word-bound limit m w h e =
+      omega (arith, number-small (bits - m) (λ i. f (m + i)), pow-mono {i = bits - m} {j = limit} (omega arith))
 
   pub word-turn : (m : ℕ) (w : ℕ) (x : Bool) → 0 < m → m ≤ bits → w ≡ wordFrom m → x ≡ f (m - 1)
       → digit x + 2 * w ≡ wordFrom (m - 1)
@@ -107,3 +108,26 @@ pub zeros : (n x : ℕ) → getD {A = ℕ} (replicate n 0) x 0 ≡ 0
 zeros zero x = refl
 zeros (suc n) zero = refl
 zeros (suc n) (suc x) = zeros n x
+
+-- A table of n entries over the front of a list.
+abbrev pub tableOver : {A : Type 0} → (ℕ → A) → ℕ → List A → List A
+tableOver f n l = table n f ++ drop n l
+
+module _ {A : Type 0} where
+  pub over-start : (f : ℕ → A) (l : List A) → l ≡ tableOver f 0 l
+  unfolding table
+  over-start f l = refl
+
+  pub over-length : (f : ℕ → A) (n : ℕ) (l now : List A) → n ≤ length l → now ≡ tableOver f n l → length now ≡ length l
+  over-length f n l now h e =
+      ap length e ∙ length-append (table n f) (drop n l) ∙ omega (arith, length-table n f, length-drop n l)
+
+  over-next : (f : ℕ → A) (n : ℕ) (l : List A) → n < length l → set (tableOver f n l) n (f n) ≡ tableOver f (suc n) l
+  unfolding table
+  over-next f n [] h = absurd (omega arith)
+  over-next f zero (x ∷ l) h = refl
+  over-next f (suc n) (x ∷ l) h = ap (λ (r : List A). f 0 ∷ r) (over-next (λ i. f (suc i)) n l (omega arith))
+
+  pub over-turn : (f : ℕ → A) (n : ℕ) (l now : List A) (x : A) → n < length l → now ≡ tableOver f n l → x ≡ f n
+      → set now n x ≡ tableOver f (n + 1) l
+  over-turn f n l now x h e q = rw (e, q, add-one) (over-next f n l h)
