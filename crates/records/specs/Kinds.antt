@@ -61,6 +61,13 @@ areAtoms Name = true
 areAtoms Restriction = true
 areAtoms Statement = false
 
+abbrev pub areNames : Class → Bool
+areNames Silent = false
+areNames Connective = false
+areNames Name = true
+areNames Restriction = false
+areNames Statement = false
+
 abbrev pub areRestrictions : Class → Bool
 areRestrictions Silent = false
 areRestrictions Connective = false
@@ -120,6 +127,10 @@ isTerm k = areTerms (kindOf k .class)
 -- "Atoms are the records of kinds 3, 7 and 8"
 abbrev pub isAtom : ℕ → Bool
 isAtom k = areAtoms (kindOf k .class)
+
+-- "3 name"
+abbrev pub isName : ℕ → Bool
+isName k = areNames (kindOf k .class)
 
 -- kinds 7 and 8, which have a function
 abbrev pub isRestriction : ℕ → Bool

@@ -1,6 +1,6 @@
-// Which kinds of records are terms, atoms, restrictions and statements, and what a field may hold.
+// Which kinds of records are terms, atoms, names, restrictions and statements, and what a field may hold.
 ghost use mathlib.Core.Path.{_≡_};
-ghost use Rattle.records.specs.Kinds.{isTerm, isAtom, isRestriction, isStatement};
+ghost use Rattle.records.specs.Kinds.{isTerm, isAtom, isName, isRestriction, isStatement};
 
 // What a field holds: nothing, a term number, a role number, a name's label, or the number of the chain's next statement.
 pub enum Sort {
@@ -33,6 +33,12 @@ pub fn is_atom(kind: u8) -> bool
         7..=8 => true,
         _ => false,
     }
+}
+
+pub fn is_name(kind: u8) -> bool
+    ensures { λ r. ⌜ r ≡ isName kind ⌝ }
+{
+    kind == 3
 }
 
 pub fn is_restriction(kind: u8) -> bool

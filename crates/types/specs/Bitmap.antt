@@ -8,7 +8,7 @@ use Rattle.records.specs.Finite.{table, has, bit, number}
 use Rattle.types.specs.Meaning.{Interpretation}
 use Rattle.types.specs.Types.{truth, allowed}
 use Rattle.types.specs.Survivors.{survivors}
-use Rattle.types.specs.Comparison.{Verdict, bitmapBytes}
+use Rattle.types.specs.Comparison.{bitmapBytes}
 
 -- "bit t mod 8 of byte t div 8 is 1 for a survivor, in the first 512 bytes, the rest of which are 0"
 abbrev pub byteOf : List Bool → ℕ → ℕ
@@ -19,8 +19,8 @@ bitmap v = table bitmapBytes (byteOf (survivors v))
 
 -- The lent bytes after the call: the bitmap "with either answer: .. later bytes keep their content", and "Every refusal ..
 -- leaves all lent memory untouched."
-abbrev pub written : Outcome Verdict → List ℕ → List ℕ → List ℕ
-written (accepted verdict) v lent = bitmap v ++ drop bitmapBytes lent
+abbrev pub written : {A : Type 0} → Outcome A → List ℕ → List ℕ → List ℕ
+written (accepted answer) v lent = bitmap v ++ drop bitmapBytes lent
 written (refused n p) v lent = lent
 
 -- "It is read back from these bytes and the vocabulary alone: its elements are the t whose bit is 1 .., a name has those of

@@ -9,6 +9,7 @@ use Rattle.records.specs.Kinds.{isTerm}
 use Rattle.records.specs.Check.{vocabularyCheck}
 use Rattle.records.specs.Atoms.{atoms}
 use Rattle.records.specs.Finite.{least, has, members}
+use Rattle.types.specs.declared.answers.Counts.{Counts}
 use Rattle.types.specs.Types.{types, truth}
 use Rattle.types.specs.Survivors.{survivors, rounds}
 
@@ -17,6 +18,13 @@ use Rattle.types.specs.Survivors.{survivors, rounds}
 pub data Verdict : Type 0 where
   equal : ℕ → ℕ → Verdict
   different : ℕ → ℕ → ℕ → Verdict
+
+-- "with either go the number of survivors and of rounds that removed something"
+abbrev pub countsOf : ℕ → ℕ → Counts
+countsOf survivors rounds = record { survivors = survivors; rounds = rounds }
+
+abbrev pub counts : List ℕ → Counts
+counts v = countsOf (members (survivors v)) (rounds v)
 
 -- The terms a and b differ at survivor t.
 abbrev pub distinguishes : List ℕ → ℕ → ℕ → ℕ → Bool
@@ -50,16 +58,20 @@ abbrev pub termCheck : List ℕ → ℕ → Check
 termCheck v x = require (ltb x (count v) && isTerm (recordAt v x .kind)) 10 x
 
 -- Row 11: "k over 12", place k
-abbrev pub atomsCheck : List ℕ → Check
-atomsCheck v = require (leb (atoms v) atomLimit) 11 (atoms v)
+abbrev pub atomsCheck : ℕ → Check
+atomsCheck k = require (leb k atomLimit) 11 k
 
 -- Row 12: "under 512 bytes lent"
 abbrev pub lentCheck : ℕ → Check
 lentCheck lent = require (leb bitmapBytes lent) 12 0
 
+-- Rows 11 and 12, which do not look at the query.
+abbrev pub sizeCheck : ℕ → ℕ → Check
+sizeCheck k lent = atomsCheck k then lentCheck lent
+
 -- "The order for a comparison is 1 to 8, 10, 11, 12".
 abbrev pub queryCheck : List ℕ → ℕ → ℕ → ℕ → Check
-queryCheck v a b lent = termCheck v a then termCheck v b then atomsCheck v then lentCheck lent
+queryCheck v a b lent = termCheck v a then termCheck v b then sizeCheck (atoms v) lent
 
 unfoldable pub comparison : List ℕ → ℕ → ℕ → ℕ → Outcome Verdict
 comparison v a b lent = vocabularyCheck v then queryCheck v a b lent then accepted (verdict v a b)

@@ -7,6 +7,12 @@ ghost use Rattle.records.specs.Answers.{checked, counted};
 ghost use Rattle.types.specs.Comparison.{different, verdictWith};
 ghost use Rattle.types.specs.Answers.{compared};
 
+// With either answer go the number of survivors and of rounds that removed something.
+pub struct Counts {
+    pub survivors: usize,
+    pub rounds: usize,
+}
+
 pub enum Compared {
     Equal {
         survivors: usize,

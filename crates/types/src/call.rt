@@ -3,10 +3,8 @@ use crate::answers::Compared;
 use crate::answers::compare_after;
 use crate::answers::compare_after_count;
 use crate::answers::conclude;
-use crate::bitmap::count_alive;
 use crate::bitmap::find_first;
-use crate::bitmap::write_bitmap;
-use crate::settle::settle;
+use crate::settle::settle_query;
 use crate::type_data::TypeData;
 use records::answers::Checked;
 use records::answers::Counted;
@@ -26,7 +24,7 @@ ghost use Rattle.records.specs.Answers.{checked};
 ghost use Rattle.records.specs.Format.{recordAt, count};
 ghost use Rattle.records.specs.Kinds.{isTerm};
 ghost use Rattle.records.specs.Atoms.{atoms};
-ghost use Rattle.types.specs.Comparison.{termCheck, queryCheck, verdict, comparison, bitmapBytes};
+ghost use Rattle.types.specs.Comparison.{termCheck, sizeCheck, queryCheck, verdict, comparison, bitmapBytes};
 ghost use Rattle.types.specs.Bitmap.{bitmap, written};
 ghost use Rattle.types.specs.Answers.{compared};
 ghost use Rattle.types.specs.Code.Settling.{Comparable};
@@ -47,7 +45,18 @@ pub fn check_term(v: &[u8], number: usize) -> Checked
     pass_if(names_term(v, number), 10, number)
 }
 
-// Rows 10, 11 and 12, where the vocabulary has k atoms.
+// Rows 11 and 12, where the vocabulary has k atoms.
+pub fn check_size(k: usize, lent: usize) -> Checked
+    ensures { λ r. ⌜ checked r ≡ sizeCheck k lent ⌝ }
+{
+    let few = pass_if(k <= TypeData::ATOMS, 11, k);
+    let Checked::Fine = few else {
+        return few;
+    };
+    pass_if(TypeData::BYTES <= lent, 12, 0)
+}
+
+// Row 10 for both terms, then rows 11 and 12, where the vocabulary has k atoms.
 fn check_query(v: &[u8], a: usize, b: usize, k: usize, lent: usize) -> Checked
     requires { ⌜ k ≡ atoms (now v) ⌝ }
     ensures { λ r. ⌜ checked r ≡ queryCheck (now (v .entry)) a b lent ⌝ }
@@ -60,11 +69,7 @@ fn check_query(v: &[u8], a: usize, b: usize, k: usize, lent: usize) -> Checked
     let Checked::Fine = second else {
         return second;
     };
-    let few = pass_if(k <= TypeData::ATOMS, 11, k);
-    let Checked::Fine = few else {
-        return few;
-    };
-    pass_if(TypeData::BYTES <= lent, 12, 0)
+    check_size(k, lent)
 }
 
 // The answer for two terms of an accepted vocabulary of few enough atoms; the survivors are written.
@@ -76,12 +81,10 @@ fn decide(v: &[u8], a: usize, b: usize, k: usize, lent: &mut [u8]) -> Compared
 {
     let mut alive = [false; TypeData::TYPES];
     let mut differs = [false; TypeData::TYPES];
-    let rounds = settle(v, a, b, k, &mut alive, &mut differs);
+    let counts = settle_query(v, a, b, k, &mut alive, &mut differs, lent);
     let size = 1 << k;
     let element = find_first(&alive, &differs, size);
-    let survivors = count_alive(&alive, size);
-    write_bitmap(&alive, size, lent);
-    conclude(element < size, element, survivors, rounds)
+    conclude(element < size, element, counts.survivors, counts.rounds)
 }
 
 // The comparison of the terms a and b: Equal, or Different with the smallest survivor at which they differ, or the first

@@ -1,4 +1,8 @@
-// The comparison up to its answer: which types survive, at which of them the two terms differ, and after how many rounds.
+// The comparison up to its answer: which types survive, at which of them the two terms differ, and after how many rounds. The
+// survivors are counted and written here, for other calls too.
+use crate::answers::Counts;
+use crate::bitmap::count_alive;
+use crate::bitmap::write_bitmap;
 use crate::decode::decode;
 use crate::eliminate::eliminate;
 use crate::restrict::list_restrictions;
@@ -8,10 +12,18 @@ use crate::type_data::Plan;
 use crate::type_data::TypeData;
 use crate::type_data::describe_types;
 use records::fields::Record;
-ghost use Rattle.types.specs.Code.Settling.{Comparable, Vacant, Settled};
+ghost use mathlib.Core.Path.{_≡_};
+ghost use mathlib.Core.List.{_++_};
+ghost use Prim.Native.Nat.{_≤_};
+ghost use lib.ListN.{length, drop};
+ghost use Rattle.types.specs.Survivors.{survivors};
+ghost use Rattle.types.specs.Comparison.{bitmapBytes, counts};
+ghost use Rattle.types.specs.Bitmap.{bitmap};
+ghost use Rattle.types.specs.Code.Words.{SameSet};
+ghost use Rattle.types.specs.Code.Settling.{Settleable, Comparable, Empty, Vacant, Settled};
 
 // Settles the terms a and b of a vocabulary of k atoms, in empty tables; how many rounds removed something.
-pub fn settle(
+fn settle(
     v: &[u8],
     a: usize,
     b: usize,
@@ -54,4 +66,46 @@ pub fn settle(
         &mut filling,
     );
     eliminate(v, &roles, bits, &held, &filling, 1 << k, alive)
+}
+
+// The same; the survivors are counted and written too.
+pub fn settle_query(
+    v: &[u8],
+    a: usize,
+    b: usize,
+    k: usize,
+    alive: &mut [bool; TypeData::TYPES],
+    differs: &mut [bool; TypeData::TYPES],
+    lent: &mut [u8],
+) -> Counts
+    requires { ⌜ Comparable (now v) a b k ⌝ }
+    requires { ⌜ Vacant (now alive) (now differs) ⌝ }
+    requires { ⌜ bitmapBytes ≤ length (now lent) ⌝ }
+    ensures { λ r. ⌜ r ≡ counts (now (v .entry)) ⌝ }
+    ensures { λ r. ⌜ Settled (now (v .entry)) a b (now (alive .exit)) (now (differs .exit)) (r .rounds) ⌝ }
+    ensures { λ _. ⌜ now (lent .exit) ≡ bitmap (now (v .entry)) ++ drop bitmapBytes (now (lent .entry)) ⌝ }
+{
+    let rounds = settle(v, a, b, k, alive, differs);
+    let size = 1 << k;
+    let survivors = count_alive(alive, size);
+    write_bitmap(alive, size, lent);
+    Counts { survivors, rounds }
+}
+
+// The same with no query: the header, which differs from itself at no type, stands for both terms.
+pub fn settle_types(
+    v: &[u8],
+    k: usize,
+    alive: &mut [bool; TypeData::TYPES],
+    lent: &mut [u8],
+) -> Counts
+    requires { ⌜ Settleable (now v) k ⌝ }
+    requires { ⌜ Empty (now alive) ⌝ }
+    requires { ⌜ bitmapBytes ≤ length (now lent) ⌝ }
+    ensures { λ r. ⌜ r ≡ counts (now (v .entry)) ⌝ }
+    ensures { λ _. ⌜ SameSet (now (alive .exit)) (survivors (now (v .entry))) ⌝ }
+    ensures { λ _. ⌜ now (lent .exit) ≡ bitmap (now (v .entry)) ++ drop bitmapBytes (now (lent .entry)) ⌝ }
+{
+    let mut differs = [false; TypeData::TYPES];
+    settle_query(v, 0, 0, k, alive, &mut differs, lent)
 }

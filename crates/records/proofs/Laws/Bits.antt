@@ -4,7 +4,7 @@
 --   bit-number, number-small   the bits of a number given by them
 --   number-cong, number-step   two numbers, and a number built from the top
 --   bits-same                  numbers with the same bits
---   bit-or                     bits of a bitwise or
+--   bit-or, bit-and            bits of a bitwise or, and of a bitwise and
 --   cleared                    bits of a number without one of them
 -- Assumes nothing.
 use Prim.Native.Nat.{ℕ, zero, suc, _+_, _-_, _*_, _/_, _%_, _^_, _≤_, _<_}
@@ -13,7 +13,7 @@ use native.Mathlib.Decide.{ℕ-discrete}
 use mathlib.Core.Path.{_≡_, refl, sym, ap, ap₂, _∙_}
 use mathlib.Core.Bool.{Bool, true, false, not, _&&_, _||_, and-true, and-false}
 use lib.Dec.{eqb, eqb·zero-suc, eqb·suc-zero, eqb·suc-suc}
-use lib.Bits.{bitOr, or-shr, or-mod}
+use lib.Bits.{bitOr, or-shr, or-mod, bitAnd, and-shr, and-mod}
 use lib.Pow.{shr-shr}
 use borrow.Author.Tests.{eq-eqb, ne-eqb}
 use Rattle.records.specs.Finite.{bit, number, digit}
@@ -87,22 +87,37 @@ bits-same (suc n) x y h k e =
     let odd : x % 2 ≡ y % 2 = last-digit x ∙ ap digit (e 0 (omega arith)) ∙ sym (last-digit y) in
     omega arith
 
-or-digits : (p q : ℕ) → p < 2 → q < 2 → eqb (bitOr p q) 1 ≡ (eqb p 1 || eqb q 1)
-or-digits zero zero h k = refl
-or-digits zero (suc zero) h k = refl
-or-digits (suc zero) zero h k = refl
-or-digits (suc zero) (suc zero) h k = refl
-or-digits zero (suc (suc q)) h k = absurd (omega arith)
-or-digits (suc zero) (suc (suc q)) h k = absurd (omega arith)
-or-digits (suc (suc p)) q h k = absurd (omega arith)
+-- what holds of all digits
+on-digits : (P : ℕ → ℕ → Type 0) → P 0 0 → P 0 1 → P 1 0 → P 1 1 → (p q : ℕ) → p < 2 → q < 2 → P p q
+on-digits P a b c d zero zero h k = a
+on-digits P a b c d zero (suc zero) h k = b
+on-digits P a b c d (suc zero) zero h k = c
+on-digits P a b c d (suc zero) (suc zero) h k = d
+on-digits P a b c d zero (suc (suc q)) h k = absurd (omega arith)
+on-digits P a b c d (suc zero) (suc (suc q)) h k = absurd (omega arith)
+on-digits P a b c d (suc (suc p)) q h k = absurd (omega arith)
+
+-- A bitwise operation: its bits are those of the two numbers, joined by a test.
+module _ (op : ℕ → ℕ → ℕ) (test : Bool → Bool → Bool) (halves : (x y j : ℕ) → op x y / 2 ^ j ≡ op (x / 2 ^ j) (y / 2 ^ j))
+    (last : (x y : ℕ) → op x y % 2 ≡ op (x % 2) (y % 2))
+    (digits : (p q : ℕ) → p < 2 → q < 2 → eqb (op p q) 1 ≡ test (eqb p 1) (eqb q 1)) where
+  bit-op : (x y j : ℕ) → bit (op x y) j ≡ test (bit x j) (bit y j)
+  unfolding bit
+  bit-op x y j =
+      let p = x / 2 ^ j in
+      let q = y / 2 ^ j in
+      ap (λ (z : ℕ). eqb (z % 2) 1) (halves x y j) ∙ ap (λ (z : ℕ). eqb z 1) (last p q)
+      ∙ digits (p % 2) (q % 2) (omega arith) (omega arith)
 
 pub bit-or : (x y j : ℕ) → bit (bitOr x y) j ≡ (bit x j || bit y j)
-unfolding bit
-bit-or x y j =
-    let p = x / 2 ^ j in
-    let q = y / 2 ^ j in
-    ap (λ (z : ℕ). eqb (z % 2) 1) (or-shr x y j) ∙ ap (λ (z : ℕ). eqb z 1) (or-mod p q 1) ∙ or-digits (p % 2) (q % 2)
-    (omega arith) (omega arith)
+bit-or =
+    bit-op bitOr (λ a b. a || b) or-shr (λ x y. or-mod x y 1)
+    (on-digits (λ p q. eqb (bitOr p q) 1 ≡ (eqb p 1 || eqb q 1)) refl refl refl refl)
+
+pub bit-and : (x y j : ℕ) → bit (bitAnd x y) j ≡ (bit x j && bit y j)
+bit-and =
+    bit-op bitAnd (λ a b. a && b) and-shr (λ x y. and-mod x y 1)
+    (on-digits (λ p q. eqb (bitAnd p q) 1 ≡ (eqb p 1 && eqb q 1)) refl refl refl refl)
 
 -- A word built from its top bit: one bit further down.
 pub number-step : (n m : ℕ) (f : ℕ → Bool) → m < n

@@ -1,7 +1,7 @@
 -- Kinds by ranges: the tests of a `match` over kind ranges, and what they say of the definitions by kind.
 --   Run, between                       what holds at each number of a range
 --   kind-past, kind-tested             past the table there is no kind; a test that holds along the table
---   term-range, atom-range, ..         which kinds are terms, atoms, restrictions, statements
+--   term-range, atom-range, ..         which kinds are terms, atoms, names, restrictions, statements
 --   restriction-kind, statement-kind   a restriction is of kind 7 or 8, a statement of kind 9
 --   key-same                           a key made of kind and A
 -- Assumes nothing.
@@ -15,8 +15,8 @@ use mathlib.Core.Logic.{_⊎_, inl, inr}
 use lib.ListN.{length, getD, List·getD-eq-default}
 use lib.Dec.{leb, eqb}
 use borrow.Author.Tests.{eq-eqb, ne-eqb, lt-leb, leb-true, eqb-true}
-use Rattle.records.specs.Kinds.{Class, Silent, areTerms, areAtoms, areRestrictions, areStatements, Kind, noKind, kinds}
-use Rattle.records.specs.Kinds.{kindOf, isTerm, isAtom, isRestriction, isStatement}
+use Rattle.records.specs.Kinds.{Class, Silent, areTerms, areAtoms, areNames, areRestrictions, areStatements, Kind}
+use Rattle.records.specs.Kinds.{noKind, kinds, kindOf, isTerm, isAtom, isName, isRestriction, isStatement}
 use Rattle.records.proofs.Laws.Tests.{clash, both-left, both-right}
 
 -- What holds at each of n numbers from k on.
@@ -95,6 +95,9 @@ pub atom-range : (k : ℕ) → isAtom k ≡ (eqb k 3 || (leb 7 k && leb k 8))
 atom-range =
     class-range areAtoms (λ k. eqb k 3 || (leb 7 k && leb k 8)) refl refl
     (λ k h. rw (ne-eqb k 3 (λ e. omega arith), lt-leb k 8 (omega arith)) (and-false (leb 7 k)))
+
+pub name-range : (k : ℕ) → isName k ≡ eqb k 3
+name-range = class-range areNames (λ k. eqb k 3) refl refl (λ k h. ne-eqb k 3 (λ e. omega arith))
 
 pub statement-range : (k : ℕ) → isStatement k ≡ eqb k 9
 statement-range = class-range areStatements (λ k. eqb k 9) refl refl (λ k h. ne-eqb k 9 (λ e. omega arith))

@@ -2,6 +2,8 @@
 --   rank-turn                         atoms counted, one record further
 --   rank-mono, rank-next, rank-same   a later atom has a greater number
 --   rank-below, rank-bound            an atom's number is below their count, and no more than its record's
+--   class-few                         records of a class of atoms are no more than the atoms
+--   name-atom                         a name is an atom
 -- Assumes nothing.
 use Prim.Native.Nat.{ℕ, zero, suc, _+_, _≤_, _<_}
 use native.Mathlib.Omega.{arith}
@@ -11,10 +13,13 @@ use mathlib.Core.Path.{_≡_}
 use mathlib.Core.Bool.{Bool, true, false}
 use mathlib.Core.List.{List}
 use Rattle.records.specs.Format.{recordAt, count}
-use Rattle.records.specs.Kinds.{isAtom}
+use Rattle.records.specs.Kinds.{Class, Silent, Connective, Name, Restriction, Statement, areAtoms, areNames, kindOf}
+use Rattle.records.specs.Kinds.{isAtom, isName}
 use Rattle.records.specs.Finite.{digit}
 use Rattle.records.specs.Atoms.{rank, atoms}
 use Rattle.records.proofs.Laws.Bits.{digit-small}
+use Rattle.records.proofs.Laws.Tests.{clash}
+use Rattle.records.proofs.Laws.Listing.{entries, entries-none, entries-length}
 
 pub rank-turn : (v : List ℕ) (i found : ℕ) (b : Bool) → found ≡ rank v i → isAtom (recordAt v i .kind) ≡ b
     → found + digit b ≡ rank v (i + 1)
@@ -56,3 +61,26 @@ pub rank-bound : (v : List ℕ) (i : ℕ) → rank v i ≤ i
 unfolding rank
 rank-bound v zero = omega arith
 rank-bound v (suc i) = omega (arith, rank-bound v i, digit-small (isAtom (recordAt v i .kind)))
+
+-- Records of a class, all of them atoms, are no more than the atoms.
+pub class-few : (test : Class → Bool) → ((c : Class) → digit (test c) ≤ digit (areAtoms c)) → (v : List ℕ) (n : ℕ)
+    → entries (λ i. test (kindOf (recordAt v i .kind) .class)) n ≤ rank v n
+unfolding rank
+class-few test each v zero = omega (arith, entries-none (λ i. test (kindOf (recordAt v i .kind) .class)))
+class-few test each v (suc n) =
+    omega (
+      arith,
+      class-few test each v n,
+      entries-length (λ i. test (kindOf (recordAt v i .kind) .class)) n,
+      each (kindOf (recordAt v n .kind) .class),
+    )
+
+pub name-atom : (k : ℕ) → isName k ≡ true → isAtom k ≡ true
+name-atom k = at (kindOf k .class)
+  where
+    at : (c : Class) → areNames c ≡ true → areAtoms c ≡ true
+    at Silent e = absurd (clash (cc))
+    at Connective e = absurd (clash (cc))
+    at Name e = e
+    at Restriction e = absurd (clash (cc))
+    at Statement e = absurd (clash (cc))

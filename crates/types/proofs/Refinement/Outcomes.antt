@@ -64,9 +64,11 @@ module _ (v : List ℕ) (a b : ℕ) (lent : List ℕ) where
       pub query-comparable : (k : ℕ) → k ≡ atoms v → Comparable v a b k
       query-comparable k e =
           record {
-            accepts = accepted-vocabulary-at ∙ ap (λ (n : ℕ). accepted n) (vocabulary-count v m accepted-vocabulary-at);
-            few = query-passed .few;
-            counts = e;
+            settles = record {
+              accepts = accepted-vocabulary-at ∙ ap (λ (n : ℕ). accepted n) (vocabulary-count v m accepted-vocabulary-at);
+              few = query-passed .few;
+              counts = e;
+            };
             first = query-passed .first .within;
             second = query-passed .second .within;
           }

@@ -10,23 +10,21 @@ use mathlib.Core.Bool.{Bool, true, false, _||_}
 use mathlib.Core.List.{List}
 use lib.Dec.{eqb}
 use Rattle.records.specs.Format.{recordAt, count}
-use Rattle.records.specs.Kinds.{Class, Silent, Connective, Name, Restriction, Statement, areAtoms, areRestrictions, kindOf}
-use Rattle.records.specs.Kinds.{isAtom, isRestriction}
+use Rattle.records.specs.Kinds.{Class, Silent, Connective, Name, Restriction, Statement, areAtoms, areRestrictions}
+use Rattle.records.specs.Kinds.{isRestriction}
 use Rattle.records.specs.Atoms.{atoms, rank}
 use Rattle.records.specs.Finite.{digit, allBelow}
 use Rattle.types.specs.Code.Words.{width, restriction}
 use Rattle.records.proofs.Laws.Below.{all-intro, all-at}
-use Rattle.records.proofs.Laws.Listing.{entries, entry, entries-none, entries-length, entry-sound, entry-found}
+use Rattle.records.proofs.Laws.Listing.{entries, entry, entry-sound, entry-found}
+use Rattle.records.proofs.Theorems.Ranks.{class-few}
 
-restricts-atom : (k : ℕ) → digit (isRestriction k) ≤ digit (isAtom k)
-restricts-atom k = at (kindOf k .class)
-  where
-    at : (c : Class) → digit (areRestrictions c) ≤ digit (areAtoms c)
-    at Silent = omega arith
-    at Connective = omega arith
-    at Name = omega arith
-    at Restriction = omega arith
-    at Statement = omega arith
+restricts-atom : (c : Class) → digit (areRestrictions c) ≤ digit (areAtoms c)
+restricts-atom Silent = omega arith
+restricts-atom Connective = omega arith
+restricts-atom Name = omega arith
+restricts-atom Restriction = omega arith
+restricts-atom Statement = omega arith
 
 -- Whether record i is a restriction; it is one before n.
 abbrev pub restricts : List ℕ → ℕ → Bool
@@ -42,10 +40,7 @@ module _ (v : List ℕ) where
       let e = entry-sound (restricts v) n m h in record { before = e .before; restricts = e .passes }
 
   pub restrictions-few : (n : ℕ) → entries (restricts v) n ≤ rank v n
-  unfolding rank
-  restrictions-few zero = omega (arith, entries-none (restricts v))
-  restrictions-few (suc n) =
-      omega (arith, restrictions-few n, entries-length (restricts v) n, restricts-atom (recordAt v n .kind))
+  restrictions-few n = class-few areRestrictions restricts-atom v n
 
   pub width-bound : width v ≤ atoms v
   width-bound = restrictions-few (count v)

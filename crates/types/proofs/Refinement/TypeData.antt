@@ -38,7 +38,7 @@ module _ (v : List ℕ) (plan : Plan) (code statements : List ℕ) (p : Prepared
   listing = plan .restrictions
 
   pub prepared-good : AcceptedFacts v
-  prepared-good = accepted-vocabulary v (count v) (p .query .accepts)
+  prepared-good = accepted-vocabulary v (count v) (p .query .settles .accepts)
 
   pub few-records : count v ≤ recordLimit
   few-records = omega (arith, prepared-good .sized .most)
@@ -58,7 +58,7 @@ module _ (v : List ℕ) (plan : Plan) (code statements : List ℕ) (p : Prepared
   pub listing-bounded : Bounded listing
   listing-bounded =
       record {
-        few = omega (arith, p .listed .all, width-bound v, p .query .few);
+        few = omega (arith, p .listed .all, width-bound v, p .query .settles .few);
         place-below = λ m h. let l : m < width v = omega (arith, p .listed .all) in
             omega (arith, p .listed .place-at m l, restriction-sound v (count v) m l .before, few-records);
         filler-below = λ m h. omega (arith, filler-in m (omega (arith, p .listed .all)), few-records);

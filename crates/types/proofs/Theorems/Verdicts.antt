@@ -29,7 +29,8 @@ use Rattle.types.specs.Meaning.{Interpretation, Element, belongs, Model,
 use Rattle.types.specs.Types.{types, truth}
 use Rattle.types.specs.Survivors.{rounds, survivors}
 use Rattle.types.specs.Comparison.{Verdict, equal, different, distinguishes, firstDistinguishing, verdictWith, verdict}
-use Rattle.types.specs.Comparison.{atomLimit, bitmapBytes, termCheck, atomsCheck, lentCheck, queryCheck, comparison}
+use Rattle.types.specs.Comparison.{atomLimit, bitmapBytes, termCheck, atomsCheck, lentCheck, sizeCheck, queryCheck}
+use Rattle.types.specs.Comparison.{comparison}
 use Rattle.types.specs.Bitmap.{bitmap, readBack}
 use Rattle.records.proofs.Laws.Below.{least-holds, least-before}
 use Rattle.types.proofs.Theorems.ElementTypes.{typeOf, type-small, type-agrees, type-survives}
@@ -68,9 +69,9 @@ unfolding comparison
 answered v a b lent x e =
     let one = counted (vocabularyCheck v) (queryCheck v a b lent then accepted (verdict v a b)) x e in
     let all = then-passed (queryCheck v a b lent) (accepted (verdict v a b)) x (one .2) in
-    let row10 = then-passed (termCheck v a) (termCheck v b then atomsCheck v then lentCheck lent) tt (all .0) in
-    let again = then-passed (termCheck v b) (atomsCheck v then lentCheck lent) tt (row10 .1) in
-    let row11 = then-passed (atomsCheck v) (lentCheck lent) tt (again .1) in
+    let row10 = then-passed (termCheck v a) (termCheck v b then sizeCheck (atoms v) lent) tt (all .0) in
+    let again = then-passed (termCheck v b) (sizeCheck (atoms v) lent) tt (row10 .1) in
+    let row11 = then-passed (atomsCheck (atoms v)) (lentCheck lent) tt (again .1) in
     let known : accepted (verdict v a b) ≡ accepted x = all .1 in
     record {
       good = accepted-vocabulary v (one .0) (one .1);

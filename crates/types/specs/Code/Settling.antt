@@ -41,11 +41,15 @@ pub record Stating (v statements : List ℕ) (found : ℕ) : Type 0 where
   pub states : (j : ℕ) → j < found → chained v (getD statements j 0) ≡ true
   pub finds : (i : ℕ) → chained v i ≡ true → (j : ℕ) × (j < found) × (getD statements j 0 ≡ i)
 
--- What a comparison may go on with after the checks: an accepted vocabulary of k atoms, few enough, and two of its records.
-pub record Comparable (v : List ℕ) (a b k : ℕ) : Type 0 where
+-- What a call may go on with after the checks: an accepted vocabulary of k atoms, few enough; for a comparison, and two of its
+-- records.
+pub record Settleable (v : List ℕ) (k : ℕ) : Type 0 where
   pub accepts : IsAccepted v
   pub few : atoms v ≤ atomLimit
   pub counts : k ≡ atoms v
+
+pub record Comparable (v : List ℕ) (a b k : ℕ) : Type 0 where
+  pub settles : Settleable v k
   pub first : a < count v
   pub second : b < count v
 
@@ -72,10 +76,14 @@ Differs v a b differs = (t : ℕ) → t < types v → getD differs t false ≡ d
 abbrev pub truthWord : List Bool → List ℕ → List Bool → ℕ → ℕ
 truthWord values places signs bits = number bits (λ m. signed (getD signs m false) (getD values (getD places m 0) false))
 
--- Tables as they are lent: for the survivors, of which there are none yet; for the data of all types.
-pub record Vacant (alive differs : List Bool) : Type 0 where
+-- Tables as they are lent: for the survivors, of which there are none yet; for where two terms differ; for the data of all
+-- types.
+pub record Empty (alive : List Bool) : Type 0 where
   pub none : (t : ℕ) → has alive t ≡ false
-  pub alive-size : length alive ≡ typeLimit
+  pub size : length alive ≡ typeLimit
+
+pub record Vacant (alive differs : List Bool) : Type 0 where
+  pub empty : Empty alive
   pub differs-size : length differs ≡ typeLimit
 
 pub record Blank (values alive differs : List Bool) (held filling : List ℕ) : Type 0 where

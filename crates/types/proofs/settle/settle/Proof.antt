@@ -25,16 +25,16 @@ abbrev described : tie.After-eliminate-arg → tie.After-describe-types
 described c = c .before .before .before .before
 
 list-restrictions-requires : tie.Need-list-restrictions-requires
-list-restrictions-requires c κs = let q = c .before .pre .0 in (q .accepts, q .few)
+list-restrictions-requires c κs = let q = c .before .pre .0 .settles in (q .accepts, q .few)
 
 decode-requires : tie.Need-decode-requires
-decode-requires c κs = (start (c .before .before) .pre .0 .accepts, refl)
+decode-requires c κs = (start (c .before .before) .pre .0 .settles .accepts, refl)
 
 list-atoms-requires : tie.Need-list-atoms-requires
-list-atoms-requires c κs = let q = start (restricted c) .pre .0 in (q .accepts, q .few)
+list-atoms-requires c κs = let q = start (restricted c) .pre .0 .settles in (q .accepts, q .few)
 
 list-statements-requires : tie.Need-list-statements-requires
-list-statements-requires c κs = (start (restricted (c .before .before)) .pre .0 .accepts, refl)
+list-statements-requires c κs = (start (restricted (c .before .before)) .pre .0 .settles .accepts, refl)
 
 describe-types-requires : tie.Need-describe-types-requires
 describe-types-requires c κs =
@@ -54,14 +54,14 @@ describe-types-requires c κs =
 
 shl-eliminate : tie.Need-shl-eliminate
 shl-eliminate c =
-    let q = start (restricted (decoded (stated (c .before .before .before .before)))) .pre .0 in
+    let q = start (restricted (decoded (stated (c .before .before .before .before)))) .pre .0 .settles in
     omega (arith, q .few, q .counts)
 
 eliminate-requires : tie.Need-eliminate-requires
 eliminate-requires c κs =
     let lists = restricted (decoded (stated (described c .before))) in
     let a = start lists .args in
-    let q = start lists .pre .0 in
+    let q = start lists .pre .0 .settles in
     let r = lists .list-restrictions .ensures in
     let p = described c .describe-types .ensures in (
       q .accepts,

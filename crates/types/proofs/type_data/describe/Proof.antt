@@ -16,7 +16,7 @@ truths-requires : tie.Need-truths-requires
 truths-requires c κs =
     let s = c .before .before .before .before in
     let p = s .pre .0 in
-    (p .query .accepts, (p .query .few, (p .query .counts, (p .decoded, (p .placed, s .pre .1)))))
+    let q = p .query .settles in (q .accepts, (q .few, (q .counts, (p .decoded, (p .placed, s .pre .1)))))
 
 words-of-requires : tie.Need-words-of-requires
 words-of-requires c κs = listing-bounded _ _ _ _ (start (c .before) .pre .0)

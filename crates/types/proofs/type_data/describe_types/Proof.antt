@@ -51,27 +51,27 @@ abbrev μ-loop : tie.MeasureT-loop
 μ-loop v plan code statements values₀ alive₀ differs₀ held₀ filling₀ size t₀ values alive differs held filling t = size - t
 
 shl-size : tie.Need-shl-size Inv-loop μ-loop
-shl-size c = let q = c .before .before .pre .0 .query in omega (arith, q .few, q .counts)
+shl-size c = let q = c .before .before .pre .0 .query .settles in omega (arith, q .few, q .counts)
 
 -- the size is the number of types, and the type is in the tables
 inside : (c : tie.In-loop Inv-loop μ-loop) → c .before .loop .t < types (now (c .before .before .before .before .args .v))
 inside c =
     let start = c .before .before .before .before in
-    let q = start .pre .0 .query in
+    let q = start .pre .0 .query .settles in
     omega (arith, size-word (now (start .args .v)) (start .args .plan .k) (q .few) (q .counts))
 
 in-tables : (c : tie.In-loop Inv-loop μ-loop) → c .before .loop .t < typeLimit
 in-tables c =
     let start = c .before .before .before .before in
-    omega (arith, inside c, types-bound (now (start .args .v)) (start .pre .0 .query .few))
+    omega (arith, inside c, types-bound (now (start .args .v)) (start .pre .0 .query .settles .few))
 
 loop-holds : tie.Need-loop-holds Inv-loop μ-loop
 loop-holds c =
     let blank = c .before .before .pre .1 in record {
       within = omega arith;
       values-size = blank .values-size;
-      alive-filled = fill-start _ _ _ _ (blank .vacant .alive-size);
-      ends = λ u h. blank .vacant .none u;
+      alive-filled = fill-start _ _ _ _ (blank .vacant .empty .size);
+      ends = λ u h. blank .vacant .empty .none u;
       differs-filled = fill-start _ _ _ _ (blank .vacant .differs-size);
       held-filled = fill-start _ _ _ _ (blank .held-size);
       filling-filled = fill-start _ _ _ _ (blank .filling-size);
@@ -125,7 +125,7 @@ returns c =
     let w = l .inv in
     let start = c .before .before .before .before in
     let v = now (start .args .v) in
-    let q = start .pre .0 .query in
+    let q = start .pre .0 .query .settles in
     let e : l .t ≡ types v = omega (arith, w .within, size-word v (start .args .plan .k) (q .few) (q .counts)) in (
       record {
         alive-at = alive-at v (l .alive) (subst (Filled false typeLimit (l .alive) (satisfies v)) e (w .alive-filled))
