@@ -4,7 +4,7 @@
 --   tableOver, over-start, over-turn, over-length   a table written over the front of a list
 --   zeros                                           a table of nothing but zeros
 --   Ends, ends-turn, ends-empty                     a set that has nothing from there on
---   all-holds-turn                                  a test of all, one number further
+--   all-start, all-turn, all-holds-turn             a test of all, one number further
 --   word-start, word-turn, word-end, word-bound     a word built from its top bit
 -- Assumes nothing.
 use Prim.Native.Nat.{ℕ, zero, suc, _+_, _-_, _*_, _^_, _≤_, _<_}
@@ -12,7 +12,7 @@ use native.Mathlib.Omega.{arith}
 use native.Mathlib.Decide.{ℕ-discrete}
 use native.Mathlib.Numerals.{add-one}
 use mathlib.Core.Path.{_≡_, refl, sym, ap, _∙_}
-use mathlib.Core.Bool.{Bool, true, false, and-true}
+use mathlib.Core.Bool.{Bool, true, false, _&&_, and-true}
 use mathlib.Core.List.{List, [], _∷_, _++_}
 use lib.ListN.{length, getD, set, drop, replicate, length-set, length-append, length-drop}
 use lib.Pow.{pow-mono}
@@ -74,10 +74,17 @@ ends-empty zero i u h = refl
 ends-empty (suc n) i zero h = refl
 ends-empty (suc n) i (suc u) h = ends-empty n 0 u (omega arith)
 
+pub all-start : (test : ℕ → Bool) → true ≡ allBelow test 0
+unfolding allBelow
+all-start test = refl
+
 module _ (test : ℕ → Bool) (i : ℕ) where
-  pub all-holds-turn : (fit : Bool) → fit ≡ allBelow test i → test i ≡ true → fit ≡ allBelow test (i + 1)
+  pub all-turn : (fit b : Bool) → fit ≡ allBelow test i → b ≡ test i → (fit && b) ≡ allBelow test (i + 1)
   unfolding allBelow
-  all-holds-turn fit f e = rw (add-one, e) (f ∙ sym (and-true (allBelow test i)))
+  all-turn fit b f e = rw (add-one, f, e)
+
+  pub all-holds-turn : (fit : Bool) → fit ≡ allBelow test i → test i ≡ true → fit ≡ allBelow test (i + 1)
+  all-holds-turn fit f e = sym (and-true fit) ∙ all-turn fit true f (sym e)
 
 module _ (bits : ℕ) (f : ℕ → Bool) where
   -- The bits from m on, as a word.

@@ -1,26 +1,24 @@
 -- What a set of types shows: how many there are, the first at which the terms differ, and the bitmap.
 --   inBoth, first-..                              the first number in both of two sets, looked for in order
 --   alive-counted, alive-first, alive-bitmap      what a table that holds the survivors shows of them
---   size-word, verdict-same, byte-none            the number of types, the verdict and an empty byte as the code makes them
+--   verdict-same, byte-none                       the verdict and an empty byte as the code makes them
 --   cleared-start, cleared-length, cleared-turn   zeros written into a list, from a place on
 --   cleared-over                                  zeros after a table, where it has zeros itself
 -- Assumes nothing.
-use Prim.Native.Nat.{ℕ, zero, suc, _+_, _-_, _*_, _%_, _^_, _≤_, _<_}
+use Prim.Native.Nat.{ℕ, zero, suc, _+_, _-_, _*_, _≤_, _<_}
 use native.Mathlib.Omega.{arith}
 use native.Mathlib.Numerals.{add-one}
 use mathlib.Core.Path.{_≡_, refl, sym, ap, ap₂, _∙_}
 use mathlib.Core.Bool.{Bool, true, false, _&&_, and-false}
 use mathlib.Core.List.{List, [], _∷_, _++_}
 use lib.Dec.{ltb}
-use lib.Pow.{shl-exact}
 use lib.ListN.{length, getD, set, drop, length-append, length-drop, length-set}
 use Rattle.records.specs.Outcome.{Outcome, accepted}
-use Rattle.records.specs.Atoms.{atoms}
 use Rattle.records.specs.Finite.{least, table, has, members, countBelow, number}
 use Rattle.records.proofs.Laws.Bits.{number-cong}
 use Rattle.types.specs.Types.{types}
 use Rattle.types.specs.Survivors.{survivors, rounds}
-use Rattle.types.specs.Comparison.{Verdict, distinguishes, firstDistinguishing, verdictWith, verdict, atomLimit}
+use Rattle.types.specs.Comparison.{Verdict, distinguishes, firstDistinguishing, verdictWith, verdict}
 use Rattle.types.specs.Comparison.{bitmapBytes}
 use Rattle.types.specs.Bitmap.{byteOf, bitmap}
 use Rattle.types.specs.Code.Words.{SameSet}
@@ -67,11 +65,6 @@ module _ (v : List ℕ) (alive : List Bool) (same : SameSet alive (survivors v))
   alive-bitmap =
       table-cong bitmapBytes (byteOf alive) (byteOf (survivors v))
       (λ n l. number-cong 8 (λ j. has alive (8 * n + j)) (λ j. has (survivors v) (8 * n + j)) (λ j k. same (8 * n + j)))
-
--- The number of types as the code makes it.
-pub size-word : (v : List ℕ) (k : ℕ) → atoms v ≤ atomLimit → k ≡ atoms v → (1 * 2 ^ k) % 18446744073709551616 ≡ types v
-size-word v k few e =
-    shl-exact {a = 1} 1 k 64 (omega arith) (omega arith) ∙ omega (arith, ap (λ (n : ℕ). 2 ^ n) e)
 
 -- The verdict from its parts.
 pub verdict-same : (v : List ℕ) (a b element size found done : ℕ)

@@ -1,5 +1,5 @@
 -- The survivors are the largest set of types at which all statements hold and which serves each of its members.
---   types-bound                            few atoms have few types
+--   types-bound, size-word                 few atoms have few types; how many, as a shift makes it
 --   has-table, table-has                   the members of a set given by a test
 --   stage-keeps                            what rounds keep holds of every stage
 --   served-more                            a greater set serves more
@@ -10,7 +10,7 @@
 --   Serving                                a set of types at which all statements hold, and which serves each of its members
 --   survivors-serving, survivors-largest   the survivors are one, and the largest
 -- Assumes nothing.
-use Prim.Native.Nat.{ℕ, zero, suc, _+_, _≤_, _<_}
+use Prim.Native.Nat.{ℕ, zero, suc, _+_, _*_, _%_, _^_, _≤_, _<_}
 use native.Mathlib.Omega.{arith}
 use native.Mathlib.Decide.{decLt}
 use mathlib.Core.Path.{_≡_, refl, sym, ap, _∙_}
@@ -18,7 +18,7 @@ use mathlib.Core.Bool.{Bool, true, false, not, _&&_}
 use mathlib.Core.List.{List}
 use lib.ListN.{length}
 use borrow.Author.Tests.{not-true, not-false}
-use lib.Pow.{pow-mono}
+use lib.Pow.{pow-mono, shl-exact}
 use Rattle.records.specs.Format.{count}
 use Rattle.records.specs.Atoms.{atoms}
 use Rattle.records.proofs.Laws.Tests.{clash, both-left, both-right, both-true, both-rest, either-true, either-rest}
@@ -36,6 +36,11 @@ use Rattle.records.proofs.Laws.Sets.{length-table, table-at, table-past, Within
 -- Few atoms have few types.
 pub types-bound : (v : List ℕ) → atoms v ≤ atomLimit → types v ≤ typeLimit
 types-bound v h = pow-mono {j = atomLimit} h
+
+-- The number of types, as a shift makes it.
+pub size-word : (v : List ℕ) (k : ℕ) → atoms v ≤ atomLimit → k ≡ atoms v → (1 * 2 ^ k) % 18446744073709551616 ≡ types v
+size-word v k few e =
+    shl-exact {a = 1} 1 k 64 (omega arith) (omega arith) ∙ omega (arith, ap (λ (n : ℕ). 2 ^ n) e)
 
 -- The members of a set given by a test.
 pub has-table : (n : ℕ) (test : ℕ → Bool) (t : ℕ) → has (table n test) t ≡ true → (t < n) × (test t ≡ true)

@@ -9,8 +9,8 @@ use Rattle.records.specs.Finite.{least}
 use Rattle.types.specs.Comparison.{typeLimit}
 use Rattle.types.specs.declared.answers.Counts.{Counts}
 use Rattle.types.specs.Types.{types}
-use Rattle.types.proofs.Invariants.Answers.{size-word, verdict-same, alive-first}
-use Rattle.types.proofs.Theorems.Survivors.{types-bound}
+use Rattle.types.proofs.Invariants.Answers.{verdict-same, alive-first}
+use Rattle.types.proofs.Theorems.Survivors.{types-bound, size-word}
 use Rattle.records.proofs.Laws.Filling.{ends-empty}
 use Rattle.types.proofs.call.decide.Statement.{statement}
 use Rattle.types.proofs.call.decide.Tie as tie

@@ -4,7 +4,7 @@ use Prim.Native.Nat.{_-_}
 use native.Mathlib.Omega.{arith}
 use mathlib.Core.Path.{refl}
 use denote.Ref.{now}
-use Rattle.types.proofs.Invariants.Answers.{size-word}
+use Rattle.types.proofs.Theorems.Survivors.{size-word}
 use Rattle.types.proofs.settle.settle.Statement.{statement}
 use Rattle.types.proofs.settle.settle.Tie as tie
 

@@ -10,9 +10,9 @@ use denote.Ref.{now}
 use Rattle.records.specs.Finite.{countBelow, has}
 use Rattle.types.specs.Comparison.{bitmapBytes, countsOf}
 use Rattle.types.specs.Types.{types}
-use Rattle.types.proofs.Invariants.Answers.{size-word, alive-counted, alive-bitmap}
+use Rattle.types.proofs.Invariants.Answers.{alive-counted, alive-bitmap}
 use Rattle.types.proofs.Refinement.Rounds.{survivors-end}
-use Rattle.types.proofs.Theorems.Survivors.{types-bound}
+use Rattle.types.proofs.Theorems.Survivors.{types-bound, size-word}
 use Rattle.types.proofs.settle.settle_query.Statement.{statement}
 use Rattle.types.proofs.settle.settle_query.Tie as tie
 

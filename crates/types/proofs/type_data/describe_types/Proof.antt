@@ -16,9 +16,8 @@ use Rattle.types.specs.Code.Words.{restrictionWord, fillerWord}
 use Rattle.types.specs.Code.Settling.{differ}
 use Rattle.types.specs.declared.type_data.TypeData.{TypeData}
 use Rattle.records.proofs.Laws.Sets.{table-at, table-past}
-use Rattle.types.proofs.Invariants.Answers.{size-word}
 use Rattle.records.proofs.Laws.Filling.{Filled, fill-start, fill-turn, Ends, ends-turn}
-use Rattle.types.proofs.Theorems.Survivors.{types-bound}
+use Rattle.types.proofs.Theorems.Survivors.{types-bound, size-word}
 use Rattle.types.proofs.type_data.describe_types.Statement.{statement}
 use Rattle.types.proofs.type_data.describe_types.Tie as tie
 use Rattle.records.specs.Format.{recordLimit}

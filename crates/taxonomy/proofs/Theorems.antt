@@ -1,0 +1,1 @@
+-- What the paper says of names: broader names, and the entries of the taxonomy.

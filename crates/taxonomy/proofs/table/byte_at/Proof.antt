@@ -1,0 +1,38 @@
+-- `taxonomy::table::byte_at` meets its contract. A byte among the entries has a row and a column.
+-- Assumes nothing.
+use Prim.Native.Nat.{_*_}
+use native.Mathlib.Omega.{arith}
+use mathlib.Core.Path.{sym, _∙_}
+use borrow.Author.Tests.{lt-ltb, le-ltb}
+use Rattle.types.specs.Comparison.{atomLimit}
+use Rattle.taxonomy.proofs.Refinement.Table.{square-few, OfPair, pair-at}
+use Rattle.taxonomy.proofs.table.byte_at.Statement.{statement}
+use Rattle.taxonomy.proofs.table.byte_at.Tie as tie
+
+pair : (c : tie.Then1) → OfPair (c .before .args .n) (c .before .args .e)
+pair c = pair-at (c .before .args .n) (c .before .args .e) (c .if1 .taken)
+
+mul-if1 : tie.Need-mul-if1
+mul-if1 c = omega (arith, square-few (c .args .n) atomLimit (c .pre .1))
+
+div-entry : tie.Need-div-entry
+div-entry c = omega (arith, pair c .some)
+
+rem-entry : tie.Need-rem-entry
+rem-entry c = omega (arith, pair c .some)
+
+entry-requires : tie.Need-entry-requires
+entry-requires c κs =
+    let p = c .before .pre in
+    (p .0, (p .1, (omega (arith, p .1, pair c .row), omega (arith, p .1, pair c .column))))
+
+returns : tie.Need-returns
+returns c =
+    let a = c .before .before .args in
+    c .entry .ensures ∙ sym (rw (lt-ltb (a .e) (a .n * a .n) (c .before .if1 .taken)))
+
+returns-2 : tie.Need-returns-2
+returns-2 c = let a = c .before .args in rw (le-ltb (a .e) (a .n * a .n) (c .if1 .left))
+
+pub byte-at-spec : {M : Type 1} → statement M
+byte-at-spec = tie.close (tie.spec mul-if1 div-entry rem-entry entry-requires returns returns-2)
