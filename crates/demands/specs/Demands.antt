@@ -23,10 +23,10 @@ use Rattle.demands.specs.Table.{Follows, AcceptedVocabulary, TermOf, InF
 
 -- Demand 1: "Every call ends on every input, refuses unfit input itself by a fixed number and place, and a refusal alters no
 -- lent byte." Each call follows its table, and where no row applies answers the number of records, the record's offset, the
--- verdict, the counts, the number of steps. That a call ends is part of what the prover checks of every function. Two calls are
--- lent bytes that they may write: the comparison one buffer, the classification two. The record call, refused, hands back an empty
--- part. `untouched`, `both-untouched` and `empty` speak of the definitions; of the bytes themselves ComparisonReturns,
--- ClassificationReturns and RecordReturns (Returns.antt) and `.exit` in src/lib.rt speak.
+-- verdict, the counts, the number of steps. That a call ends is part of what the prover checks of every function. Two calls
+-- are lent bytes that they may write: the comparison one buffer, the classification two. The record call, refused, hands back
+-- an empty part. `untouched`, `both-untouched` and `empty` speak of the definitions; of the bytes themselves
+-- ComparisonReturns, ClassificationReturns and RecordReturns (Returns.antt) and `.exit` in src/lib.rt speak.
 pub record Demand1 : Type 0 where
   pub vocabulary : (v : List ℕ) → Follows (vocabularyTable v) (count v) (vocabularyCheck v)
   pub recording : (v : List ℕ) (number : ℕ) → Follows (recordTable v number) (8 * number) (recordCall v number)

@@ -23,8 +23,8 @@ pub record InRecordOrder (v list : List ℕ) : Type 0 where
   pub rising : (i j : ℕ) → i < j → j < length list → getD list i 0 < getD list j 0
   pub every : (a : ℕ) → NameOf v a → (i : ℕ) × (i < length list) × (getD list i 0 ≡ a)
 
--- b is "strictly broader" than a: a lies within b in every finite interpretation satisfying the statements ("Broader too means in
--- every such interpretation"), and not the other way round.
+-- b is "strictly broader" than a: a lies within b in every finite interpretation satisfying the statements, and not the other
+-- way round. "Broader too means in every such interpretation."
 abbrev pub StrictlyWithin : List ℕ → ℕ → ℕ → Type 0
 StrictlyWithin v a b = AlwaysWithin v a b × (AlwaysWithin v b a → ⊥)
 
@@ -32,8 +32,8 @@ StrictlyWithin v a b = AlwaysWithin v a b × (AlwaysWithin v b a → ⊥)
 abbrev pub Nearest : List ℕ → ℕ → ℕ → Type 0
 Nearest v a b = StrictlyWithin v a b × ((c : ℕ) → NameOf v c → StrictlyWithin v a c → StrictlyWithin v c b → ⊥)
 
--- "2 if the two are equal in every finite interpretation satisfying the statements, 1 if the second is strictly broader with no
--- name strictly between, else 0": each exactly if so.
+-- "2 if the two are equal in every finite interpretation satisfying the statements, 1 if the second is strictly broader with
+-- no name strictly between, else 0": 2 and 1 exactly if so.
 pub record RightEntry (v : List ℕ) (a b x : ℕ) : Type 0 where
   pub two-only : x ≡ 2 → AlwaysEqual v a b
   pub two-always : AlwaysEqual v a b → x ≡ 2
@@ -41,9 +41,9 @@ pub record RightEntry (v : List ℕ) (a b x : ℕ) : Type 0 where
   pub one-always : Nearest v a b → x ≡ 1
   pub zero-else : (AlwaysEqual v a b → ⊥) → (Nearest v a b → ⊥) → x ≡ 0
 
--- The second buffer, `room` before the call and `after` it: "for all pairs of names in record order .. one byte", "Rows go by the
--- first name, one byte per name; the rest of the first 144 are zero and later bytes keep their content." If no interpretation
--- satisfies the statements, any two names are equal in every one that does: all entries are 2.
+-- The second buffer, `room` before the call and `after` it: "for all pairs of names in record order .. one byte". "Rows go by
+-- the first name, one byte per name; the rest of the first 144 are zero and later bytes keep their content." With no such
+-- interpretation all entries are 2.
 pub record RightTable (v room after : List ℕ) : Type 0 where
   pub order : InRecordOrder v (names v)
   pub entries : (i j : ℕ) → i < nameCount v → j < nameCount v
@@ -54,14 +54,16 @@ pub record RightTable (v room after : List ℕ) : Type 0 where
   pub later : drop 144 after ≡ drop 144 room
   pub size : length after ≡ length room
 
--- What makes the answer right: "The first buffer and both counts are as in the comparison", the survivors' bitmap, their number and
--- that of the rounds; and the second buffer has the right table.
+-- What makes the answer right: "The first buffer and both counts are as in the comparison", that is the bitmap of the
+-- survivors, their number and that of the rounds; and the second buffer has the right table.
 pub record Tabulated (v lent room : List ℕ) : Type 0 where
   pub answers : classification v (length lent) (length room) ≡ accepted (counts v)
   pub first : written (classification v (length lent) (length room)) v lent ≡ bitmap v ++ drop 512 lent
   pub second : RightTable v room (tabulated (classification v (length lent) (length room)) v room)
 
--- The promise: for an accepted vocabulary of at most 12 atoms, with at least 512 and 144 bytes lent, the classification answers so.
+-- The promise: of an accepted vocabulary of at most 12 atoms, with at least 512 and 144 bytes lent, the classification gives
+-- the right answer.
 abbrev pub NearestNames : Type 0
 NearestNames =
-    (v lent room : List ℕ) → AcceptedVocabulary v → atoms v ≤ 12 → 512 ≤ length lent → 144 ≤ length room → Tabulated v lent room
+    (v lent room : List ℕ) → AcceptedVocabulary v → atoms v ≤ 12 → 512 ≤ length lent → 144 ≤ length room
+    → Tabulated v lent room

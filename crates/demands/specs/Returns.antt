@@ -1,4 +1,4 @@
--- The demands and the promises over what the calls return, for every input: what the contracts of src/lib.rt promise to a caller.
+-- The demands and promises over what the calls return, for every input: what the contracts of src/lib.rt promise to a caller.
 use Prim.Native.Nat.{ℕ, _*_, _≤_, _<_}
 use mathlib.Core.Bool.{true, not}
 use mathlib.Core.Path.{_≡_}
@@ -70,8 +70,8 @@ ComparisonReturns v a b before after (compared.Different t alive done) =
 ComparisonReturns v a b before after (compared.Refused n p) =
     Refuses (comparisonTable v a b (length before)) n p × (after ≡ before)
 
--- The counts: the second buffer has the taxonomy of the names, and its later bytes, and with that what NearestNames (Promises.antt)
--- promises. Refused: both buffers are as they were.
+-- The counts: the second buffer has the taxonomy, then its later bytes, and so what NearestNames (Promises.antt) promises of
+-- it. Refused: both buffers are as they were.
 abbrev pub ClassificationReturns : List ℕ → List ℕ → List ℕ → List ℕ → List ℕ → Classified → Type 0
 ClassificationReturns v before after room filled (classified.Counts alive done) =
     Settled (classificationTable v (length before) (length room)) v before after alive done

@@ -2,17 +2,17 @@
 --   right-entry, right-table   an entry, and the second buffer, of a vocabulary that is compared
 --   nearest-names              slip 1
 -- Assumes nothing.
-use Prim.Native.Nat.{ℕ, _+_, _*_, _≤_, _<_}
+use Prim.Native.Nat.{ℕ, _≤_}
 use native.Mathlib.Omega.{arith}
-use mathlib.Core.Path.{_≡_, subst, sym, _∙_}
+use mathlib.Core.Path.{_≡_, _∙_}
 use mathlib.Core.List.{List, _++_}
-use lib.ListN.{length, getD, drop, length-append, length-drop}
+use lib.ListN.{length, drop, length-append, length-drop}
 use lib.Seq.{drop-at}
 use Rattle.records.specs.Format.{count}
 use Rattle.records.specs.Atoms.{atoms}
 use Rattle.records.proofs.Theorems.Accepted.{AcceptedFacts, accepted-vocabulary}
 use Rattle.types.specs.Meaning.{AlwaysEqual}
-use Rattle.taxonomy.specs.Taxonomy.{nameCount, nameAt, entry, taxonomy}
+use Rattle.taxonomy.specs.Taxonomy.{nameAt, entry, taxonomy}
 use Rattle.taxonomy.proofs.Theorems.Names.{name-is, name-found, names-rise}
 use Rattle.taxonomy.proofs.Theorems.Entries.{entry-equal, equal-entry, entry-nearest, nearest-entry, entry-else}
 use Rattle.taxonomy.proofs.Theorems.Entries.{taxonomy-entry, taxonomy-rest, length-taxonomy}

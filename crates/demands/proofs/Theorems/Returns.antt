@@ -19,7 +19,7 @@ use Rattle.records.proofs.Theorems.Bounds.{record-within}
 use Rattle.records.specs.Finite.{members}
 use Rattle.types.specs.Survivors.{survivors, rounds}
 use Rattle.types.specs.declared.answers.Counts.{Counts}
-use Rattle.types.specs.Comparison.{Verdict, equal, different, countsOf, comparison}
+use Rattle.types.specs.Comparison.{equal, different, countsOf, comparison}
 use Rattle.types.specs.Bitmap.{written}
 use Rattle.types.specs.Answers as types
 use Rattle.types.specs.declared.answers.Compared.{Compared}

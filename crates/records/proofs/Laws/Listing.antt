@@ -175,7 +175,8 @@ module _ (test : ℕ → Bool) where
   entry-rises zero l m h k = absurd (omega (arith, entries-none))
   entry-rises (suc n) l m h k = at (earlier n m k) (entry-rises n l m h)
     where
-      at : Earlier n m → (m < entries test n → entry test n l < entry test n m) → entry test (suc n) l < entry test (suc n) m
+      at : Earlier n m → (m < entries test n → entry test n l < entry test n m)
+          → entry test (suc n) l < entry test (suc n) m
       at (inl j) r = rw (entry-kept n l (omega arith), entry-kept n m j) (r j)
       at (inr e) r =
           let old : l < entries test n = omega (arith, e .0) in

@@ -5,14 +5,14 @@
 --   entry-else                     it is 0 otherwise
 --   taxonomy-entry                 entry (i, j) of n names is byte i * n + j
 --   taxonomy-rest                  the bytes after the entries are 0
+--   length-taxonomy                there are 144
 -- Assumes nothing.
-use Prim.Native.Nat.{ℕ, _+_, _*_, _/_, _%_, _≤_, _<_}
+use Prim.Native.Nat.{ℕ, _+_, _*_, _≤_, _<_}
 use native.Mathlib.Omega.{arith}
-use mathlib.Core.Path.{_≡_, refl, subst, ap, _∙_}
+use mathlib.Core.Path.{_≡_, refl, ap, _∙_}
 use mathlib.Core.Bool.{Bool, true, false, cond, not, _&&_}
 use mathlib.Core.List.{List, _++_}
 use lib.Arith.{digits-lt, digits-div, digits-mod}
-use lib.Dec.{ltb}
 use lib.ListN.{length, getD, List·getD-append}
 use borrow.Author.Tests.{lt-ltb, le-ltb, not-true}
 use Rattle.records.specs.Atoms.{atoms}
@@ -26,8 +26,8 @@ use Rattle.types.proofs.Theorems.Inclusions.{equal-both}
 use Rattle.taxonomy.specs.Taxonomy.{nameCount, nameAt, equivalent, strictlyBroader, between, entry, taxonomyBytes}
 use Rattle.taxonomy.specs.Taxonomy.{entryByte, taxonomy}
 use Rattle.taxonomy.proofs.Theorems.Names.{NameOf, name-is, name-found, names-within}
-use Rattle.taxonomy.proofs.Theorems.Broader.{StrictlyWithin, equivalent-equal, equal-equivalent, strictly-within}
-use Rattle.taxonomy.proofs.Theorems.Broader.{within-strictly, between-name, name-between}
+use Rattle.taxonomy.proofs.Theorems.Broader.{StrictlyWithin, Between, equivalent-equal, equal-equivalent}
+use Rattle.taxonomy.proofs.Theorems.Broader.{strictly-within, within-strictly, between-name, name-between}
 
 abbrev pub Nearest : List ℕ → ℕ → ℕ → Type 0
 Nearest v a b = StrictlyWithin v a b × ((c : ℕ) → NameOf v c → StrictlyWithin v a c → StrictlyWithin v c b → ⊥)
@@ -54,7 +54,8 @@ module _ (v : List ℕ) (good : AcceptedFacts v) (few : atoms v ≤ atomLimit) (
         strictly-within v good few a b (both-left (strictlyBroader v a b) (not (between v a b)) h),
         λ c name above below.
             let m = name-found v c name in
-            let found = name-between v good few a b (m .0) (m .1) record { above = rw (m .2) above; below = rw (m .2) below } in
+            let amid : Between v a b (m .0) = record { above = rw (m .2) above; below = rw (m .2) below } in
+            let found = name-between v good few a b (m .0) (m .1) amid in
             clash (cc),
       )
 
