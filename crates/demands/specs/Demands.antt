@@ -12,26 +12,33 @@ use Rattle.records.specs.Check.{vocabularyCheck}
 use Rattle.records.specs.Call.{recordCall, recordPart}
 use Rattle.records.specs.Atoms.{atoms}
 use Rattle.types.specs.Meaning.{Interpretation, Element, belongs, Model, AlwaysEqual, AlwaysWithin}
-use Rattle.types.specs.Comparison.{Verdict, equal, different, verdict, comparison}
+use Rattle.types.specs.Comparison.{Verdict, equal, different, verdict, comparison, counts}
 use Rattle.types.specs.Bitmap.{written, readBack}
+use Rattle.taxonomy.specs.Taxonomy.{classification, tabulated}
 use Rattle.scripts.specs.Format.{queryOf, chain}
 use Rattle.scripts.specs.Calculus.{Derives}
 use Rattle.scripts.specs.Run.{stepAt, scriptCheck}
-use Rattle.demands.specs.Table.{vocabularyTable, recordTable, comparisonTable, scriptTable, Follows, AcceptedVocabulary}
-use Rattle.demands.specs.Table.{TermOf, InForm}
+use Rattle.demands.specs.Table.{vocabularyTable, recordTable, comparisonTable, classificationTable, scriptTable}
+use Rattle.demands.specs.Table.{Follows, AcceptedVocabulary, TermOf, InForm}
 
 -- Demand 1: "Every call ends on every input, refuses unfit input itself by a fixed number and place, and a refusal alters no
 -- lent byte." Each call follows its table, and where no row applies answers the number of records, the record's offset, the
--- verdict, the number of steps. That a call ends is part of what the prover checks of every function. The comparison alone is
--- lent bytes that it may write; the record call, refused, hands back an empty part. `untouched` and `empty` speak of the
--- definitions; of the bytes themselves ComparisonReturns and RecordReturns (Returns.antt) and `.exit` in src/lib.rt speak.
+-- verdict, the counts, the number of steps. That a call ends is part of what the prover checks of every function. Two calls
+-- are lent bytes that they may write: the comparison one buffer, the classification two. The record call, refused, hands back
+-- an empty part. `untouched`, `both-untouched` and `empty` speak of the definitions; of the bytes themselves
+-- ComparisonReturns, ClassificationReturns and RecordReturns (Returns.antt) and `.exit` in src/lib.rt speak.
 pub record Demand1 : Type 0 where
   pub vocabulary : (v : List ℕ) → Follows (vocabularyTable v) (count v) (vocabularyCheck v)
   pub recording : (v : List ℕ) (number : ℕ) → Follows (recordTable v number) (8 * number) (recordCall v number)
   pub compares : (v : List ℕ) (a b lent : ℕ) → Follows (comparisonTable v a b lent) (verdict v a b) (comparison v a b lent)
+  pub classifies : (v : List ℕ) (lent room : ℕ)
+      → Follows (classificationTable v lent room) (counts v) (classification v lent room)
   pub checks : (v s : List ℕ) → Follows (scriptTable v s) (length (chain s)) (scriptCheck v s)
   pub untouched : (v : List ℕ) (a b n p : ℕ) (lent : List ℕ) → comparison v a b (length lent) ≡ refused n p
       → written (comparison v a b (length lent)) v lent ≡ lent
+  pub both-untouched : (v lent room : List ℕ) (n p : ℕ) → classification v (length lent) (length room) ≡ refused n p
+      → (written (classification v (length lent) (length room)) v lent ≡ lent)
+      × (tabulated (classification v (length lent) (length room)) v room ≡ room)
   pub empty : (v : List ℕ) (number n p : ℕ) → recordCall v number ≡ refused n p → recordPart v number ≡ []
 
 -- The script's chain is a derivation, of at most 64 open frames, by start, extension and reduction over the listed columns.

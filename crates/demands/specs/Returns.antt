@@ -1,4 +1,4 @@
--- The demands over what the calls return, for every input: what the contracts of src/lib.rt promise to a caller.
+-- The demands and promises over what the calls return, for every input: what the contracts of src/lib.rt promise to a caller.
 use Prim.Native.Nat.{ℕ, _*_, _≤_, _<_}
 use mathlib.Core.Bool.{true, not}
 use mathlib.Core.Path.{_≡_}
@@ -16,12 +16,16 @@ use Rattle.types.specs.Survivors.{survivors, rounds}
 use Rattle.types.specs.Bitmap.{bitmap, readBack}
 use Rattle.types.specs.declared.answers.Compared.{Compared}
 use Rattle.types.specs.declared.answers.Compared.the-variants as compared
+use Rattle.taxonomy.specs.Taxonomy.{taxonomy}
+use Rattle.taxonomy.specs.declared.answers.Classified.{Classified}
+use Rattle.taxonomy.specs.declared.answers.Classified.the-variants as classified
 use Rattle.scripts.specs.Format.{queryOf, chain}
 use Rattle.scripts.specs.declared.answers.Judged.{Judged}
 use Rattle.scripts.specs.declared.answers.Judged.the-variants as judged
-use Rattle.demands.specs.Table.{vocabularyTable, recordTable, comparisonTable, scriptTable, AcceptedVocabulary}
-use Rattle.demands.specs.Table.{NoneApplies, Refuses, InForm}
+use Rattle.demands.specs.Table.{Row, vocabularyTable, recordTable, comparisonTable, classificationTable, scriptTable}
+use Rattle.demands.specs.Table.{AcceptedVocabulary, NoneApplies, Refuses, InForm}
 use Rattle.demands.specs.Demands.{ChainDerives, Shown}
+use Rattle.demands.specs.Promises.{RightTable}
 
 -- The vocabulary check "answers the number of records, header included".
 abbrev pub VocabularyReturns : List ℕ → Counted → Type 0
@@ -41,9 +45,9 @@ pub data RecordReturns (v : List ℕ) (number : ℕ) (part : List ℕ) : Type 0 
 
 -- What goes with either answer of the comparison: "the number of survivors and of rounds that removed something (never over
 -- 2^k)", and the bytes after the call, the survivors "in the first 512 bytes, the rest of which are 0; later bytes keep their
--- content".
-pub record EitherAnswer (v : List ℕ) (a b : ℕ) (before after : List ℕ) (alive done : ℕ) : Type 0 where
-  pub none : NoneApplies (comparisonTable v a b (length before))
+-- content". With the classification too: "The first buffer and both counts are as in the comparison."
+pub record Settled (rows : List Row) (v before after : List ℕ) (alive done : ℕ) : Type 0 where
+  pub none : NoneApplies rows
   pub counted : alive ≡ members (survivors v)
   pub elapsed : done ≡ rounds v
   pub few : done ≤ types v
@@ -59,11 +63,21 @@ pub record Smallest (v : List ℕ) (a b t : ℕ) : Type 0 where
 -- show it by the element. Refused: the bytes are as they were.
 abbrev pub ComparisonReturns : List ℕ → ℕ → ℕ → List ℕ → List ℕ → Compared → Type 0
 ComparisonReturns v a b before after (compared.Equal alive done) =
-    AlwaysEqual v a b × EitherAnswer v a b before after alive done
+    AlwaysEqual v a b × Settled (comparisonTable v a b (length before)) v before after alive done
 ComparisonReturns v a b before after (compared.Different t alive done) =
-    (AlwaysEqual v a b → ⊥) × Shown (readBack v after) v a b t × Smallest v a b t × EitherAnswer v a b before after alive done
+    (AlwaysEqual v a b → ⊥) × Shown (readBack v after) v a b t × Smallest v a b t
+    × Settled (comparisonTable v a b (length before)) v before after alive done
 ComparisonReturns v a b before after (compared.Refused n p) =
     Refuses (comparisonTable v a b (length before)) n p × (after ≡ before)
+
+-- The counts: the second buffer has the taxonomy, then its later bytes, and so what NearestNames (Promises.antt) promises of
+-- it. Refused: both buffers are as they were.
+abbrev pub ClassificationReturns : List ℕ → List ℕ → List ℕ → List ℕ → List ℕ → Classified → Type 0
+ClassificationReturns v before after room filled (classified.Counts alive done) =
+    Settled (classificationTable v (length before) (length room)) v before after alive done
+    × (filled ≡ taxonomy v ++ drop 144 room) × RightTable v room filled
+ClassificationReturns v before after room filled (classified.Refused n p) =
+    Refuses (classificationTable v (length before) (length room)) n p × (after ≡ before) × (filled ≡ room)
 
 -- Accepted: what the script asks is so in every finite interpretation satisfying the statements, and its chain, of so many steps,
 -- derives it. Refused, where the vocabulary and the form were fit: the chain is no derivation of at most 64 open frames.

@@ -1,12 +1,15 @@
 -- Samples 1 to 9 of paper 01, from the bytes of their vocabularies and scripts, as "a joint table": answers, counts, and of the
--- comparison the first two bytes written. "Every statement in these samples is on the chain."
-use Prim.Native.Nat.{ℕ}
+-- comparison the first two bytes written. "Every statement in these samples is on the chain." After them cases of paper 02,
+-- worked by hand: of the classification the counts and the entries.
+use Prim.Native.Nat.{ℕ, _*_}
 use mathlib.Core.Path.{_≡_}
 use mathlib.Core.List.{List, [], _∷_, map}
 use lib.ListN.{take}
 use Rattle.records.specs.Outcome.{Outcome, accepted, refused}
-use Rattle.types.specs.Comparison.{Verdict, equal, different, comparison}
+use Rattle.types.specs.declared.answers.Counts.{Counts}
+use Rattle.types.specs.Comparison.{Verdict, equal, different, countsOf, comparison}
 use Rattle.types.specs.Bitmap.{bitmap}
+use Rattle.taxonomy.specs.Taxonomy.{nameCount, taxonomy, classification}
 use Rattle.scripts.specs.Run.{scriptCheck}
 
 -- the eight bytes of a vocabulary record, and the sixteen of a script record in two halves, whose numbers are under 256
@@ -57,18 +60,21 @@ start column next rest = words 3 column 0 0 (words 0 0 0 next rest)
 abbrev pub extension : ℕ → ℕ → ℕ → ℕ → ℕ → List ℕ → List ℕ
 extension owner column x position next rest = words 4 owner column x (words 0 position 0 next rest)
 
--- A comparison of two terms, or a script to check.
+-- A comparison of two terms, a script to check, or names to classify.
 pub data Question : Type 0 where
   compares : List ℕ → ℕ → ℕ → Question
   checks : List ℕ → List ℕ → Question
+  classifies : List ℕ → Question
 
 pub data Answer : Type 0 where
   verdicts : Outcome Verdict → List ℕ → Answer
   judgments : Outcome ℕ → Answer
+  tables : Outcome Counts → List ℕ → Answer
 
 abbrev pub answer : Question → Answer
 answer (compares v a b) = verdicts (comparison v a b 512) (take 2 (bitmap v))
 answer (checks v s) = judgments (scriptCheck v s)
+answer (classifies v) = tables (classification v 512 144) (take (nameCount v * nameCount v) (taxonomy v))
 
 abbrev pub says : Verdict → ℕ → ℕ → Answer
 says x first second = verdicts (accepted x) (first ∷ second ∷ [])
@@ -110,6 +116,22 @@ S₈ = asking 4 3 2 (constant (start 1 3 (extension 5 0 1 1 0 [])))
 abbrev pub S₉ : ℕ → List ℕ
 S₉ x = asking 2 1 3 (constant (function 2 1 (start 0 4 (extension 2 1 1 0 5 (extension 1 0 x 0 0 [])))))
 
+-- Names 1, 2, 3; 4: 1 within 2.
+abbrev pub W₁ : List ℕ
+W₁ = header 4 0 (name 1 (name 2 (name 3 (within 1 2 0 []))))
+
+-- The same with 5: 2 within 3 chained. 3 is broader than 1, and not nearest.
+abbrev pub W₂ : List ℕ
+W₂ = header 4 0 (name 1 (name 2 (name 3 (within 1 2 5 (within 2 3 0 [])))))
+
+-- The same with 6: 3 within 2 chained. 2 and 3 are equal, and both are nearest to 1.
+abbrev pub W₃ : List ℕ
+W₃ = header 4 0 (name 1 (name 2 (name 3 (within 1 2 5 (within 2 3 6 (within 3 2 0 []))))))
+
+-- Names 1, 2; top 3, bottom 4, 5: 3 within 4. No interpretation satisfies this, so the two are equal in every one that does.
+abbrev pub W₄ : List ℕ
+W₄ = header 5 0 (name 1 (name 2 (top (bottom (within 3 4 0 [])))))
+
 abbrev pub asked : List Question
 asked =
     compares V₁ 4 3
@@ -122,6 +144,10 @@ asked =
     ∷ checks V₁ S₈
     ∷ checks V₄ (S₉ 2)
     ∷ checks V₄ (S₉ 1)
+    ∷ classifies W₁
+    ∷ classifies W₂
+    ∷ classifies W₃
+    ∷ classifies W₄
     ∷ []
 
 abbrev pub answered : List Answer
@@ -136,6 +162,10 @@ answered =
     ∷ judgments (refused 24 3)
     ∷ judgments (accepted 3)
     ∷ judgments (refused 21 5)
+    ∷ tables (accepted (countsOf 6 0)) (2 ∷ 1 ∷ 0 ∷ 0 ∷ 2 ∷ 0 ∷ 0 ∷ 0 ∷ 2 ∷ [])
+    ∷ tables (accepted (countsOf 4 0)) (2 ∷ 1 ∷ 0 ∷ 0 ∷ 2 ∷ 1 ∷ 0 ∷ 0 ∷ 2 ∷ [])
+    ∷ tables (accepted (countsOf 3 0)) (2 ∷ 1 ∷ 1 ∷ 0 ∷ 2 ∷ 2 ∷ 0 ∷ 2 ∷ 2 ∷ [])
+    ∷ tables (accepted (countsOf 0 0)) (2 ∷ 2 ∷ 2 ∷ 2 ∷ [])
     ∷ []
 
 abbrev pub Samples : Type 0

@@ -1,4 +1,5 @@
 -- The paper's table of refusals, as a list of rows for each call: each row with its number, its place and whether it applies.
+-- Row 26 is paper 02's.
 -- "Every refusal gives number and place and leaves all lent memory untouched. The first that applies in table order is given
 -- and never otherwise."
 use Prim.Native.Nat.{ℕ, zero, suc, _-_}
@@ -77,6 +78,10 @@ atomsRow v = row 11 (atoms v) (not (leb (atoms v) 12))
 -- | | 12 | under 512 bytes lent | 0 |
 abbrev pub lentRow : ℕ → Row
 lentRow lent = row 12 0 (not (leb 512 lent))
+
+-- Slip 1 of paper 02: "Turned away: 26, after 12, for fewer than 144 bytes in the second buffer, place 0."
+abbrev pub tableRow : ℕ → Row
+tableRow lent = row 26 0 (not (leb 144 lent))
 
 -- | Script length, after 1 to 8 | 13 | under 16, over 32,768 or no multiple of 16 | 0 |
 abbrev pub scriptLengthRow : List ℕ → Row
@@ -166,6 +171,15 @@ comparisonTable v a b lent =
     ∷ termRow v b
     ∷ atomsRow v
     ∷ lentRow lent
+    ∷ []
+
+-- The classification, "With no query", so without 10, and "26, after 12": 1 to 8, 11, 12, 26.
+abbrev pub classificationTable : List ℕ → ℕ → ℕ → List Row
+classificationTable v lent room =
+    vocabularyTable v
+    ++ atomsRow v
+    ∷ lentRow lent
+    ∷ tableRow room
     ∷ []
 
 -- "for a script check 1 to 8, 13, 14, 10, then 15 on", of which 13 to 19 are the form:

@@ -5,5 +5,6 @@ pub mod Survivors
 mod ElementTypes
 mod CanonicalModel
 mod ReadBack
+pub mod Inclusions
 pub mod Verdicts
 pub mod Comparison

@@ -1,10 +1,11 @@
 -- Bounds on what the calls answer, from their tables: what a caller needs to pack an answer into a word.
---   Near, Small, SmallVerdict               a refusal, and an answer, whose numbers are small
+--   Near, Small, SmallVerdict, SmallCounts  a refusal, and an answer, whose numbers are small
 --   AllNear, near-append, near-turns        each row is near: of more rows, and of rows in turn
 --   Bounded, near-bounded, bounded-append   each row that is reached is near
 --   refusal-near, small                     so a refusal is near, and with a small value the answer small
 --   vocabulary-small, record-small          the count or place is at most 512; the offset or place 4,096 or the number
 --   most, comparison-small                  the verdict's numbers are at most 2^12
+--   classification-small                    the counts are at most 2^12, the place 512
 --   mostPlace, script-small                 the steps or place are at most 2,048, or a number of the query
 -- Assumes nothing.
 use Prim.Native.Nat.{ℕ, zero, suc, _+_, _-_, _*_, _≤_, _<_, max}
@@ -24,20 +25,23 @@ use Rattle.records.proofs.Theorems.Accepted.{Sized, length-passed}
 use Rattle.records.proofs.Laws.Checks.{require-passed}
 use Rattle.records.proofs.Laws.Lists.{All}
 use Rattle.records.proofs.Theorems.Ranks.{rank-bound}
+use Rattle.types.specs.declared.answers.Counts.{Counts}
 use Rattle.types.specs.Comparison.{Verdict, equal, different, typeLimit, comparison}
-use Rattle.types.proofs.Theorems.Survivors.{types-bound, survivors-serving, survivors-few}
-use Rattle.types.proofs.Theorems.Verdicts.{answered}
+use Rattle.types.proofs.Theorems.Survivors.{types-bound, rounds-bound, survivors-serving, survivors-few}
+use Rattle.types.proofs.Theorems.Verdicts as verdicts
 use Rattle.types.proofs.Theorems.Comparison.{counts, different-first}
+use Rattle.taxonomy.specs.Taxonomy.{classification}
+use Rattle.taxonomy.proofs.Theorems.Answers.{answered}
 use Rattle.scripts.specs.Format.{entryLimit, entries, queryOf, firstStep, chain}
 use Rattle.scripts.specs.Form as script
 use Rattle.scripts.specs.Run.{scriptCheck}
 use Rattle.scripts.proofs.Theorems.Form.{OnChain, KeepsForm, length-sized, keeps-form, chain-ahead, chain-few}
 use Rattle.demands.specs.Table.{Row, row, rowsInTurn, recordRows, nextRows, vocabularyTable, recordTable, termRow}
-use Rattle.demands.specs.Table.{comparisonTable, entryRows, firstStepRow, nextStepRows, formTable, OpenFrames}
-use Rattle.demands.specs.Table.{framesAfter, stepRows, laterRows, chainTable, NoneApplies, Refuses, Follows}
+use Rattle.demands.specs.Table.{comparisonTable, classificationTable, entryRows, firstStepRow, nextStepRows, formTable}
+use Rattle.demands.specs.Table.{OpenFrames, framesAfter, stepRows, laterRows, chainTable, NoneApplies, Refuses, Follows}
 use Rattle.demands.proofs.Laws.Rows.{first, row-passed, refuses-first}
 use Rattle.demands.proofs.Theorems.Tables.{form-passed, vocabulary-follows, record-follows, comparison-follows}
-use Rattle.demands.proofs.Theorems.Tables.{script-follows}
+use Rattle.demands.proofs.Theorems.Tables.{classification-follows, script-follows}
 
 -- A refusal's number is not 0 and fits a byte, and its place is at most m.
 abbrev pub Near : ℕ → ℕ → ℕ → Type 0
@@ -53,6 +57,11 @@ abbrev pub SmallVerdict : ℕ → Outcome Verdict → Type 0
 SmallVerdict m (accepted (equal s n)) = (s ≤ typeLimit) × (n ≤ typeLimit)
 SmallVerdict m (accepted (different t s n)) = (t < typeLimit) × (s ≤ typeLimit) × (n ≤ typeLimit)
 SmallVerdict m (refused n p) = Near m n p
+
+-- Counts that are at most 2^12, or a refusal that is near.
+abbrev pub SmallCounts : ℕ → Outcome Counts → Type 0
+SmallCounts m (accepted c) = (c .survivors ≤ typeLimit) × (c .rounds ≤ typeLimit)
+SmallCounts m (refused n p) = Near m n p
 
 -- Each row is near; each row that is reached is near.
 abbrev AllNear : ℕ → List Row → Type 0
@@ -179,11 +188,11 @@ module _ (v : List ℕ) (a b lent : ℕ) where
 
   answer-small : (x : Verdict) → comparison v a b lent ≡ accepted x → SmallVerdict most (accepted x)
   answer-small (equal s n) e =
-      let few = types-bound v (answered v a b lent (equal s n) e .few) in
+      let few = types-bound v (verdicts.answered v a b lent (equal s n) e .few) in
       let c = counts v a b lent (equal s n) e in
       (omega (arith, c .0, survivors-few v), omega (arith, c .2))
   answer-small (different t s n) e =
-      let few = types-bound v (answered v a b lent (different t s n) e .few) in
+      let few = types-bound v (verdicts.answered v a b lent (different t s n) e .few) in
       let c = counts v a b lent (different t s n) e in
       let first = different-first v a b lent t s n e in (
         omega (arith, survivors-serving v .small t (first .0)),
@@ -206,6 +215,25 @@ module _ (v : List ℕ) (a b lent : ℕ) where
       at (refused n p) e =
           refusal-near most (comparisonTable v a b lent) n p comparison-bounded
           (comparison-follows v a b lent .refused-only n p e)
+
+module _ (v : List ℕ) (lent room : ℕ) where
+  classification-bounded : Bounded recordLimit (classificationTable v lent room)
+  classification-bounded =
+      bounded-append recordLimit (vocabularyTable v) _ (vocabulary-bounded recordLimit (omega arith) v) (λ none.
+      let sized = measured v (none .0) in
+      near-bounded recordLimit (row 11 (atoms v) _ ∷ row 12 0 _ ∷ row 26 0 _ ∷ []) (omega (arith, rank-bound v (count v))))
+
+  pub classification-small : SmallCounts recordLimit (classification v lent room)
+  classification-small = at (classification v lent room) refl
+    where
+      at : (o : Outcome Counts) → classification v lent room ≡ o → SmallCounts recordLimit o
+      at (accepted c) e =
+          let a = answered v lent room c e in
+          let few = types-bound v (a .few) in
+          (rw (a .answer) (omega (arith, survivors-few v)), rw (a .answer) (omega (arith, rounds-bound v)))
+      at (refused n p) e =
+          refusal-near recordLimit (classificationTable v lent room) n p classification-bounded
+          (classification-follows v lent room .refused-only n p e)
 
 -- A script has at most 2,048 records, a vocabulary 512; row 10's place is a number of the query.
 abbrev pub mostPlace : List ℕ → ℕ

@@ -7,7 +7,7 @@ use Rattle.types.proofs.Theorems.Verdicts.{answers-always}
 use Rattle.scripts.proofs.Theorems.Scripts.{checked-parts, accepted-derives, derives-accepted, accepted-within}
 use Rattle.demands.specs.Demands.{Demand1, Demand2, Demand3}
 use Rattle.demands.proofs.Theorems.Tables.{form-passed, term-passed, vocabulary-follows, record-follows}
-use Rattle.demands.proofs.Theorems.Tables.{comparison-follows, script-follows}
+use Rattle.demands.proofs.Theorems.Tables.{comparison-follows, classification-follows, script-follows}
 use Rattle.demands.proofs.Theorems.Denials.{right-verdict}
 
 pub demand-1 : Demand1
@@ -16,8 +16,10 @@ demand-1 =
       vocabulary = vocabulary-follows;
       recording = record-follows;
       compares = comparison-follows;
+      classifies = classification-follows;
       checks = script-follows;
       untouched = λ v a b n p lent e. rw e;
+      both-untouched = λ v lent room n p e. (rw e, rw e);
       empty = λ v number n p e. rw e;
     }
 

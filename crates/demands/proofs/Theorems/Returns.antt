@@ -1,11 +1,12 @@
 -- What the calls return, from the equations of their contracts.
---   vocabulary-returns, offset-returns, record-returns, comparison-returns, script-returns   of each call
+--   vocabulary-returns, offset-returns, record-returns                of each call
+--   comparison-returns, classification-returns, script-returns
 -- Assumes nothing.
 use Prim.Native.Nat.{ℕ, _+_, _≤_}
 use native.Mathlib.Omega.{arith}
 use mathlib.Core.Path.{_≡_, refl, sym, ap, _∙_}
-use mathlib.Core.List.{List}
-use lib.ListN.{length, length-take, length-drop}
+use mathlib.Core.List.{List, _++_}
+use lib.ListN.{length, drop, length-take, length-drop}
 use Rattle.records.specs.Outcome.{Outcome, accepted, refused}
 use Rattle.records.specs.Check.{vocabularyCheck}
 use Rattle.records.specs.Call.{recordCall, partFor, recordPart}
@@ -17,13 +18,20 @@ use Rattle.records.specs.declared.answers.Located.the-variants as located
 use Rattle.records.proofs.Theorems.Bounds.{record-within}
 use Rattle.records.specs.Finite.{members}
 use Rattle.types.specs.Survivors.{survivors, rounds}
-use Rattle.types.specs.Comparison.{Verdict, equal, different, comparison}
+use Rattle.types.specs.declared.answers.Counts.{Counts}
+use Rattle.types.specs.Comparison.{equal, different, countsOf, comparison}
 use Rattle.types.specs.Bitmap.{written}
 use Rattle.types.specs.Answers as types
 use Rattle.types.specs.declared.answers.Compared.{Compared}
 use Rattle.types.specs.declared.answers.Compared.the-variants as compared
 use Rattle.types.proofs.Theorems.Comparison.{different-first, counts}
 use Rattle.types.specs.Types.{types}
+use Rattle.types.proofs.Theorems.Survivors.{rounds-bound}
+use Rattle.taxonomy.specs.Taxonomy.{taxonomy, classification, tabulated}
+use Rattle.taxonomy.specs.Answers as taxonomy
+use Rattle.taxonomy.specs.declared.answers.Classified.{Classified}
+use Rattle.taxonomy.specs.declared.answers.Classified.the-variants as classified
+use Rattle.taxonomy.proofs.Theorems.Answers.{answered}
 use Rattle.records.proofs.Laws.Tests.{clash}
 use Rattle.scripts.specs.Format.{chain}
 use Rattle.scripts.specs.Run.{scriptCheck}
@@ -31,10 +39,13 @@ use Rattle.scripts.specs.Answers as scripts
 use Rattle.scripts.specs.declared.answers.Judged.{Judged}
 use Rattle.scripts.specs.declared.answers.Judged.the-variants as judged
 use Rattle.scripts.proofs.Theorems.Scripts.{checked-parts, accepted-derives, accepted-within}
-use Rattle.demands.specs.Returns.{VocabularyReturns, OffsetReturns, RecordReturns, handed, empty, EitherAnswer, Smallest}
-use Rattle.demands.specs.Returns.{ComparisonReturns, ScriptReturns}
+use Rattle.demands.specs.Table.{Row, Follows}
+use Rattle.demands.specs.Returns.{VocabularyReturns, OffsetReturns, RecordReturns, handed, empty, Settled, Smallest}
+use Rattle.demands.specs.Returns.{ComparisonReturns, ClassificationReturns, ScriptReturns}
 use Rattle.demands.proofs.Theorems.Demands.{demand-2}
-use Rattle.demands.proofs.Theorems.Tables.{vocabulary-follows, record-follows, comparison-follows, script-follows}
+use Rattle.demands.proofs.Theorems.Promises.{right-table}
+use Rattle.demands.proofs.Theorems.Tables.{vocabulary-follows, record-follows, comparison-follows}
+use Rattle.demands.proofs.Theorems.Tables.{classification-follows, script-follows}
 use Rattle.demands.proofs.Theorems.Denials.{right-verdict}
 
 pub vocabulary-returns : (v : List ℕ) (r : Counted) → records.counted r ≡ vocabularyCheck v → VocabularyReturns v r
@@ -55,19 +66,20 @@ record-returns v number part e = at (recordCall v number) refl e
         handed (w .0) (h ∙ rw (w .1)) (ap length h ∙ simp (length-take, length-drop) (omega arith))
     at (refused n p) q h = empty n p (record-follows v number .refused-only n p q) h
 
-module _ (v : List ℕ) (a b : ℕ) (before after : List ℕ) where
-  settled : (x : Verdict) (alive done : ℕ) → comparison v a b (length before) ≡ accepted x
-      → after ≡ written (comparison v a b (length before)) v before
-      → (alive ≡ members (survivors v)) × (done ≡ rounds v) × (done ≤ types v) → EitherAnswer v a b before after alive done
-  settled x alive done e w c =
-      record {
-        none = comparison-follows v a b (length before) .accepted-only x e .0;
-        counted = c .0;
-        elapsed = c .1;
-        few = c .2;
-        wrote = w ∙ rw e;
-      }
+-- The numbers of survivors and of rounds, and what goes with them in the answer of a call that writes the survivors.
+abbrev Tally : List ℕ → ℕ → ℕ → Type 0
+Tally v alive done = (alive ≡ members (survivors v)) × (done ≡ rounds v) × (done ≤ types v)
 
+tally : (v : List ℕ) (c : Counts) → c ≡ countsOf (members (survivors v)) (rounds v) → Tally v (c .survivors) (c .rounds)
+tally v c e = rw e (refl, refl, rounds-bound v)
+
+settled : {A : Type 0} {rows : List Row} {value : A} {o : Outcome A} (v before after : List ℕ) (x : A) (alive done : ℕ)
+    → Follows rows value o → o ≡ accepted x → after ≡ written o v before → Tally v alive done
+    → Settled rows v before after alive done
+settled v before after x alive done f e w c =
+    record { none = f .accepted-only x e .0; counted = c .0; elapsed = c .1; few = c .2; wrote = w ∙ rw e }
+
+module _ (v : List ℕ) (a b : ℕ) (before after : List ℕ) where
   smallest : (t s n : ℕ) → comparison v a b (length before) ≡ accepted (different t s n) → Smallest v a b t
   smallest t s n e =
       let w = different-first v a b (length before) t s n e in record { survives = w .0; differ = w .1; before = w .2 }
@@ -75,14 +87,33 @@ module _ (v : List ℕ) (a b : ℕ) (before after : List ℕ) where
   pub comparison-returns : (r : Compared) → types.compared r ≡ comparison v a b (length before)
       → after ≡ written (comparison v a b (length before)) v before → ComparisonReturns v a b before after r
   comparison-returns (compared.Equal s n) e w =
+      let f = comparison-follows v a b (length before) in
       let c = counts v a b (length before) (equal s n) (sym e) in
-      (right-verdict v a b before (equal s n) (sym e), settled (equal s n) s n (sym e) w c)
+      (right-verdict v a b before (equal s n) (sym e), settled v before after (equal s n) s n f (sym e) w c)
   comparison-returns (compared.Different t s n) e w =
+      let f = comparison-follows v a b (length before) in
       let c = counts v a b (length before) (different t s n) (sym e) in
       let apart = right-verdict v a b before (different t s n) (sym e) in
-      (apart .0, rw w (apart .1), smallest t s n (sym e), settled (different t s n) s n (sym e) w c)
+      (apart .0, rw w (apart .1), smallest t s n (sym e), settled v before after (different t s n) s n f (sym e) w c)
   comparison-returns (compared.Refused n p) e w =
       (comparison-follows v a b (length before) .refused-only n p (sym e), w ∙ rw (← e))
+
+module _ (v before after room filled : List ℕ) where
+  abbrev outcome : Outcome Counts
+  outcome = classification v (length before) (length room)
+
+  pub classification-returns : (r : Classified) → taxonomy.classified r ≡ outcome → after ≡ written outcome v before
+      → filled ≡ tabulated outcome v room → ClassificationReturns v before after room filled r
+  classification-returns (classified.Counts s n) e w k =
+      let f = classification-follows v (length before) (length room) in
+      let c = answered v (length before) (length room) (countsOf s n) (sym e) in
+      let wrote : filled ≡ taxonomy v ++ drop 144 room = k ∙ rw (← e) in (
+        settled v before after (countsOf s n) s n f (sym e) w (tally v (countsOf s n) (c .answer)),
+        wrote,
+        right-table v (c .good) (c .few) room filled (c .second) wrote,
+      )
+  classification-returns (classified.Refused n p) e w k =
+      (classification-follows v (length before) (length room) .refused-only n p (sym e), w ∙ rw (← e), k ∙ rw (← e))
 
 pub script-returns : (v s : List ℕ) (r : Judged) → scripts.judged r ≡ scriptCheck v s → ScriptReturns v s r
 script-returns v s (judged.Accepted n) e =

@@ -4,7 +4,8 @@ use mathlib.Core.Path.{refl}
 use Rattle.records.specs.Format.{recordAt}
 use Rattle.records.specs.Kinds.{kindOf}
 use Rattle.records.specs.Outcome.{inTurn}
-use Rattle.records.specs.Finite.{anyBelow, occurs, allBelow, least, table, members, bit, number, unrolled, without, allZero}
+use Rattle.records.specs.Finite.{anyBelow, occurs, allBelow, least, listBelow, table, members, bit, number, unrolled, without}
+use Rattle.records.specs.Finite.{allZero}
 use Rattle.records.specs.Check.{recordCheck, linkCheck, recordsCheck, vocabularyCheck}
 use Rattle.records.specs.Chain.{follow}
 use Rattle.records.specs.Atoms.{rank}
@@ -12,6 +13,7 @@ use Rattle.types.specs.Types.{truth, allowed, served}
 use Rattle.types.specs.Survivors.{satisfies, stage, rounds, survivors}
 use Rattle.types.specs.Comparison.{verdict, comparison}
 use Rattle.types.specs.Bitmap.{bitmap}
+use Rattle.taxonomy.specs.Taxonomy.{broader, entry, taxonomy, classification}
 use Rattle.columns.specs.Literals.{sameTerm, complementary}
 use Rattle.columns.specs.Columns.{columnsAt, takesY}
 use Rattle.scripts.specs.Format as script
@@ -20,5 +22,5 @@ use Rattle.scripts.specs.Run.{close, extendBy, stepCheck, stepped, run, chainCh
 use Rattle.demands.specs.Samples.{Samples}
 
 pub samples : Samples
-unfolding recordAt kindOf inTurn anyBelow recordCheck linkCheck recordsCheck vocabularyCheck follow occurs allBelow least table members bit number unrolled rank truth allowed served satisfies stage rounds survivors verdict comparison bitmap sameTerm complementary columnsAt takesY script.entryAt script.kindOf script.termAt allZero form'.entryCheck form'.linkCheck form'.formCheck without close extendBy stepCheck stepped run chainCheck scriptCheck
+unfolding recordAt kindOf inTurn anyBelow recordCheck linkCheck recordsCheck vocabularyCheck follow occurs allBelow least table members bit number unrolled rank truth allowed served satisfies stage rounds survivors verdict comparison bitmap listBelow broader entry taxonomy classification sameTerm complementary columnsAt takesY script.entryAt script.kindOf script.termAt allZero form'.entryCheck form'.linkCheck form'.formCheck without close extendBy stepCheck stepped run chainCheck scriptCheck
 samples = refl

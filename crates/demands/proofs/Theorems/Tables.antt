@@ -1,7 +1,7 @@
 -- Each call is its table: it tries the rows in their order and then has a value.
 --   tries-vocabulary, tries-form, tries-chain                                rows 1 to 8; 13 to 19; 20 to 25
 --   term-passed, form-passed                                                 what row 10, and what the form, lets through
---   vocabulary-follows, record-follows, comparison-follows, script-follows   the four calls
+--   vocabulary-follows, record-follows, comparison-follows, classification-follows, script-follows   the calls
 -- Assumes nothing.
 use Prim.Native.Nat.{ℕ, _*_, _-_}
 use mathlib.Core.Path.{_≡_, refl, sym, _∙_}
@@ -9,14 +9,15 @@ use mathlib.Core.Bool.{_&&_}
 use mathlib.Core.List.{List, [], _∷_}
 use lib.ListN.{length}
 use lib.Dec.{ltb, leb}
-use Rattle.records.specs.Outcome.{Check, accepted, pass, _then_, require}
+use Rattle.records.specs.Outcome.{Check, accepted, refused, pass, _then_, require}
 use Rattle.records.specs.Format.{recordAt, count, firstStatement}
 use Rattle.records.specs.Kinds.{sortsOf, isTerm}
 use Rattle.records.specs.Check.{lengthFits, lengthCheck, headerFits, kindFits, rowFits, recordCheck, linkFits, nextFits}
 use Rattle.records.specs.Check.{linkCheck, recordsCheck, vocabularyCheck}
 use Rattle.records.specs.Call.{recordCall}
 use Rattle.records.specs.Atoms.{atoms}
-use Rattle.types.specs.Comparison.{verdict, termCheck, queryCheck, comparison}
+use Rattle.types.specs.Comparison.{verdict, counts, termCheck, atomsCheck, lentCheck, sizeCheck, queryCheck, comparison}
+use Rattle.taxonomy.specs.Taxonomy.{tableCheck, classification}
 use Rattle.scripts.specs.Format.{entryAt, entries, queryOf, firstStep, lineOf, chain}
 use Rattle.scripts.specs.Form as script
 use Rattle.records.specs.Finite.{isNil}
@@ -24,8 +25,8 @@ use Rattle.scripts.specs.Run.{isStart, connects, reduces, hasRoom, stepCheck, r
 use Rattle.records.proofs.Laws.Checks.{then-assoc}
 use Rattle.records.proofs.Theorems.Accepted.{vocabulary-then}
 use Rattle.demands.specs.Table.{Row, Follows, recordRows, nextRows, vocabularyTable, recordTable, termRow}
-use Rattle.demands.specs.Table.{comparisonTable, entryRows, nextStepRows, formTable, OpenFrames, framesAfter, stepRows}
-use Rattle.demands.specs.Table.{laterRows, chainTable, scriptTable, TermOf, InForm}
+use Rattle.demands.specs.Table.{comparisonTable, classificationTable, entryRows, nextStepRows, formTable, OpenFrames}
+use Rattle.demands.specs.Table.{framesAfter, stepRows, laterRows, chainTable, scriptTable, TermOf, InForm}
 use Rattle.demands.proofs.Laws.Rows.{none-passed, row-passed, Tries, follows, tries-append, tries-row, tries-plain}
 use Rattle.demands.proofs.Laws.Rows.{tries-last, tries-in-turn}
 
@@ -71,6 +72,22 @@ module _ (v : List ℕ) where
   comparison-follows a b lent =
       let query = tries-term a (tries-term b (tries-row (leb (atoms v) 12) 11 (atoms v) (tries-last (leb 512 lent) 12 0))) in
       follows (tries-append tries-vocabulary query) (vocabulary-then v (queryCheck v a b lent) (accepted (verdict v a b)))
+
+  pub classification-follows : (lent room : ℕ)
+      → Follows (classificationTable v lent room) (counts v) (classification v lent room)
+  unfolding classification
+  classification-follows lent room =
+      let size = sizeCheck (atoms v) lent in
+      let rows = tries-row (leb (atoms v) 12) 11 (atoms v) (tries-row (leb 512 lent) 12 0 (tries-last (leb 144 room) 26 0)) in
+      follows (tries-append tries-vocabulary rows)
+      (vocabulary-then v size (tableCheck room then accepted (counts v))
+      ∙ regroup (recordsCheck v) (atomsCheck (atoms v)) (lentCheck lent) (tableCheck room))
+    where
+      regroup : (r k l t : Check)
+          → ((r then k then l) then t then accepted (counts v)) ≡ ((r then k then l then t) then accepted (counts v))
+      regroup (accepted u) (accepted w) l t = sym (then-assoc l t (accepted (counts v)))
+      regroup (accepted u) (refused n p) l t = refl
+      regroup (refused n p) k l t = refl
 
 module _ (v s : List ℕ) where
   tries-entry : (i : ℕ) → Tries (entryRows v s i) (script.entryCheck v s i)

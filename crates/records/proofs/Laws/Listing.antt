@@ -3,6 +3,7 @@
 --   list-start, list-more, list-same                       none; one more; none here
 --   entries-none, entries-length, entry-kept, entry-last   numbers that pass, one further
 --   entry-sound, entry-found                               the entries are those that pass
+--   entry-rises                                            they rise
 --   entry-number, entry-at                                 an entry's number is how many there are before it
 --   total-turn, fill-entry-kept, fill-entry-more           a table of what each entry is to hold
 -- Assumes nothing.
@@ -169,6 +170,17 @@ module _ (test : ℕ → Bool) where
       at (no q) r =
           let old = r (omega arith) e in
           (old .0, omega (arith, more, old .1), entry-kept n (old .0) (old .1) ∙ old .2)
+
+  pub entry-rises : (n l m : ℕ) → l < m → m < entries test n → entry test n l < entry test n m
+  entry-rises zero l m h k = absurd (omega (arith, entries-none))
+  entry-rises (suc n) l m h k = at (earlier n m k) (entry-rises n l m h)
+    where
+      at : Earlier n m → (m < entries test n → entry test n l < entry test n m)
+          → entry test (suc n) l < entry test (suc n) m
+      at (inl j) r = rw (entry-kept n l (omega arith), entry-kept n m j) (r j)
+      at (inr e) r =
+          let old : l < entries test n = omega (arith, e .0) in
+          rw (entry-kept n l old, newest n m (e .0) (e .1)) (entry-sound n l old .before)
 
   -- an entry's number is how many there are before it
   pub entry-number : (n m : ℕ) → m < entries test n → entries test (entry test n m) ≡ m

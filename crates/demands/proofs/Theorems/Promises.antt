@@ -1,0 +1,57 @@
+-- The promises of the requests, proved: specs/Promises.antt states them.
+--   right-entry, right-table   an entry, and the second buffer, of a vocabulary that is compared
+--   nearest-names              slip 1
+-- Assumes nothing.
+use Prim.Native.Nat.{ℕ, _≤_}
+use native.Mathlib.Omega.{arith}
+use mathlib.Core.Path.{_≡_, _∙_}
+use mathlib.Core.List.{List, _++_}
+use lib.ListN.{length, drop, length-append, length-drop}
+use lib.Seq.{drop-at}
+use Rattle.records.specs.Format.{count}
+use Rattle.records.specs.Atoms.{atoms}
+use Rattle.records.proofs.Theorems.Accepted.{AcceptedFacts, accepted-vocabulary}
+use Rattle.types.specs.Meaning.{AlwaysEqual}
+use Rattle.taxonomy.specs.Taxonomy.{nameAt, entry, taxonomy}
+use Rattle.taxonomy.proofs.Theorems.Names.{name-is, name-found, names-rise}
+use Rattle.taxonomy.proofs.Theorems.Entries.{entry-equal, equal-entry, entry-nearest, nearest-entry, entry-else}
+use Rattle.taxonomy.proofs.Theorems.Entries.{taxonomy-entry, taxonomy-rest, length-taxonomy}
+use Rattle.taxonomy.proofs.Theorems.Answers.{answers-always}
+use Rattle.demands.specs.Promises.{RightEntry, RightTable, NearestNames}
+use Rattle.demands.proofs.Theorems.Tables.{vocabulary-follows}
+
+module _ (v : List ℕ) (good : AcceptedFacts v) (few : atoms v ≤ 12) where
+  right-entry : (a b : ℕ) → RightEntry v a b (entry v a b)
+  right-entry a b =
+      record {
+        two-only = entry-equal v good few a b;
+        two-always = equal-entry v good few a b;
+        one-only = entry-nearest v good few a b;
+        one-always = nearest-entry v good few a b;
+        zero-else = entry-else v good few a b;
+      }
+
+  pub right-table : (room after : List ℕ) → 144 ≤ length room → after ≡ taxonomy v ++ drop 144 room → RightTable v room after
+  right-table room after h e =
+      let long = length-taxonomy v in
+      let rest = drop 144 room in
+      rw e record {
+        order = record { each = name-is v; rising = names-rise v; every = name-found v };
+        entries = λ i j k l. rw (taxonomy-entry v rest few i j k l) (right-entry (nameAt v i) (nameAt v j));
+        contradictory = λ none i j k l.
+            let same : AlwaysEqual v (nameAt v i) (nameAt v j) = λ I model. absurd (none I model) in
+            taxonomy-entry v rest few i j k l ∙ equal-entry v good few (nameAt v i) (nameAt v j) same;
+        rest = taxonomy-rest v rest;
+        later = drop-at (taxonomy v) rest 144 long;
+        size = length-append (taxonomy v) rest ∙ omega (arith, length-drop 144 room);
+      }
+
+pub nearest-names : NearestNames
+nearest-names v lent room good few first second =
+    let accepts = vocabulary-follows v .accepted-always good in
+    let answers = answers-always v (length lent) (length room) (count v) accepts few first second in
+    record {
+      answers = answers;
+      first = rw answers;
+      second = right-table v (accepted-vocabulary v (count v) accepts) few room _ second (rw answers);
+    }
