@@ -1,16 +1,16 @@
 -- Bounds on what the calls answer, from their tables: what a caller needs to pack an answer into a word.
---   Near, Small, SmallVerdict, SmallCounts  a refusal, and an answer, whose numbers are small
---   AllNear, near-append, near-turns        each row is near: of more rows, and of rows in turn
---   Bounded, near-bounded, bounded-append   each row that is reached is near
---   refusal-near, small                     so a refusal is near, and with a small value the answer small
---   vocabulary-small, record-small          the count or place is at most 512; the offset or place 4,096 or the number
---   most, comparison-small                  the verdict's numbers are at most 2^12
---   classification-small                    the counts are at most 2^12, the place 512
---   mostPlace, script-small                 the steps or place are at most 2,048, or a number of the query
+--   Near, Small, SmallVerdict, SmallCounts   a refusal, and an answer, whose numbers are small
+--   AllNear, near-append, near-turns         each row is near: of more rows, and of rows in turn
+--   Bounded, near-bounded, bounded-append    each row that is reached is near
+--   refusal-near, small                      so a refusal is near, and with a small value the answer small
+--   vocabulary-small, record-small           the count or place is at most 512; the offset or place 4,096 or the number
+--   most, comparison-small                   the verdict's numbers are at most 2^12
+--   classification-small                     the counts are at most 2^12, the place 512
+--   mostPlace, script-small                  the steps or place are at most 2,048, or a number of the query
 -- Assumes nothing.
 use Prim.Native.Nat.{ℕ, zero, suc, _+_, _-_, _*_, _≤_, _<_, max}
 use native.Mathlib.Omega.{arith}
-use mathlib.Core.Path.{_≡_, refl, sym, _∙_}
+use mathlib.Core.Path.{_≡_, refl}
 use mathlib.Core.Bool.{Bool, true, false, not}
 use mathlib.Core.List.{List, [], _∷_, _++_, tail}
 use lib.Dec.{ltb}

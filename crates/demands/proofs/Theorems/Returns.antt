@@ -1,6 +1,7 @@
 -- What the calls return, from the equations of their contracts.
---   vocabulary-returns, offset-returns, record-returns                of each call
---   comparison-returns, classification-returns, script-returns
+--   vocabulary-returns, offset-returns, record-returns,
+--   comparison-returns, classification-returns, script-returns   of each call
+--   settled, tally                                               what goes with the survivors
 -- Assumes nothing.
 use Prim.Native.Nat.{ℕ, _+_, _≤_}
 use native.Mathlib.Omega.{arith}
@@ -28,7 +29,7 @@ use Rattle.types.proofs.Theorems.Comparison.{different-first, counts}
 use Rattle.types.specs.Types.{types}
 use Rattle.types.proofs.Theorems.Survivors.{rounds-bound}
 use Rattle.taxonomy.specs.Taxonomy.{taxonomy, classification, tabulated}
-use Rattle.taxonomy.specs.Answers as taxonomy
+use Rattle.taxonomy.specs.Answers as answers
 use Rattle.taxonomy.specs.declared.answers.Classified.{Classified}
 use Rattle.taxonomy.specs.declared.answers.Classified.the-variants as classified
 use Rattle.taxonomy.proofs.Theorems.Answers.{answered}
@@ -66,13 +67,14 @@ record-returns v number part e = at (recordCall v number) refl e
         handed (w .0) (h ∙ rw (w .1)) (ap length h ∙ simp (length-take, length-drop) (omega arith))
     at (refused n p) q h = empty n p (record-follows v number .refused-only n p q) h
 
--- The numbers of survivors and of rounds, and what goes with them in the answer of a call that writes the survivors.
+-- The numbers of survivors and of rounds.
 abbrev Tally : List ℕ → ℕ → ℕ → Type 0
 Tally v alive done = (alive ≡ members (survivors v)) × (done ≡ rounds v) × (done ≤ types v)
 
 tally : (v : List ℕ) (c : Counts) → c ≡ countsOf (members (survivors v)) (rounds v) → Tally v (c .survivors) (c .rounds)
 tally v c e = rw e (refl, refl, rounds-bound v)
 
+-- The answer of a call that follows its table and writes the survivors.
 settled : {A : Type 0} {rows : List Row} {value : A} {o : Outcome A} (v before after : List ℕ) (x : A) (alive done : ℕ)
     → Follows rows value o → o ≡ accepted x → after ≡ written o v before → Tally v alive done
     → Settled rows v before after alive done
@@ -102,7 +104,7 @@ module _ (v before after room filled : List ℕ) where
   abbrev outcome : Outcome Counts
   outcome = classification v (length before) (length room)
 
-  pub classification-returns : (r : Classified) → taxonomy.classified r ≡ outcome → after ≡ written outcome v before
+  pub classification-returns : (r : Classified) → answers.classified r ≡ outcome → after ≡ written outcome v before
       → filled ≡ tabulated outcome v room → ClassificationReturns v before after room filled r
   classification-returns (classified.Counts s n) e w k =
       let f = classification-follows v (length before) (length room) in

@@ -1,7 +1,8 @@
 -- Each call is its table: it tries the rows in their order and then has a value.
---   tries-vocabulary, tries-form, tries-chain                                rows 1 to 8; 13 to 19; 20 to 25
---   term-passed, form-passed                                                 what row 10, and what the form, lets through
---   vocabulary-follows, record-follows, comparison-follows, classification-follows, script-follows   the calls
+--   tries-vocabulary, tries-form, tries-chain                    rows 1 to 8; 13 to 19; 20 to 25
+--   term-passed, form-passed                                     what row 10, and what the form, lets through
+--   vocabulary-follows, record-follows, comparison-follows,
+--   classification-follows, script-follows                       the five calls
 -- Assumes nothing.
 use Prim.Native.Nat.{ℕ, _*_, _-_}
 use mathlib.Core.Path.{_≡_, refl, sym, _∙_}

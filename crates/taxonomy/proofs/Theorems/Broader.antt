@@ -1,9 +1,9 @@
 -- Broader names, in every finite interpretation that satisfies the statements.
---   broader-within, within-broader       b is broader than a exactly if a always lies within b
---   equivalent-equal, equal-equivalent   they are equivalent exactly if they are always equal
---   StrictlyWithin                       a always lies within b, and b not always within a
---   strictly-within, within-strictly     b is strictly broader exactly if so
---   Between, between-name, name-between  a name is between them exactly if it is strictly between them so
+--   broader-within, within-broader        b is broader than a exactly if a always lies within b
+--   equivalent-equal, equal-equivalent    they are equivalent exactly if they are always equal
+--   StrictlyWithin                        a always lies within b, and b not always within a
+--   strictly-within, within-strictly      b is strictly broader exactly if that is so
+--   Between, between-name, name-between   there is a name between them exactly if one is strictly between in this sense
 -- Assumes nothing.
 use Prim.Native.Nat.{ℕ, _≤_, _<_}
 use mathlib.Core.Path.{_≡_, ap}

@@ -1,7 +1,7 @@
 -- Inclusion in every model, by the survivors.
---   Implied                         at each survivor at which a is true, b is
---   implied-within, within-implied  so exactly if a lies within b in every model
---   equal-both, both-equal          terms are equal in every model exactly if each lies within the other in every model
+--   Implied                          at each survivor at which a is true, b is
+--   implied-within, within-implied   that is so exactly if a lies within b in every model
+--   equal-both, both-equal           terms are equal in every model exactly if each lies within the other in every model
 -- Assumes nothing.
 use Prim.Native.Nat.{ℕ, _≤_}
 use mathlib.Core.Path.{_≡_, sym, _∙_}
