@@ -3,3 +3,4 @@ pub mod Names
 pub mod Meets
 pub mod Broader
 pub mod Table
+pub mod Outcomes

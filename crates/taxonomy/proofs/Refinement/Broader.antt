@@ -34,7 +34,7 @@ use Rattle.taxonomy.specs.Taxonomy.{nameCount, nameAt, broader}
 use Rattle.taxonomy.specs.Code.Meets.{halfBits, halves, always, Meets, low, high, jointly, jointlyBy}
 use Rattle.taxonomy.specs.Code.Meets.{NamesListed, MeetsListed, Above}
 use Rattle.taxonomy.specs.declared.names.Names.{Names}
-use Rattle.taxonomy.proofs.Refinement.Names.{named}
+use Rattle.taxonomy.proofs.Theorems.Names.{named}
 
 -- Bit p of a type is bit j of its part.
 module _ (part : ℕ → ℕ) (S : List Bool) (n : ℕ) (table : List ℕ) (m : Meets part S n table)

@@ -13,7 +13,7 @@ use Rattle.records.specs.Outcome.{Outcome, accepted}
 use Rattle.types.specs.Comparison.{typeLimit}
 use Rattle.types.specs.declared.answers.Counts.{Counts}
 use Rattle.taxonomy.specs.Taxonomy.{taxonomyBytes}
-use Rattle.taxonomy.proofs.Refinement.Names.{names-few}
+use Rattle.taxonomy.proofs.Theorems.Names.{names-few}
 use Rattle.taxonomy.proofs.Refinement.Table.{table-right}
 use Rattle.taxonomy.proofs.call.tabulate.Statement.{statement}
 use Rattle.taxonomy.proofs.call.tabulate.Tie as tie

@@ -10,7 +10,7 @@ use Rattle.types.specs.Types.{types}
 use Rattle.types.proofs.Theorems.Survivors.{types-bound, size-word}
 use Rattle.taxonomy.specs.Code.Meets.{Meets, low, high}
 use Rattle.taxonomy.proofs.Refinement.Broader.{meets-above}
-use Rattle.taxonomy.proofs.Refinement.Names.{names-few}
+use Rattle.taxonomy.proofs.Theorems.Names.{names-few}
 use Rattle.taxonomy.proofs.meets.find_broader.Statement.{statement}
 use Rattle.taxonomy.proofs.meets.find_broader.Tie as tie
 

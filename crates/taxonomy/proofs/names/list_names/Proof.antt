@@ -22,7 +22,8 @@ use Rattle.records.specs.declared.fields.Record.{Record}
 use Rattle.types.specs.Comparison.{atomLimit}
 use Rattle.taxonomy.specs.Taxonomy.{nameCount}
 use Rattle.taxonomy.specs.Code.Meets.{Small}
-use Rattle.taxonomy.proofs.Refinement.Names.{named, names-few, small-set}
+use Rattle.taxonomy.proofs.Theorems.Names.{named, names-few}
+use Rattle.taxonomy.proofs.Refinement.Names.{small-set}
 use Rattle.taxonomy.proofs.names.list_names.Statement.{statement}
 use Rattle.taxonomy.proofs.names.list_names.Tie as tie
 
