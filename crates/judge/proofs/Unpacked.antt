@@ -5,6 +5,7 @@
 --   record-unpacked              the record call's
 --   script-unpacked              the script check's
 --   Verdicts, compare-unpacked   the comparison's
+--   Counted, classify-unpacked   the classification's
 -- Assumes nothing.
 use Prim.Native.Nat.{ℕ, _*_, _/_, _%_, _^_, _<_, max}
 use native.Mathlib.Omega.{arith}
@@ -17,11 +18,13 @@ use Rattle.records.specs.Check.{vocabularyCheck}
 use Rattle.records.specs.Call.{recordCall}
 use Rattle.records.proofs.Laws.Tests.{clash}
 use Rattle.types.specs.Comparison.{Verdict, equal, different, comparison}
+use Rattle.types.specs.declared.answers.Counts.{Counts}
+use Rattle.taxonomy.specs.Taxonomy.{classification}
 use Rattle.scripts.specs.Run.{scriptCheck}
 use Rattle.demands.proofs.Theorems.Bounds.{Small, SmallVerdict, vocabulary-small, record-small, most, comparison-small}
-use Rattle.demands.proofs.Theorems.Bounds.{mostPlace, script-small}
+use Rattle.demands.proofs.Theorems.Bounds.{SmallCounts, classification-small, mostPlace, script-small}
 use Rattle.scripts.proofs.Theorems.Form.{query-below}
-use Rattle.judge.specs.Packed.{numberOf, valueOf, packed, packedVerdict}
+use Rattle.judge.specs.Packed.{numberOf, valueOf, packed, packedVerdict, packedCounts}
 
 pub record Unpacked (o : Outcome ℕ) : Type 0 where
   -- bits 0 to 7
@@ -74,3 +77,17 @@ pub compare-unpacked : (v : List ℕ) (a b lent : ℕ) → a < 2 ^ 32 → b < 2 
     → Verdicts (packedVerdict (comparison v a b lent)) (comparison v a b lent)
 compare-unpacked v a b lent h k =
     verdict-unpacked (most v a b lent) (comparison v a b lent) (omega arith) (comparison-small v a b lent)
+
+-- What the bits of the classification's number are; bits 8 to 24 are 0.
+abbrev pub Counted : ℕ → Outcome Counts → Type 0
+Counted x (accepted c) =
+    (x % 256 ≡ 0) × (x / 2 ^ 8 % 2 ^ 17 ≡ 0) × (x / 2 ^ 25 % 2 ^ 17 ≡ c .survivors) × (x / 2 ^ 42 ≡ c .rounds)
+Counted x (refused n p) = (x % 256 ≡ n) × (x / 256 ≡ p) × (p < 2 ^ 32) × (0 < n)
+
+counts-unpacked : (o : Outcome Counts) → SmallCounts recordLimit o → Counted (packedCounts o) o
+counts-unpacked (accepted c) h = (omega arith, omega (arith, h .0), omega (arith, h .0), omega (arith, h .0))
+counts-unpacked (refused n p) h = (omega (arith, h .1), omega (arith, h .1), omega (arith, h .2), h .0)
+
+pub classify-unpacked : (v : List ℕ) (lent room : ℕ)
+    → Counted (packedCounts (classification v lent room)) (classification v lent room)
+classify-unpacked v lent room = counts-unpacked (classification v lent room) (classification-small v lent room)

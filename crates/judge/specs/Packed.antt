@@ -2,6 +2,7 @@
 use Prim.Native.Nat.{ℕ, _+_, _*_, _^_}
 use mathlib.Core.Bool.{Bool, true, false}
 use Rattle.records.specs.Outcome.{Outcome, accepted, refused}
+use Rattle.types.specs.declared.answers.Counts.{Counts}
 use Rattle.types.specs.Comparison.{Verdict, equal, different}
 
 -- Bits 0 to 7 are the refusal's number, 0 where there is none.
@@ -31,3 +32,8 @@ abbrev pub packedVerdict : Outcome Verdict → ℕ
 packedVerdict (accepted (equal survivors rounds)) = packedParts false 0 survivors rounds
 packedVerdict (accepted (different element survivors rounds)) = packedParts true element survivors rounds
 packedVerdict (refused number place) = number + 256 * place
+
+-- The classification's: the counts in the same bits, and bits 8 to 24 are 0; a refusal as for the other calls.
+abbrev pub packedCounts : Outcome Counts → ℕ
+packedCounts (accepted counts) = packedParts false 0 (counts .survivors) (counts .rounds)
+packedCounts (refused number place) = number + 256 * place

@@ -3,6 +3,7 @@
 use records::answers::Counted;
 use records::answers::Located;
 use scripts::answers::Judged;
+use taxonomy::answers::Classified;
 use types::answers::Compared;
 ghost use mathlib.Core.Path.{_≡_};
 ghost use Prim.Native.Nat.{_+_, _*_, _<_, _^_};
@@ -11,8 +12,9 @@ ghost use Rattle.records.specs.Check.{vocabularyCheck};
 ghost use Rattle.records.specs.Call.{recordCall};
 ghost use Rattle.types.specs.Comparison.{comparison};
 ghost use Rattle.types.specs.Bitmap.{written};
+ghost use Rattle.taxonomy.specs.Taxonomy.{classification, tabulated};
 ghost use Rattle.scripts.specs.Run.{scriptCheck};
-ghost use Rattle.judge.specs.Packed.{packed, flag, packedParts, packedVerdict};
+ghost use Rattle.judge.specs.Packed.{packed, flag, packedParts, packedVerdict, packedCounts};
 
 // Bits 0 to 7: the refusal's number, or 0. Bits 8 to 39: its place, or the value answered.
 fn pack(number: u8, value: usize) -> u64
@@ -82,6 +84,32 @@ pub extern "C" fn judge_compare(vocabulary: &[u8], a: u32, b: u32, buffer: &mut 
             rounds,
         } => pack_verdict(true, element, survivors, rounds),
         Compared::Refused { number, place } => pack(number, place),
+    }
+}
+
+#[no_mangle]
+pub extern "C" fn judge_classify(
+    vocabulary: &[u8],
+    survivors: &mut [u8],
+    taxonomy: &mut [u8],
+) -> u64
+    ensures { λ r. ⌜ r ≡ packedCounts
+        (classification (now (vocabulary .entry)) (length (now (survivors .entry))) (length (now (taxonomy .entry)))) ⌝ }
+    ensures { λ _. ⌜ now (survivors .exit)
+        ≡ written (classification (now (vocabulary .entry)) (length (now (survivors .entry))) (length (now (taxonomy .entry))))
+        (now (vocabulary .entry)) (now (survivors .entry)) ⌝ }
+    ensures { λ _. ⌜ now (taxonomy .exit)
+        ≡ tabulated (classification (now (vocabulary .entry)) (length (now (survivors .entry))) (length (now (taxonomy .entry))))
+        (now (vocabulary .entry)) (now (taxonomy .entry)) ⌝ }
+    ensures { λ _. ⌜ now (vocabulary .exit) ≡ now (vocabulary .entry) ⌝ }
+{
+    let answer = demands::classify(vocabulary, survivors, taxonomy);
+    match answer {
+        Classified::Counts {
+            survivors: alive,
+            rounds,
+        } => pack_verdict(false, 0, alive, rounds),
+        Classified::Refused { number, place } => pack(number, place),
     }
 }
 
