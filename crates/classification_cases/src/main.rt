@@ -2,6 +2,11 @@
 // survivors and the taxonomy as they stand in the lent bytes, and two sums over all bytes of each.
 // A case is the length of its vocabulary, the number of bytes lent for the survivors and the number lent for the taxonomy
 // (two bytes each, low byte first), the seed of what both hold (a byte), and the vocabulary.
+use lent::fill;
+use lent::pair;
+use lent::print_number;
+use lent::print_sums;
+use lent::print_written;
 use libc::STDIN_FILENO;
 use libc::STDOUT_FILENO;
 use taxonomy::answers::Classified;
@@ -10,13 +15,6 @@ use taxonomy::answers::Classified;
 const SURVIVORS: usize = 512;
 
 const TAXONOMY: usize = 144;
-
-// Writes a number and the byte that follows it.
-fn print_number(n: u64, after: u8) {
-    let text = [after];
-    io::print_decimal(STDOUT_FILENO, n);
-    io::write_all(STDOUT_FILENO, &text);
-}
 
 // Writes the answer's word and its numbers.
 fn print_answer(answer: Classified) {
@@ -46,68 +44,6 @@ fn is_refused(answer: Classified) -> bool {
     }
 }
 
-// Widens a byte.
-fn wide(x: u8) -> u64 {
-    x as u64
-}
-
-// How many of the first so many bytes stand before and at the last of them that is not 0.
-fn used(buffer: &[u8], written: usize) -> usize {
-    let mut end = 0;
-    let mut i = 0;
-    while i < written && i < buffer.len() {
-        if buffer[i] != 0 {
-            end = i + 1;
-        }
-        i += 1;
-    }
-    end
-}
-
-// Writes the bytes before an end in hexadecimal.
-fn print_digits(buffer: &[u8], end: usize) {
-    let mut i = 0;
-    while i < end && i < buffer.len() {
-        io::print_hex(STDOUT_FILENO, wide(buffer[i]), 2);
-        i += 1;
-    }
-}
-
-// Writes the first so many bytes as far as the last that is not 0, or a dash where all are 0.
-fn print_written(buffer: &[u8], written: usize) {
-    let end = used(buffer, written);
-    if end == 0 {
-        io::write_all(STDOUT_FILENO, b"-");
-    }
-    print_digits(buffer, end);
-    io::write_all(STDOUT_FILENO, b" ");
-}
-
-// Writes the sum of the bytes, the sum of the sums after each byte, which tells their order, and the byte that follows.
-fn print_sums(buffer: &[u8], after: u8) {
-    let mut low = 0;
-    let mut high = 0;
-    let mut i = 0;
-    while i < buffer.len() {
-        low = std::num::wrapping_add_u64(low, wide(buffer[i]));
-        high = std::num::wrapping_add_u64(high, low);
-        i += 1;
-    }
-    print_number(low, b' ');
-    print_number(high, after);
-}
-
-// Fills lent bytes: byte i is 7 i + seed, modulo 256.
-fn fill(buffer: &mut [u8], seed: u8) {
-    let mut value = seed;
-    let mut i = 0;
-    while i < buffer.len() {
-        buffer[i] = value;
-        value = std::num::wrapping_add_u8(value, 7);
-        i += 1;
-    }
-}
-
 // Fills the lent bytes, classifies, and writes the line of the case.
 fn print_case(v: &[u8], survivors: &mut [u8], taxonomy: &mut [u8], seed: u8) {
     fill(survivors, seed);
@@ -120,11 +56,6 @@ fn print_case(v: &[u8], survivors: &mut [u8], taxonomy: &mut [u8], seed: u8) {
     }
     print_sums(survivors, b' ');
     print_sums(taxonomy, b'\n');
-}
-
-// The number in two bytes, low byte first.
-fn pair(low: u8, high: u8) -> u16 {
-    low as u16 + 256 * (high as u16)
 }
 
 // Lends as many bytes for the taxonomy as asked, and writes the line of the case. Answers whether there is space for them.
