@@ -7,10 +7,10 @@ use crate::random::Seed;
 use crate::vocabulary;
 use crate::vocabulary::check_vocabulary;
 
-/// One in so many refused cases of the vocabulary check is classified too.
-const ONE_IN: usize = 8;
-/// The longest of them, in bytes.
-const LONGEST: usize = 400;
+/// One in so many refused cases of the vocabulary check is classified too: of short ones, and of long ones.
+const ONE_IN: [usize; 2] = [8, 12];
+/// The longest of the short ones, in bytes.
+const SHORT: usize = 400;
 
 /// Numbers of atoms around the limit and far from it.
 const ATOMS: [usize; 8] = [1, 3, 5, 8, 12, 13, 14, 100];
@@ -88,7 +88,11 @@ impl Plan {
             let Err(refusal) = check_vocabulary(&bytes) else {
                 continue;
             };
-            if bytes.len() <= LONGEST && self.random.chance(ONE_IN) {
+            let [of_short, of_long] = ONE_IN;
+            if self
+                .random
+                .chance(if bytes.len() <= SHORT { of_short } else { of_long })
+            {
                 let lent = self.any_lent();
                 self.add_lent(&bytes, lent, &format!("refused {} {} ", refusal.number, refusal.place));
             }
