@@ -1,6 +1,6 @@
 /* Runs judge_classify over the classification cases and compares each answer, and every byte of both lent buffers, with
- * the expected output. The vocabulary and the buffers stand between guards (cases.h, lent.h); by turns one of the buffers
- * and the other ends where an unreadable page begins.
+ * the expected output. Guards stand after the vocabulary and around the buffers (cases.h, lent.h); by turns the one
+ * buffer and the other ends where an unreadable page begins.
  * usage: classification CASES EXPECTED */
 #define _DEFAULT_SOURCE
 #define SUBJECT "classification"
@@ -16,8 +16,8 @@ enum { HEAD = 7, SURVIVORS_WRITTEN = 512, TAXONOMY_WRITTEN = 144 };
 
 static struct lent survivors, taxonomy;
 
-/* Packs the answer that a line says, and expects of the buffers what it says; a refusal leaves them as they were. Answers
- * whether the line says an answer, and what is written where it is no refusal. */
+/* Packs the answer that a line says, and expects of the buffers what it says; a refusal leaves them as they were.
+ * Answers whether the line says an answer, and what is written where it is no refusal. */
 static int expect_answer(const char **text, uint64_t *packed)
 {
     uint64_t first, second;

@@ -1,5 +1,5 @@
 /* Runs judge_compare over the comparison cases and compares each answer, and every byte of the lent buffer, with the
- * expected output. The vocabulary and the buffer stand between guards (cases.h, lent.h).
+ * expected output. Guards stand after the vocabulary and around the buffer (cases.h, lent.h).
  * usage: comparison CASES EXPECTED */
 #define _DEFAULT_SOURCE
 #define SUBJECT "comparison"

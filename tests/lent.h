@@ -46,8 +46,8 @@ static inline uint8_t *lent_bytes(const struct lent *lent)
     return lent->arena + lent->start;
 }
 
-/* Expects of the first bytes what a line says in hexadecimal after a space: all but those are 0, and a dash says that all
- * are. Moves behind it, and answers whether it stands there and so many bytes are lent. */
+/* Expects of the first bytes what a line says in hexadecimal after a space: all but those are 0, and a dash says that
+ * all are. Moves behind it, and answers whether it stands there and so many bytes are lent. */
 static inline int expect_written(struct lent *lent, size_t written, const char **text)
 {
     uint8_t *wanted = lent->wanted + lent->start;

@@ -1,8 +1,8 @@
 #!/bin/sh
 # The library through its C boundary beside the second program, on cases that are not stored: vocabularies with record
-# calls, comparisons, classifications and scripts, made by five seeds from SEED on, of which each that is new counts once. Answers, all
-# lent bytes, guard bytes and guard pages are compared from C and from C++, and once more for some of the cases under
-# valgrind. Fails where a kind of answer does not come up, or a subject has fewer than 20,000 cases.
+# calls, comparisons, classifications and scripts, made by five seeds from SEED on, of which each that is new counts
+# once. Answers, all lent bytes, guard bytes and guard pages are compared from C and from C++, and once more for some of
+# the cases under valgrind. Fails where a kind of answer does not come up, or a subject has fewer than 20,000 cases.
 # usage: tests/outside.sh [SEED]   (target/staticlib/libjudge.a must be built)
 set -eu
 cd "$(dirname "$0")/.."

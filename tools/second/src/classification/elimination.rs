@@ -112,8 +112,8 @@ fn duals() -> Terms {
     terms
 }
 
-/// Names 1 to 5: 1 is within bottom; 2 has some 1, so that it is empty, too; 3 equals all role to 1, and 4 all role to 2,
-/// which is the same; 5 equals all role to top, which is everything.
+/// Names 1 to 5: 1 is within bottom; 2 has some 1, so that it is empty, too; 3 equals all role to 1, and 4 all role to
+/// 2, which is the same; 5 equals all role to top, which is everything.
 fn empties() -> Terms {
     let mut terms = Terms::new(1);
     let [first, second, third, fourth, fifth] = terms.names();

@@ -53,8 +53,8 @@ impl Plan {
         }
     }
 
-    /// Every number of lent bytes next to a limit with every other: 12 under 512 for the survivors, then 26 under 144 for
-    /// the taxonomy.
+    /// Every number of lent bytes next to a limit with every other: 12 under 512 for the survivors, then 26 under 144
+    /// for the taxonomy.
     fn lent_bytes(&mut self) {
         let numbers = [0, 1, 8, 143, 144, 145, 511, 512, 513, 1024];
         for terms in [Terms::new(1), v(), sample_5(), name_atoms(12)] {

@@ -1,5 +1,5 @@
-//! The interpretations of one or two elements, all of them, evaluated by the section "Meaning": an account of what holds
-//! in every finite interpretation that knows nothing of types.
+//! The interpretations of one or two elements, all of them, evaluated by the section "Meaning": an account of what
+//! holds in every finite interpretation that knows nothing of types.
 
 use crate::comparison::chained;
 use crate::vocabulary::records::{Record, A};

@@ -99,8 +99,8 @@ impl Stated {
         terms.bytes()
     }
 
-    /// The vocabulary with other records before, among and behind the names: each time fewer than a number, and in all so
-    /// many restrictions. The names' labels rise or fall.
+    /// The vocabulary with other records before, among and behind the names: each time fewer than a number, and in all
+    /// so many restrictions. The names' labels rise or fall.
     pub fn among_others(&self, fewer: usize, restrictions: usize, random: &mut Random) -> Vec<u8> {
         let mut terms = Terms::new(ROLES);
         let ends = [terms.top(), terms.bottom()];

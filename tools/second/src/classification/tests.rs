@@ -32,7 +32,8 @@ fn classified(vocabulary: &[u8]) -> Classified {
     answer
 }
 
-/// A vocabulary of some names and of statements, by the places of their two terms: names from 1 on, then top and bottom.
+/// A vocabulary of some names and of statements, by the places of their two terms: names from 1 on, then top and
+/// bottom.
 fn stated(count: usize, statements: &[[u16; 2]]) -> Vec<u8> {
     let mut terms = Terms::new(0);
     terms.name_list(count);
@@ -44,8 +45,8 @@ fn stated(count: usize, statements: &[[u16; 2]]) -> Vec<u8> {
     terms.bytes()
 }
 
-/// Samples 1 to 6: the survivors and rounds are the comparison's. In the second 3 equals 1 and 2, so that it lies within
-/// both; samples 4 and 5 have no name.
+/// Samples 1 to 6: the survivors and rounds are the comparison's. In the second 3 equals 1 and 2, so that it lies
+/// within both; samples 4 and 5 have no name.
 #[test]
 fn samples_1_to_6() {
     let figures = [
@@ -63,8 +64,8 @@ fn samples_1_to_6() {
     }
 }
 
-/// Tables worked by hand: a chain; a chain with the statement that follows; a diamond; equal names below two equal ones;
-/// an empty name below all; a name that is everything above all; no survivor; no name.
+/// Tables worked by hand: a chain; a chain with the statement that follows; a diamond; equal names below two equal
+/// ones; an empty name below all; a name that is everything above all; no survivor; no name.
 #[test]
 fn worked_by_hand() {
     let tables: [(usize, &[[u16; 2]], &str); 8] = [
@@ -150,8 +151,8 @@ fn ways_of_statements() {
     assert_eq!(contradictory.table(), rows("22 22"));
 }
 
-/// Interpretations of one or two elements: 1 and 2 lies within 3 in those of V, and 3 not within 1; what has some bottom
-/// lies within bottom; what has some 1 does not lie within 1, for which two elements are needed.
+/// Interpretations of one or two elements: 1 and 2 lies within 3 in those of V, and 3 not within 1; what has some
+/// bottom lies within bottom; what has some 1 does not lie within 1, for which two elements are needed.
 #[test]
 fn small_interpretations() {
     let [v, _, third, fourth, ..] = vocabularies().map(|vocabulary| records(&vocabulary));
