@@ -1,6 +1,6 @@
 /* Runs judge_check_vocabulary and judge_record over the vocabulary cases and compares each answer with the expected
  * output, as the program `vocabulary_cases` does from inside. No compiler checks the declarations of include/judge.h
- * against the library: this test does, with those of the other subjects. The vocabulary stands before a guard (cases.h).
+ * against the library: this test does, with those of the other subjects. A guard stands after the vocabulary (cases.h).
  * usage: vocabulary CASES EXPECTED */
 #define _DEFAULT_SOURCE
 #define SUBJECT "vocabulary"
