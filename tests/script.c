@@ -3,11 +3,12 @@
  * test; a byte of either that was written to shows.
  * usage: script CASES EXPECTED */
 #define _DEFAULT_SOURCE
+#define SUBJECT "script"
 #include <inttypes.h>
 #include <stdio.h>
 #include <string.h>
 
-#include "guarded.h"
+#include "cases.h"
 #include "judge.h"
 
 enum { HEAD = 4 };
@@ -19,16 +20,10 @@ struct input {
     uint8_t copy[SPACE];
 };
 
-static int fail(const char *what, size_t number)
-{
-    fprintf(stderr, "script: case %zu: %s\n", number, what);
-    return 1;
-}
-
 /* Reads an input. Answers whether it was there whole. */
 static int read_input(struct input *input, const uint8_t *length, FILE *file)
 {
-    input->length = length[0] | (size_t)length[1] << 8;
+    input->length = number_at(length, 2);
     return fread(input->copy, 1, input->length, file) == input->length;
 }
 

@@ -3,8 +3,9 @@
  * below the frame that makes the call; where the paint is gone, the call has been. Fails where a call needs more than
  * judge.h says, or where judge.h says more than four times what is needed.
  * Link with -z now: the first call of a function in a shared library may else need stack to find it.
- * usage: stack VOCABULARY_CASES COMPARISON_CASES SCRIPT_CASES */
+ * usage: stack VOCABULARY_CASES COMPARISON_CASES CLASSIFICATION_CASES SCRIPT_CASES */
 #define _DEFAULT_SOURCE
+#define SUBJECT "stack"
 #include <inttypes.h>
 #include <pthread.h>
 #include <stdio.h>
@@ -12,16 +13,17 @@
 #include <sys/mman.h>
 #include <unistd.h>
 
+#include "cases.h"
 #include "judge.h"
 
 /* More is painted than may be needed; above it is room for the frames of this test. */
-enum { PAINTED = 2 * JUDGE_STACK_BYTES, STACK = PAINTED + 131072, ROOM = 65536, MOST_HEAD = 13, LOOSE = 4 };
+enum { PAINTED = 2 * JUDGE_STACK_BYTES, STACK = PAINTED + 131072, ROOM = 65536, LOOSE = 4 };
 
 static const uint64_t PAINT = 0xa5a5a5a5a5a5a5a5;
 
-enum call { VOCABULARY, RECORD, COMPARE, SCRIPT, CALLS };
+enum call { VOCABULARY, RECORD, COMPARE, CLASSIFY, SCRIPT, CALLS };
 
-static const char *const names[CALLS] = {"judge_check_vocabulary", "judge_record", "judge_compare",
+static const char *const names[CALLS] = {"judge_check_vocabulary", "judge_record", "judge_compare", "judge_classify",
                                          "judge_check_script"};
 
 /* The most that each call has needed, and for how many cases it was made. */
@@ -29,9 +31,9 @@ static size_t most[CALLS], made[CALLS];
 
 /* The arguments of a call. */
 struct task {
-    size_t vocabulary_len, script_len, lent;
+    size_t vocabulary_len, script_len, lent, taxonomy_len;
     uint32_t a, b;
-    uint8_t vocabulary[ROOM], script[ROOM], buffer[ROOM];
+    uint8_t vocabulary[ROOM], script[ROOM], buffer[ROOM], taxonomy[ROOM];
 };
 
 static struct task task;
@@ -63,6 +65,9 @@ __attribute__((noinline)) static size_t measure(enum call call)
     case COMPARE:
         judge_compare(task.vocabulary, task.vocabulary_len, task.a, task.b, task.buffer, task.lent);
         break;
+    case CLASSIFY:
+        judge_classify(task.vocabulary, task.vocabulary_len, task.buffer, task.lent, task.taxonomy, task.taxonomy_len);
+        break;
     default:
         judge_check_script(task.vocabulary, task.vocabulary_len, task.script, task.script_len);
     }
@@ -80,19 +85,32 @@ static void note(enum call call)
     made[call]++;
 }
 
-static uint32_t number_at(const uint8_t *bytes, size_t count)
-{
-    uint32_t number = 0;
-
-    while (count-- > 0)
-        number = number << 8 | bytes[count];
-    return number;
-}
-
 static void read_bytes(FILE *file, uint8_t *bytes, size_t length)
 {
     if (fread(bytes, 1, length, file) != length)
         stop("a file ends inside a case");
+}
+
+/* Takes what a head says of a call. */
+static void read_head(const uint8_t *head, enum call call)
+{
+    task.vocabulary_len = number_at(head, 2);
+    task.script_len = 0;
+    switch (call) {
+    case SCRIPT:
+        task.script_len = number_at(head + 2, 2);
+        break;
+    case CLASSIFY:
+        task.lent = number_at(head + 2, 2);
+        task.taxonomy_len = number_at(head + 4, 2);
+        break;
+    case COMPARE:
+        task.b = number_at(head + 6, 4);
+        task.lent = number_at(head + 10, 2);
+        /* fall through */
+    default:
+        task.a = number_at(head + 2, 4);
+    }
 }
 
 /* Makes a call, or two, for each case of a file, whose head has so many bytes. */
@@ -104,11 +122,7 @@ static void run(const char *path, size_t head_bytes, enum call call)
     if (file == NULL)
         stop("a file cannot be read");
     while (fread(head, 1, head_bytes, file) == head_bytes) {
-        task.vocabulary_len = number_at(head, 2);
-        task.script_len = call == SCRIPT ? number_at(head + 2, 2) : 0;
-        task.a = call == SCRIPT ? 0 : number_at(head + 2, 4);
-        task.b = call == COMPARE ? number_at(head + 6, 4) : 0;
-        task.lent = call == COMPARE ? number_at(head + 10, 2) : 0;
+        read_head(head, call);
         read_bytes(file, task.vocabulary, task.vocabulary_len);
         read_bytes(file, task.script, task.script_len);
         note(call);
@@ -125,7 +139,8 @@ static void *run_all(void *arguments)
 
     run(paths[1], 6, VOCABULARY);
     run(paths[2], 13, COMPARE);
-    run(paths[3], 4, SCRIPT);
+    run(paths[3], 7, CLASSIFY);
+    run(paths[4], 4, SCRIPT);
     return NULL;
 }
 
@@ -147,8 +162,8 @@ int main(int count, char **arguments)
 {
     size_t greatest = 0;
 
-    if (count != 4)
-        stop("usage: stack VOCABULARY_CASES COMPARISON_CASES SCRIPT_CASES");
+    if (count != 5)
+        stop("usage: stack VOCABULARY_CASES COMPARISON_CASES CLASSIFICATION_CASES SCRIPT_CASES");
     on_own_stack(arguments);
     for (int call = 0; call < CALLS; call++) {
         if (made[call] == 0)

@@ -3,19 +3,17 @@
 // A case is the length of its vocabulary (two bytes), the two term numbers (four bytes each), the
 // number of bytes lent (two bytes), all low byte first, the seed of what they hold (a byte), and the
 // vocabulary.
+use lent::fill;
+use lent::pair;
+use lent::print_number;
+use lent::print_sums;
+use lent::print_written;
 use libc::STDIN_FILENO;
 use libc::STDOUT_FILENO;
 use types::answers::Compared;
 
 // The bytes that the survivors take.
 const WRITTEN: usize = 512;
-
-// Writes a number and the byte that follows it.
-fn print_number(n: u64, after: u8) {
-    let text = [after];
-    io::print_decimal(STDOUT_FILENO, n);
-    io::write_all(STDOUT_FILENO, &text);
-}
 
 // Writes the number of survivors and of rounds.
 fn print_counts(survivors: usize, rounds: usize) {
@@ -59,82 +57,15 @@ fn is_refused(answer: Compared) -> bool {
     }
 }
 
-// Widens a byte.
-fn wide(x: u8) -> u64 {
-    x as u64
-}
-
-// How many of the bytes that the survivors take stand before and at the last that is not 0.
-fn used(buffer: &[u8]) -> usize {
-    let mut end = 0;
-    let mut i = 0;
-    while i < WRITTEN && i < buffer.len() {
-        if buffer[i] != 0 {
-            end = i + 1;
-        }
-        i += 1;
-    }
-    end
-}
-
-// Writes the bytes before an end in hexadecimal.
-fn print_digits(buffer: &[u8], end: usize) {
-    let mut i = 0;
-    while i < end && i < buffer.len() {
-        io::print_hex(STDOUT_FILENO, wide(buffer[i]), 2);
-        i += 1;
-    }
-}
-
-// Writes the survivors' bytes as far as the last that is not 0, or a dash where all are 0.
-fn print_written(buffer: &[u8]) {
-    let end = used(buffer);
-    if end == 0 {
-        io::write_all(STDOUT_FILENO, b"-");
-    }
-    print_digits(buffer, end);
-    io::write_all(STDOUT_FILENO, b" ");
-}
-
-// Writes the sum of the bytes, and the sum of the sums after each byte, which tells their order.
-fn print_sums(buffer: &[u8]) {
-    let mut low = 0;
-    let mut high = 0;
-    let mut i = 0;
-    while i < buffer.len() {
-        low = std::num::wrapping_add_u64(low, wide(buffer[i]));
-        high = std::num::wrapping_add_u64(high, low);
-        i += 1;
-    }
-    print_number(low, b' ');
-    print_number(high, b'\n');
-}
-
-// Fills the lent bytes: byte i is 7 i + seed, modulo 256.
-fn fill(buffer: &mut [u8], seed: u8) {
-    let mut value = seed;
-    let mut i = 0;
-    while i < buffer.len() {
-        buffer[i] = value;
-        value = std::num::wrapping_add_u8(value, 7);
-        i += 1;
-    }
-}
-
 // Fills the lent bytes, compares, and writes the line of the case.
 fn print_case(v: &[u8], a: u32, b: u32, buffer: &mut [u8], seed: u8) {
     fill(buffer, seed);
     let answer = types::compare(v, a, b, buffer);
     print_answer(answer);
     if !is_refused(answer) {
-        print_written(buffer);
+        print_written(buffer, WRITTEN);
     }
-    print_sums(buffer);
-}
-
-// The number in two bytes, low byte first.
-fn pair(low: u8, high: u8) -> u16 {
-    low as u16 + 256 * (high as u16)
+    print_sums(buffer, b'\n');
 }
 
 // The number in four bytes, given as two numbers of two bytes.

@@ -2,7 +2,10 @@
 //! makes cases and the output expected for them. See README.md.
 
 mod cases;
+mod classification;
 mod comparison;
+mod lent;
+mod plan;
 mod random;
 mod script;
 mod select;
@@ -23,10 +26,11 @@ const UNFIT: u8 = 1;
 const MALFORMED: u8 = 2;
 
 /// How the program is called.
-const USAGE: &str = "usage: second vocabulary|comparison|script [SEED] > CASES, \
-     or second expect-vocabulary|expect-comparison|expect-script < CASES > EXPECTED, \
-     or second new vocabulary|comparison|script STORED < CASES > NEW, \
-     or second every vocabulary|comparison|script STEP < CASES > CHOSEN";
+const USAGE: &str = "usage: second SUBJECT [SEED] > CASES, \
+     or second expect-SUBJECT < CASES > EXPECTED, \
+     or second new SUBJECT STORED < CASES > NEW, \
+     or second every SUBJECT STEP < CASES > CHOSEN; \
+     a SUBJECT is vocabulary, comparison, classification or script";
 
 /// Runs the subcommand that the command line names.
 fn main() -> ExitCode {
@@ -38,6 +42,9 @@ fn main() -> ExitCode {
         ["comparison"] => make_comparisons(None),
         ["comparison", seed] => seeded(seed, make_comparisons),
         ["expect-comparison"] => filter(|bytes| Ok(comparison::lines(&comparison::decode(bytes)?))),
+        ["classification"] => make_classifications(None),
+        ["classification", seed] => seeded(seed, make_classifications),
+        ["expect-classification"] => filter(|bytes| Ok(classification::lines(&classification::decode(bytes)?))),
         ["script"] => make_scripts(None),
         ["script", seed] => seeded(seed, make_scripts),
         ["expect-script"] => filter(|bytes| Ok(script::lines(&script::decode(bytes)?))),
@@ -101,24 +108,34 @@ fn filter<T: AsRef<[u8]>>(work: impl Fn(&[u8]) -> Result<T, String>) -> u8 {
     }
 }
 
+/// One of two tables of cases: of the stored ones, or of another seed.
+fn table_of<P>(cases: &[P], seed: Seed, [stored, seeded]: [fn(&[P]) -> table::Table; 2]) -> table::Table {
+    match seed {
+        None => stored(cases),
+        Some(_) => seeded(cases),
+    }
+}
+
 /// Writes the file of comparison cases.
 fn make_comparisons(seed: Seed) -> u8 {
     let planned = comparison::all(seed);
-    let table = match seed {
-        None => comparison::table(&planned),
-        Some(_) => comparison::seeded_table(&planned),
-    };
+    let table = table_of(&planned, seed, [comparison::table, comparison::seeded_table]);
     let cases: Vec<comparison::Case> = planned.into_iter().map(|p| p.case).collect();
     make(&table, comparison::encode(&cases))
+}
+
+/// Writes the file of classification cases.
+fn make_classifications(seed: Seed) -> u8 {
+    let planned = classification::all(seed);
+    let table = table_of(&planned, seed, [classification::table, classification::seeded_table]);
+    let cases: Vec<classification::Case> = planned.into_iter().map(|p| p.case).collect();
+    make(&table, classification::encode(&cases))
 }
 
 /// Writes the file of script cases.
 fn make_scripts(seed: Seed) -> u8 {
     let planned = script::all(seed);
-    let table = match seed {
-        None => script::table(&planned),
-        Some(_) => script::seeded_table(&planned),
-    };
+    let table = table_of(&planned, seed, [script::table, script::seeded_table]);
     let cases: Vec<script::Case> = planned.into_iter().map(|p| p.case).collect();
     make(&table, script::encode(&cases))
 }

@@ -18,6 +18,7 @@ fn form(name: &str) -> Result<Form, String> {
     let (head, lengths, filling): (usize, &[usize], _) = match name {
         "vocabulary" => (6, &[0], None),
         "comparison" => (13, &[0], Some(12)),
+        "classification" => (7, &[0], Some(6)),
         "script" => (4, &[0, 2], None),
         _ => return Err(format!("there are no cases by the name {name}")),
     };

@@ -26,9 +26,20 @@ impl Table {
         self.rows.push(Row { name, count, least });
     }
 
-    /// Adds what is wrong with single cases.
-    pub fn object(&mut self, wrong: impl Iterator<Item = String>) {
-        self.wrong.extend(wrong);
+    /// The table of cases of another seed: they have to be right, but need not be of every sort.
+    pub fn seeded<C, A>(cases: &[C], answer: impl Fn(&C) -> A, fault: impl Fn(&C, &A) -> Option<String>) -> Table {
+        let mut table = Table::default();
+        table.add("cases", cases.len(), 1);
+        table.object(cases, &cases.iter().map(answer).collect::<Vec<A>>(), fault);
+        table
+    }
+
+    /// Adds what is wrong with single cases and their answers, a line for each.
+    pub fn object<C, A>(&mut self, cases: &[C], answers: &[A], fault: impl Fn(&C, &A) -> Option<String>) {
+        for (i, (case, answer)) in cases.iter().zip(answers).enumerate() {
+            let wrong = fault(case, answer).map(|text| format!("case {i} {text}"));
+            self.wrong.extend(wrong);
+        }
     }
 
     /// The table as text.

@@ -74,7 +74,7 @@ fn choices() {
 /// nothing is written but what is wrong.
 #[test]
 fn refused_command_lines() {
-    let calls: [(&[&str], &str); 9] = [
+    let calls: [(&[&str], &str); 10] = [
         (&[], "usage: "),
         (&["vectors"], "usage: "),
         (&["vocabulary", "x"], "usage: "),
@@ -82,6 +82,7 @@ fn refused_command_lines() {
         (&["expect-vocabulary", "x"], "usage: "),
         (&["expect-vocabulary"], "the file ends inside case 0"),
         (&["expect-comparison"], "the file ends inside case 0"),
+        (&["expect-classification"], "the file ends inside case 0"),
         (&["every", "script", "2"], "the file ends inside case 0"),
         (&["new", "script", "/nowhere/stdin"], "/nowhere/stdin: "),
     ];

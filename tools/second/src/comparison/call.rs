@@ -58,7 +58,7 @@ pub fn first_difference(types: &Types, set: &Set, a: u32, b: u32) -> Option<usiz
 }
 
 /// Writes a set: bit t mod 8 of byte t div 8 is 1 for its members, all other bits are 0.
-fn write(set: &Set, bytes: &mut [u8; WRITTEN]) {
+pub fn write(set: &Set, bytes: &mut [u8; WRITTEN]) {
     bytes.fill(0);
     for t in set {
         if let Some(byte) = bytes.get_mut(t / 8) {

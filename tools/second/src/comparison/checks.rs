@@ -32,7 +32,7 @@ fn unsupported(planned: &Planned, compared: &Compared, bytes: &[u8]) -> Option<S
         return None;
     }
     let types = Types::of(records(&planned.case.vocabulary));
-    if types.count() <= MOST_TYPES && !is_largest(&types, compared) {
+    if types.count() <= MOST_TYPES && !is_largest(&types, &compared.survivors) {
         return Some("the survivors are not the largest set".to_string());
     }
     objection(&types, compared, [planned.case.a, planned.case.b], bytes)

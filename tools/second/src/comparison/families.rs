@@ -5,7 +5,7 @@ use crate::comparison::terms::Terms;
 
 /// How a ladder's last name is ruled out.
 #[derive(Clone, Copy)]
-enum Ending {
+pub enum Ending {
     /// By a statement, before the first round.
     Stated,
     /// By a some-record to bottom, in the first round.
@@ -25,7 +25,7 @@ fn steps(names: &[u16]) -> impl Iterator<Item = (u16, u16)> + '_ {
 }
 
 /// Names that exclude each other, each of which every element needs as a witness.
-fn witnesses(count: usize, roles: u16) -> Terms {
+pub fn witnesses(count: usize, roles: u16) -> Terms {
     let mut terms = Terms::new(roles);
     let names = terms.name_list(count);
     let (top, bottom) = (terms.top(), terms.bottom());
@@ -58,7 +58,7 @@ fn duals(count: usize, roles: u16) -> Terms {
 }
 
 /// Names of which each needs the next as a witness: the next by number, or the one before.
-fn ladder(count: usize, ending: Ending, rising: bool) -> Terms {
+pub fn ladder(count: usize, ending: Ending, rising: bool) -> Terms {
     let mut terms = Terms::new(1);
     let mut names = terms.name_list(count);
     if !rising {
@@ -86,7 +86,7 @@ fn ladder(count: usize, ending: Ending, rising: bool) -> Terms {
 
 /// Names in a ring, each of which needs the next; a broken ring's last name forbids what it needs,
 /// so that the others serve each other only through a type that goes.
-fn ring(count: usize, broken: bool) -> Terms {
+pub fn ring(count: usize, broken: bool) -> Terms {
     let mut terms = Terms::new(1);
     let names = terms.name_list(count);
     terms.bottom();
@@ -105,7 +105,7 @@ fn ring(count: usize, broken: bool) -> Terms {
 
 /// A number of `bits` bits, one more than what the some-records say of the witnesses, with at least
 /// one of them true: counts down to nothing, one type a round.
-fn counter(bits: usize) -> Terms {
+pub fn counter(bits: usize) -> Terms {
     let mut terms = Terms::new(1);
     let names = terms.name_list(bits);
     let bottom = terms.bottom();
@@ -145,7 +145,7 @@ fn distributed(role: u16) -> Terms {
 
 /// A name that passes the next name on to all witnesses, and so on; and a nest of some-records that
 /// ends outside the last name, which the first name's elements can therefore not have.
-fn passed_on(depth: usize, role: u16) -> Terms {
+pub fn passed_on(depth: usize, role: u16) -> Terms {
     let mut terms = Terms::new(role + 1);
     let names = terms.name_list(depth);
     for (name, next) in steps(&names) {
@@ -163,7 +163,7 @@ fn passed_on(depth: usize, role: u16) -> Terms {
 }
 
 /// A name, with statements off the chain that would rule it out, one of which leads onto the chain.
-fn asides() -> Terms {
+pub fn asides() -> Terms {
     let mut terms = Terms::new(1);
     let (name, other, bottom) = (terms.name(), terms.name(), terms.bottom());
     let some = terms.some(0, name);
@@ -190,7 +190,7 @@ fn two_roles(roles: u16) -> Terms {
 }
 
 /// Vocabularies with no survivor: by statements alone, by the first round, and by later ones.
-fn contradictions() -> Vec<Terms> {
+pub fn contradictions() -> Vec<Terms> {
     let mut made = Vec::new();
     for sort in 0..5 {
         let mut terms = Terms::new(2);

@@ -3,6 +3,7 @@
 //! first, the seed of what they hold (8 bits), and the vocabulary.
 
 use crate::cases;
+use crate::lent::filled;
 
 /// A vocabulary, the two terms to compare, and the bytes that are lent.
 #[derive(Clone, Debug, PartialEq, Eq)]
@@ -22,14 +23,10 @@ pub struct Case {
 /// The bytes of a case's head.
 const HEAD_BYTES: usize = 13;
 
-/// How far each lent byte is above the one before it.
-const STEP: u8 = 7;
-
 impl Case {
-    /// The lent bytes before the call: byte i is 7 i + seed, modulo 256.
+    /// The lent bytes before the call.
     pub fn buffer(&self) -> Vec<u8> {
-        let bytes = std::iter::successors(Some(self.seed), |byte| Some(byte.wrapping_add(STEP)));
-        bytes.take(usize::from(self.lent)).collect()
+        filled(self.lent, self.seed)
     }
 
     /// The case that bytes begin with, and what is left.

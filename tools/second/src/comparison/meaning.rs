@@ -2,19 +2,19 @@
 //! section "Meaning": an account of the answer that makes no use of truth at types for terms.
 
 use crate::comparison::call::Compared;
-use crate::comparison::types::{chained, Types};
+use crate::comparison::types::{chained, Set, Types};
 use crate::vocabulary::records::{Record, A};
 
 /// The elements of an interpretation, and which of them belong to each record's term.
-struct Interpretation {
+pub struct Interpretation {
     /// The elements, rising.
-    elements: Vec<usize>,
+    pub elements: Vec<usize>,
     /// For each record, for each element by its place, whether it belongs.
     members: Vec<Vec<bool>>,
 }
 
 /// The interpretation that bytes hold: its elements are the numbers whose bit is 1.
-fn read_back(types: &Types, bytes: &[u8]) -> Interpretation {
+pub fn read_back(types: &Types, bytes: &[u8]) -> Interpretation {
     let is_one = |t: &usize| bytes.get(t / 8).is_some_and(|byte| byte >> (t % 8) & 1 == 1);
     let mut read = Interpretation {
         elements: (0..8 * bytes.len()).filter(is_one).collect(),
@@ -34,7 +34,7 @@ fn read_back(types: &Types, bytes: &[u8]) -> Interpretation {
 
 impl Interpretation {
     /// Whether the element at a place belongs to the term of a record that has been read.
-    fn has(&self, term: usize, place: usize) -> bool {
+    pub fn has(&self, term: usize, place: usize) -> bool {
         let members = self.members.get(term);
         members.and_then(|all| all.get(place)).is_some_and(|belongs| *belongs)
     }
@@ -64,7 +64,7 @@ impl Interpretation {
     }
 
     /// Whether the interpretation satisfies the statements of the vocabulary.
-    fn satisfies(&self, types: &Types) -> bool {
+    pub fn satisfies(&self, types: &Types) -> bool {
         chained(&types.records).iter().all(|statement| {
             let [a, b] = statement.operands();
             (0..self.elements.len()).all(|place| !self.has(a, place) || self.has(b, place))
@@ -88,12 +88,12 @@ pub fn objection(types: &Types, compared: &Compared, terms: [u32; 2], bytes: &[u
 
 /// Whether each set of types at which all statements hold and which serves its members lies within
 /// the survivors, which are such a set. All sets are tried, so the types have to be few.
-pub fn is_largest(types: &Types, compared: &Compared) -> bool {
+pub fn is_largest(types: &Types, survivors: &Set) -> bool {
     let first = types.first_set(&chained(&types.records));
     let serves_itself = |set: &Vec<usize>| set.iter().all(|t| types.served(set, *t));
     let fits = |set: &Vec<usize>| set.iter().all(|t| first.contains(t)) && serves_itself(set);
     let members = |bits: usize| (0..types.count()).filter(move |t| bits >> t & 1 == 1);
     let sets = (0..1usize << types.count()).map(|bits| members(bits).collect::<Vec<usize>>());
-    let within = |set: &Vec<usize>| set.iter().all(|t| compared.survivors.contains(t));
-    fits(&compared.survivors) && sets.filter(fits).all(|set| within(&set))
+    let within = |set: &Vec<usize>| set.iter().all(|t| survivors.contains(t));
+    fits(survivors) && sets.filter(fits).all(|set| within(&set))
 }

@@ -4,7 +4,8 @@
 use crate::comparison::call::first_difference;
 use crate::comparison::file::Case;
 use crate::comparison::types::Types;
-use crate::random::{Random, Seed};
+use crate::plan;
+use crate::random::Seed;
 use crate::vocabulary::records::{records, terms};
 
 /// The seed of all random choices in the stored cases.
@@ -14,38 +15,24 @@ const SEED: u64 = 20_240_715;
 const ENOUGH: [u16; 8] = [512, 512, 512, 513, 519, 600, 768, 1024];
 
 /// A case, and how its expected line has to begin.
-pub struct Planned {
-    /// The case.
-    pub case: Case,
-    /// How its expected line has to begin.
-    pub meant: String,
-}
-
+pub type Planned = plan::Planned<Case, String>;
 /// The cases so far, and the source of random choices.
-pub struct Plan {
-    /// The cases.
-    pub cases: Vec<Planned>,
-    /// The source.
-    pub random: Random,
-}
+pub type Plan = plan::Plan<Case, String>;
 
 /// All cases. With a seed of its own a run leaves out what is the same in every run.
 pub fn all(seed: Seed) -> Vec<Planned> {
-    let mut plan = Plan {
-        cases: Vec::new(),
-        random: Random::new(seed.unwrap_or(SEED)),
-    };
-    if seed.is_none() {
-        plan.samples();
-        plan.families();
-    }
-    plan.random_vocabularies();
-    if seed.is_none() {
-        plan.benchmarks();
-    }
-    plan.large();
-    plan.refusals(seed);
-    plan.cases
+    Plan::made(seed.unwrap_or(SEED), |plan| {
+        if seed.is_none() {
+            plan.samples();
+            plan.families();
+        }
+        plan.random_vocabularies();
+        if seed.is_none() {
+            plan.benchmarks();
+        }
+        plan.large();
+        plan.refusals(seed);
+    })
 }
 
 impl Plan {

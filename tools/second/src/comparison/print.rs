@@ -3,6 +3,7 @@
 
 use crate::comparison::call::{compare, Compared, WRITTEN};
 use crate::comparison::file::Case;
+use crate::lent::{hex, sums};
 use crate::vocabulary::Refusal;
 
 /// What the comparison does with a case.
@@ -30,12 +31,11 @@ pub fn lines(cases: &[Case]) -> String {
 /// The line of a case, with its line end.
 pub fn line(outcome: &Outcome) -> String {
     let buffer = &outcome.buffer;
-    let [low, high] = sums(buffer);
     let text = match &outcome.answer {
         Err(refusal) => format!("refused {} {}", refusal.number, refusal.place),
-        Ok(compared) => format!("{} {}", head(compared), hex(buffer.iter().take(WRITTEN))),
+        Ok(compared) => format!("{} {}", head(compared), hex(buffer, WRITTEN)),
     };
-    format!("{text} {low} {high}\n")
+    format!("{text} {}\n", sums(buffer))
 }
 
 /// The answer's word, the element that Different carries, and the two counts.
@@ -45,21 +45,4 @@ fn head(compared: &Compared) -> String {
         None => format!("equal {counts}"),
         Some(element) => format!("different {element} {counts}"),
     }
-}
-
-/// Bytes in hexadecimal, as far as the last that is not 0; a dash where all are 0.
-fn hex<'a>(bytes: impl ExactSizeIterator<Item = &'a u8> + DoubleEndedIterator + Clone) -> String {
-    match bytes.clone().rposition(|byte| *byte != 0) {
-        None => "-".to_string(),
-        Some(last) => bytes.take(last + 1).map(|byte| format!("{byte:02x}")).collect(),
-    }
-}
-
-/// The sum of the bytes, and the sum of the sums after each byte, which tells their order.
-fn sums(bytes: &[u8]) -> [u32; 2] {
-    let add = |[low, high]: [u32; 2], byte: &u8| {
-        let low = low.wrapping_add(u32::from(*byte));
-        [low, high.wrapping_add(low)]
-    };
-    bytes.iter().fold([0, 0], add)
 }

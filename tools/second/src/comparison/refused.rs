@@ -22,7 +22,7 @@ const ATOMS: [usize; 8] = [1, 5, 12, 13, 14, 20, 100, 300];
 const OF_EACH: usize = 20;
 
 /// The vocabulary that is spoiled, with four atoms or more: names, a restriction of each kind and statements.
-fn sound(atoms: usize) -> Vec<u8> {
+pub fn sound(atoms: usize) -> Vec<u8> {
     let mut terms = Terms::new(3);
     let [first, second] = terms.names();
     terms.name_list(atoms - 4);
@@ -35,7 +35,7 @@ fn sound(atoms: usize) -> Vec<u8> {
 
 /// A sound vocabulary with one byte changed, or for row 1 added, so that a row of the table refuses
 /// it, and the place of the refusal: the header, a name, the some-record or the last statement.
-fn spoil(row: u8, vocabulary: &[u8]) -> (Vec<u8>, usize) {
+pub fn spoil(row: u8, vocabulary: &[u8]) -> (Vec<u8>, usize) {
     if row == 1 {
         return ([vocabulary, &[0]].concat(), 0);
     }

@@ -13,14 +13,14 @@ pub fn v() -> Terms {
 }
 
 /// V with 6: 3 within 4 chained.
-fn v_both_ways() -> Terms {
+pub fn v_both_ways() -> Terms {
     let mut terms = v();
     terms.within(3, 4);
     terms
 }
 
 /// Name 1; 2 some role 0 to 1; 3: 1 within 2; 4 bottom.
-fn sample_3() -> Terms {
+pub fn sample_3() -> Terms {
     let mut terms = Terms::new(1);
     let name = terms.name();
     let some = terms.some(0, name);
@@ -38,7 +38,7 @@ pub fn sample_4() -> Terms {
 }
 
 /// Top 1, bottom 2, 3: 1 within 2.
-fn sample_5() -> Terms {
+pub fn sample_5() -> Terms {
     let mut terms = Terms::new(0);
     let (top, bottom) = (terms.top(), terms.bottom());
     terms.within(top, bottom);
@@ -46,7 +46,7 @@ fn sample_5() -> Terms {
 }
 
 /// Names 1, 2; 3 some role 0 to 2; 4 all role 0 to 2; 5: 1 within 3; 6: 4 within 1; 7 top.
-fn sample_6() -> Terms {
+pub fn sample_6() -> Terms {
     let mut terms = Terms::new(1);
     let [first, second] = terms.names();
     let some = terms.some(0, second);
@@ -58,7 +58,7 @@ fn sample_6() -> Terms {
 }
 
 /// Atoms of the three kinds in turn, names first.
-fn mixed_atoms(count: usize) -> Terms {
+pub fn mixed_atoms(count: usize) -> Terms {
     let mut terms = Terms::new(2);
     for j in 0..count as u16 {
         match j % 3 {
@@ -71,7 +71,7 @@ fn mixed_atoms(count: usize) -> Terms {
 }
 
 /// As many names.
-fn name_atoms(count: usize) -> Terms {
+pub fn name_atoms(count: usize) -> Terms {
     let mut terms = Terms::new(0);
     terms.name_list(count);
     terms

@@ -43,28 +43,14 @@ fn told(planned: &Planned, outcome: &Outcome) -> [bool; ERRORS.len()] {
     ERRORS.map(|(_, wrong)| few && wrong(&types, a, b) != *right)
 }
 
-/// The answers to the cases.
-fn outcomes(cases: &[Planned]) -> Vec<Outcome> {
-    cases.iter().map(|planned| run(&planned.case)).collect()
-}
-
-/// The cases whose answer is not borne out, a line for each.
-fn objections<'a>(cases: &'a [Planned], outcomes: &'a [Outcome]) -> impl Iterator<Item = String> + 'a {
-    let numbered = cases.iter().zip(outcomes).enumerate();
-    numbered.filter_map(|(i, (planned, outcome))| fault(planned, outcome).map(|text| format!("case {i} {text}")))
-}
-
-/// The table of cases of another seed: they have to be right, but need not be of every sort.
+/// The table of cases of another seed.
 pub fn seeded_table(cases: &[Planned]) -> Table {
-    let mut table = Table::default();
-    table.add("cases", cases.len(), 1);
-    table.object(objections(cases, &outcomes(cases)));
-    table
+    Table::seeded(cases, |planned| run(&planned.case), fault)
 }
 
 /// The table of the stored cases.
 pub fn table(cases: &[Planned]) -> Table {
-    let outcomes = outcomes(cases);
+    let outcomes: Vec<Outcome> = cases.iter().map(|planned| run(&planned.case)).collect();
     let with = |test: &dyn Fn(&Outcome) -> bool| outcomes.iter().filter(|o| test(o)).count();
     let mut table = Table::default();
     table.add("cases", cases.len(), 1);
@@ -84,6 +70,6 @@ pub fn table(cases: &[Planned]) -> Table {
             .count();
         table.add(&format!("would change by: {name}"), count, 1);
     }
-    table.object(objections(cases, &outcomes));
+    table.object(cases, &outcomes, fault);
     table
 }

@@ -26,6 +26,11 @@ impl Terms {
         self.draft.records.len()
     }
 
+    /// The records so far but the header.
+    pub fn records(&self) -> &[Record] {
+        self.draft.records.get(1..).unwrap_or(&[])
+    }
+
     /// Pushes a record of a kind, and answers its number.
     pub fn push(&mut self, kind: u8, a: u16, b: u16) -> u16 {
         let number = self.draft.records.len() as u16;

@@ -8,23 +8,12 @@ use crate::comparison::errors::ERRORS;
 use crate::comparison::plan::{Plan, Planned};
 use crate::comparison::print::run;
 use crate::comparison::{decode, encode, lines, Case, Types};
-use crate::random::Random;
 use crate::tests::paper::{header, names, refusal, vocabularies};
 use crate::tests::stored;
 use crate::vocabulary::records::records;
 
 /// What the lent bytes hold before a call.
 const FILLING: u8 = 0xA5;
-
-/// The cases of some groups.
-fn planned(groups: impl Fn(&mut Plan)) -> Vec<Planned> {
-    let mut plan = Plan {
-        cases: Vec::new(),
-        random: Random::new(1),
-    };
-    groups(&mut plan);
-    plan.cases
-}
 
 /// Compares two terms, with 600 bytes lent; answers what is written, too, and finds the other bytes as they were.
 fn compared(vocabulary: &[u8], a: u32, b: u32) -> (Compared, Vec<u8>) {
@@ -81,7 +70,7 @@ fn sample_10() {
 /// answer, but for 15 where enough bytes are lent to samples that have theirs already; each gets it.
 #[test]
 fn planned_samples() {
-    let cases = planned(Plan::samples);
+    let cases = Plan::made(1, Plan::samples);
     let meant = cases.iter().filter(|planned| !planned.meant.is_empty());
     assert_eq!((cases.len(), meant.count()), (80, 65));
     for planned in &cases {
@@ -94,7 +83,7 @@ fn planned_samples() {
 /// A case whose answer is not the one it was made for, or whose bytes are not its interpretation, is found out.
 #[test]
 fn faults_are_found() {
-    let mut cases = planned(Plan::samples);
+    let mut cases = Plan::made(1, Plan::samples);
     let mut first = cases.swap_remove(0);
     let mut outcome = run(&first.case);
     outcome.buffer[0] ^= 1;
@@ -108,7 +97,7 @@ fn faults_are_found() {
 /// Each wrong comparison answers otherwise in some case of the samples and the families.
 #[test]
 fn errors_are_told() {
-    let cases = planned(|plan| {
+    let cases = Plan::made(1, |plan| {
         plan.samples();
         plan.families();
     });

@@ -158,7 +158,12 @@ impl Types {
 
     /// The survivors, and the number of rounds that removed something.
     pub fn survivors(&self) -> (Set, usize) {
-        let mut set = self.first_set(&chained(&self.records));
+        self.settle(self.first_set(&chained(&self.records)))
+    }
+
+    /// What rounds leave of a set, and how many of them removed something.
+    pub fn settle(&self, first: Set) -> (Set, usize) {
+        let mut set = first;
         let mut rounds = 0;
         loop {
             let left = self.round(&set);

@@ -18,7 +18,7 @@ const TELLING: usize = 2;
 /// How many literals the columns have: of kinds 1, 2, 4 to 9, and of the query.
 const LITERALS: usize = 1 + 1 + 4 + 4 * 7 + 2 + 2;
 
-/// The answer to a case.
+/// An answer to a case.
 type Answer = Result<usize, Refusal>;
 
 /// A sort of accepted cases: its name, how many there have to be, and whether a case with so many
@@ -56,29 +56,24 @@ fn connected(cases: &[Planned], answers: &[Answer]) -> usize {
     met.len()
 }
 
-/// The answers to the cases.
-fn answers(cases: &[Planned]) -> Vec<Answer> {
-    let answer = |p: &Planned| check_script(&p.case.vocabulary, &p.case.script);
-    cases.iter().map(answer).collect()
+/// The answer to a case.
+fn answer(planned: &Planned) -> Answer {
+    check_script(&planned.case.vocabulary, &planned.case.script)
 }
 
-/// The cases whose answer is not borne out, a line for each.
-fn objections<'a>(cases: &'a [Planned], answers: &'a [Answer]) -> impl Iterator<Item = String> + 'a {
-    let numbered = cases.iter().zip(answers).enumerate();
-    numbered.filter_map(|(i, (planned, answer))| fault(planned, *answer).map(|text| format!("case {i} {text}")))
+/// What is wrong with a case and its answer, or nothing.
+fn wrong(planned: &Planned, answer: &Answer) -> Option<String> {
+    fault(planned, *answer)
 }
 
-/// The table of cases of another seed: they have to be right, but need not be of every sort.
+/// The table of cases of another seed.
 pub fn seeded_table(cases: &[Planned]) -> Table {
-    let mut table = Table::default();
-    table.add("cases", cases.len(), 1);
-    table.object(objections(cases, &answers(cases)));
-    table
+    Table::seeded(cases, answer, wrong)
 }
 
 /// The table of the stored cases.
 pub fn table(cases: &[Planned]) -> Table {
-    let answers = answers(cases);
+    let answers: Vec<Answer> = cases.iter().map(answer).collect();
     let mut table = Table::default();
     table.add("cases", cases.len(), 1);
     for (numbers, least) in REFUSALS {
@@ -101,6 +96,6 @@ pub fn table(cases: &[Planned]) -> Table {
         let told = pairs().filter(|(p, a)| check_by(*wrong, &p.case.vocabulary, &p.case.script) != **a);
         table.add(&format!("would change by: {name}"), told.count(), TELLING);
     }
-    table.object(objections(cases, &answers));
+    table.object(cases, &answers, wrong);
     table
 }

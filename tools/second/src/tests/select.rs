@@ -2,7 +2,7 @@
 
 use crate::select::{every, new};
 use crate::tests::paper::{header, names};
-use crate::{comparison, script, vocabulary};
+use crate::{classification, comparison, script, vocabulary};
 
 /// The file of vocabulary cases with some record numbers of a header alone.
 fn file(numbers: &[u32]) -> Vec<u8> {
@@ -44,6 +44,28 @@ fn new_comparisons() {
     assert_eq!(
         new("comparison", &file(&[case(512, 9)]), &made).unwrap(),
         file(&[case(513, 1)])
+    );
+}
+
+/// Classifications that differ in nothing but what the lent bytes hold are one case; other bytes lent for either buffer
+/// are another.
+#[test]
+fn new_classifications() {
+    let case = |lent, seed| classification::Case {
+        vocabulary: names(2),
+        lent,
+        seed,
+    };
+    let file = |cases: &[classification::Case]| classification::encode(cases).unwrap();
+    let made = file(&[
+        case([512, 144], 1),
+        case([512, 144], 2),
+        case([513, 144], 1),
+        case([512, 145], 1),
+    ]);
+    assert_eq!(
+        new("classification", &file(&[case([513, 144], 9)]), &made).unwrap(),
+        file(&[case([512, 144], 1), case([512, 145], 1)])
     );
 }
 

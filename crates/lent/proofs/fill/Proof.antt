@@ -1,12 +1,12 @@
--- `comparison_cases::fill` is safe and ends. The measure is the number of bytes that are left. From turn to turn the buffer
+-- `lent::fill` is safe and ends. The measure is the number of bytes that are left. From turn to turn the buffer
 -- keeps its length. Assumes nothing.
 use mathlib.Core.Path.{_≡_, refl, _∙_}
 use Prim.Native.Nat.{_-_}
 use native.Mathlib.Omega.{arith}
 use borrow.Author.Needs.{needs}
 use lib.ListN.{length, length-set}
-use Rattle.comparison_cases.proofs.fill.Statement.{statement}
-use Rattle.comparison_cases.proofs.fill.Tie as tie
+use Rattle.lent.proofs.fill.Statement.{statement}
+use Rattle.lent.proofs.fill.Tie as tie
 
 abbrev Inv-loop : tie.InvT-loop
 Inv-loop buffer₀ seed value₀ i₀ buffer value i = length buffer ≡ length buffer₀

@@ -1,11 +1,11 @@
--- `comparison_cases::print_digits` is safe and ends. The measure is the number of bytes that are left. Nothing has to hold
+-- `lent::print_digits` is safe and ends. The measure is the number of bytes that are left. Nothing has to hold
 -- from turn to turn. Assumes nothing.
 use Prim.Native.Nat.{_-_}
 use native.Mathlib.Omega.{arith}
 use borrow.Author.Tests.{ltb-true}
 use lib.ListN.{length}
-use Rattle.comparison_cases.proofs.print_digits.Statement.{statement}
-use Rattle.comparison_cases.proofs.print_digits.Tie as tie
+use Rattle.lent.proofs.print_digits.Statement.{statement}
+use Rattle.lent.proofs.print_digits.Tie as tie
 
 abbrev Inv-loop : tie.InvT-loop
 Inv-loop buffer end i₀ i = Unit {0}

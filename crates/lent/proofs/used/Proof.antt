@@ -1,17 +1,17 @@
--- `comparison_cases::used` is safe and ends. The measure is the number of bytes that are left. Nothing has to hold from turn
+-- `lent::used` is safe and ends. The measure is the number of bytes that are left. Nothing has to hold from turn
 -- to turn. Assumes nothing.
 use Prim.Native.Nat.{_-_}
 use native.Mathlib.Omega.{arith}
 use borrow.Author.Tests.{ltb-true}
 use lib.ListN.{length}
-use Rattle.comparison_cases.proofs.used.Statement.{statement}
-use Rattle.comparison_cases.proofs.used.Tie as tie
+use Rattle.lent.proofs.used.Statement.{statement}
+use Rattle.lent.proofs.used.Tie as tie
 
 abbrev Inv-loop : tie.InvT-loop
-Inv-loop buffer end₀ i₀ end i = Unit {0}
+Inv-loop buffer written end₀ i₀ end i = Unit {0}
 
 abbrev μ-loop : tie.MeasureT-loop
-μ-loop buffer end₀ i₀ end i = length buffer - i
+μ-loop buffer written end₀ i₀ end i = length buffer - i
 
 loop-holds : tie.Need-loop-holds Inv-loop μ-loop
 loop-holds c = tt

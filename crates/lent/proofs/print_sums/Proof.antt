@@ -1,16 +1,16 @@
--- `comparison_cases::print_sums` is safe and ends. The measure is the number of bytes that are left. Nothing has to hold from
+-- `lent::print_sums` is safe and ends. The measure is the number of bytes that are left. Nothing has to hold from
 -- turn to turn. Assumes nothing.
 use Prim.Native.Nat.{_-_}
 use native.Mathlib.Omega.{arith}
 use lib.ListN.{length}
-use Rattle.comparison_cases.proofs.print_sums.Statement.{statement}
-use Rattle.comparison_cases.proofs.print_sums.Tie as tie
+use Rattle.lent.proofs.print_sums.Statement.{statement}
+use Rattle.lent.proofs.print_sums.Tie as tie
 
 abbrev Inv-loop : tie.InvT-loop
-Inv-loop buffer low₀ high₀ i₀ low high i = Unit {0}
+Inv-loop buffer after low₀ high₀ i₀ low high i = Unit {0}
 
 abbrev μ-loop : tie.MeasureT-loop
-μ-loop buffer low₀ high₀ i₀ low high i = length buffer - i
+μ-loop buffer after low₀ high₀ i₀ low high i = length buffer - i
 
 loop-holds : tie.Need-loop-holds Inv-loop μ-loop
 loop-holds c = tt

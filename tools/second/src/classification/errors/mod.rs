@@ -1,0 +1,7 @@
+//! Classifications that are wrong in one point, so that the table can say how many cases tell each from the right one.
+
+mod calls;
+mod tables;
+
+pub use calls::CALLS;
+pub use tables::TABLES;
