@@ -184,7 +184,9 @@ static inline uint32_t judge_names(const uint8_t *vocabulary, size_t vocabulary_
 /* The entry of names i and j, from 0 in record order, in the taxonomy of a vocabulary of so many names. */
 static inline int judge_entry(const uint8_t *taxonomy, uint32_t names, uint32_t i, uint32_t j)
 {
-    return names <= JUDGE_ATOMS && i < names && j < names ? taxonomy[i * names + j] : JUDGE_NEITHER;
+    if (names > JUDGE_ATOMS || i >= names || j >= names)
+        return JUDGE_NEITHER;
+    return taxonomy[i * names + j];
 }
 
 /* ---- Refusals ---- */
