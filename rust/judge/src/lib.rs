@@ -3,8 +3,8 @@
 //! Every call takes slices of any content and length, and answers or refuses: none panics, none needs a
 //! condition. What an answer means (docs/FORMATS.md) is proved of the library's Rattle source; the compiler's
 //! back end and the linker are trusted, and this wrapper, which takes the numbers apart, is tested. A borrowed
-//! buffer cannot overlap a vocabulary, so what include/judge.h asks of pointers holds by itself. A call runs on
-//! the caller's stack: [`STACK_BYTES`] are enough.
+//! buffer overlaps neither a vocabulary nor another buffer, so what include/judge.h asks of pointers holds by
+//! itself. A call runs on the caller's stack: [`STACK_BYTES`] are enough.
 //!
 //! ```
 //! let vocabulary = [16, 1, 0, 0, 0, 0, 0, 0, 3, 0, 7, 0, 0, 0, 0, 0]; // a header and a name
@@ -160,6 +160,18 @@ pub fn compare(vocabulary: &[u8], a: u32, b: u32, buffer: &mut [u8]) -> Result<C
 /// The classification of the names of an accepted vocabulary of at most [`ATOMS`] atoms: which are equal, and which are
 /// the nearest broader names of each. The survivors are written into the first [`SURVIVOR_BYTES`] of the one buffer, the
 /// taxonomy, which [`relation`] reads, into the first [`TAXONOMY_BYTES`] of the other; a refusal writes nothing.
+///
+/// ```
+/// // Names 1 and 2, and the statement that the first lies within the second.
+/// let vocabulary = [
+///     16, 1, 3, 0, 0, 0, 0, 0, 3, 0, 7, 0, 0, 0, 0, 0, 3, 0, 8, 0, 0, 0, 0, 0, 9, 0, 1, 0, 2, 0, 0, 0,
+/// ];
+/// let (mut survivors, mut taxonomy) = ([0; judge::SURVIVOR_BYTES], [0; judge::TAXONOMY_BYTES]);
+/// let answer = judge::classify(&vocabulary, &mut survivors, &mut taxonomy)?;
+/// assert_eq!(answer.survivors, 3);
+/// assert_eq!(judge::relation(&taxonomy, 2, 0, 1), judge::Relation::NearestBroader);
+/// # Ok::<(), judge::Refusal>(())
+/// ```
 pub fn classify(vocabulary: &[u8], survivors: &mut [u8], taxonomy: &mut [u8]) -> Result<Classification, Refusal> {
     // SAFETY: as above; both buffers are borrowed for writing, so neither overlaps the other.
     let answer = taken(unsafe {

@@ -82,12 +82,9 @@ impl Taxonomy {
     }
 
     /// The names of the vocabulary in record order, each with its class.
-    pub fn names(&self) -> Vec<(u16, &Class)> {
-        let of_class = |class| move |name: &u16| (*name, class);
-        let mut names: Vec<(u16, &Class)> = Vec::new();
-        for class in &self.classes {
-            names.extend(class.names.iter().map(of_class(class)));
-        }
+    pub fn names<'a>(&'a self) -> Vec<(u16, &'a Class)> {
+        let each = |class: &'a Class| class.names.iter().map(move |name| (*name, class));
+        let mut names: Vec<(u16, &Class)> = self.classes.iter().flat_map(each).collect();
         names.sort_by_key(|(name, _)| *name);
         names
     }

@@ -1,5 +1,8 @@
 //! Taxonomies as a drawing for Graphviz, as ontology editors draw them.
 
+#[cfg(test)]
+mod tests;
+
 use crate::files::Name;
 use crate::taxonomy::{Class, Taxonomy};
 use crate::text::vocabulary::Written;
