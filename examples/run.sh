@@ -46,10 +46,13 @@ examples() {
     run 0 desk compare vertebrate/terms.vocabulary 4 12
     run 0 desk compare cat-owner/terms.vocabulary 3 9
     run 0 desk verify cat-owner/terms.vocabulary cat-owner/proof.script --trace
+    run 0 desk classify relief/terms.text vertebrate/terms.text --dot names.dot
+    run 0 cat names.dot
     run 0 desk recheck table
 
     # The same through C: examples/settle.c.
     run 1 settle relief/terms.vocabulary 11 14
+    run 0 settle vertebrate/terms.vocabulary --names
     run 0 settle relief/terms.vocabulary relief/proof.script
 }
 

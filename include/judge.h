@@ -9,8 +9,8 @@
  * text form, which the command `desk` turns into bytes and back (docs/DESK.md). Records are numbered from 0. The
  * formats, their meaning and the table of refusals are in docs/FORMATS.md.
  *
- * Four calls: judge_check_vocabulary, judge_record, judge_compare, judge_check_script. Each takes any bytes of any
- * length, ends, and answers one number, which the functions below take apart:
+ * Five calls: judge_check_vocabulary, judge_record, judge_compare, judge_classify, judge_check_script. Each takes any
+ * bytes of any length, ends, and answers one number, which the functions below take apart:
  *
  *     uint64_t answer = judge_compare(vocabulary, length, 4, 3, survivors, sizeof survivors);
  *     if (judge_refusal(answer))        complain(judge_sentence(judge_refusal(answer)), judge_place(answer));
@@ -22,15 +22,19 @@
  * first in the table's order, has the table's number and place, and alters no lent byte. Of two terms of an accepted
  * vocabulary of at most 12 atoms, with at least 512 bytes lent, Equal is answered exactly when they are equal in every
  * finite interpretation that satisfies the statements; with Different, the bytes written, read back, are such an
- * interpretation, in which the element belongs to just one of the terms. Over an accepted vocabulary, a script is
- * accepted exactly when it keeps the form and its chain of steps is a derivation of at most 64 open frames; then its
- * first term lies within its second in every finite interpretation that satisfies the statements. The packing of the
- * answers is proved too. crates/demands/specs/Demands.antt states the demands.
+ * interpretation, in which the element belongs to just one of the terms. Of two names a and b of such a vocabulary,
+ * with at least 512 and 144 bytes lent, the taxonomy's entry is 2 exactly if they are equal in every finite
+ * interpretation that satisfies the statements; 1 exactly if b is strictly broader (a lies within b in every such
+ * interpretation, and not the other way round) and no name is strictly between; otherwise 0. Over an accepted
+ * vocabulary, a script is accepted exactly when it keeps the form and its chain of steps is a derivation of at most 64
+ * open frames; then its first term lies within its second in every finite interpretation that satisfies the
+ * statements. The packing of the answers is proved too. crates/demands/specs/Demands.antt states the demands.
  *
  * TRUSTED: the Rattle kit (its logic and its prover), and that its back end and the linker make of the source what it
  * says; this header, which is tested; the caller:
  *   - a pointer has as many readable bytes as the length beside it says, and is not null, even where the length is 0;
- *   - the buffer of a comparison is writable and overlaps no other input; no other thread writes to what is lent;
+ *   - the buffers of a comparison and of a classification are writable, and each overlaps nothing else that is lent to
+ *     the call; no other thread writes to what is lent;
  *   - a call has JUDGE_STACK_BYTES of stack. There is no recursion and no heap. */
 #ifndef JUDGE_H
 #define JUDGE_H
@@ -46,17 +50,19 @@ extern "C" {
 enum {
     JUDGE_VOCABULARY_BYTES = 4096, /* the longest vocabulary */
     JUDGE_SCRIPT_BYTES = 32768,    /* the longest script */
-    JUDGE_SURVIVOR_BYTES = 512,    /* what a comparison writes and asks for */
+    JUDGE_SURVIVOR_BYTES = 512,    /* what a comparison and a classification write and ask for */
+    JUDGE_TAXONOMY_BYTES = 144,    /* what a classification writes and asks for beside that */
     JUDGE_RECORDS = 512,           /* the most records of a vocabulary, header included */
     JUDGE_SCRIPT_RECORDS = 2048,   /* the most records of a script, header included */
     JUDGE_ROLES = 64,              /* the most roles of a vocabulary */
-    JUDGE_ATOMS = 12,              /* the most names and restrictions of a vocabulary that can be compared */
+    JUDGE_ATOMS = 12,              /* the most names and restrictions of a vocabulary to compare or to classify */
     JUDGE_FRAMES = 64              /* the most frames that may be open together while a script is checked */
 };
 
 /* Stack that is enough for any call; measured, not proved (tests/stack.c, over the stored cases; the kit's compiler,
- * x86-64): the vocabulary check needs 104 bytes, the record call 8, the comparison 46,184, the script check 2,440, and
- * at most 3,100 more where the program binds memset or memcpy only at the first call. */
+ * x86-64): the vocabulary check needs 104 bytes, the record call 8, the comparison 46,184, the classification
+ * NOT-MEASURED-YET, the script check 2,440, and at most 3,100 more where the program binds memset or memcpy only at the
+ * first call. */
 enum { JUDGE_STACK_BYTES = 131072 };
 
 /* ---- The calls ---- */
@@ -75,6 +81,15 @@ uint64_t judge_record(const uint8_t *vocabulary, size_t vocabulary_len, uint32_t
  * Refusals 1 to 8, 10, 11, 12. */
 uint64_t judge_compare(const uint8_t *vocabulary, size_t vocabulary_len, uint32_t a, uint32_t b, uint8_t *buffer,
                        size_t buffer_len);
+
+/* The classification: which names are equal, and which are the nearest broader names of each, in every finite
+ * interpretation that satisfies the statements? There is no query. Answered: judge_survivors and judge_rounds, as a
+ * comparison has them; the first JUDGE_SURVIVOR_BYTES of `survivors` are written as in a comparison. The taxonomy goes
+ * into the first JUDGE_TAXONOMY_BYTES of `taxonomy`: with n names, numbered from 0 in record order (judge_names), byte
+ * i * n + j is the entry of the names i and j, which judge_entry reads; the rest of these bytes is 0. Later bytes of
+ * both buffers keep their content. With no survivor all names are equal. Refusals 1 to 8, 11, 12, 26. */
+uint64_t judge_classify(const uint8_t *vocabulary, size_t vocabulary_len, uint8_t *survivors, size_t survivors_len,
+                        uint8_t *taxonomy, size_t taxonomy_len);
 
 /* The script check: does this script prove that its header's A lies within its B, over this vocabulary? Accepted:
  * judge_steps. Nothing is written. Refusals 1 to 8, 13, 14, 10, 15 to 25; with 20 to 25 the script keeps the form, and
@@ -128,23 +143,50 @@ static inline uint32_t judge_element(uint64_t answer)
     return (uint32_t)(answer >> 9 & 0xffff);
 }
 
-/* Bits 25-41 of a comparison: the number of survivors. With none, no finite interpretation satisfies the statements,
- * and all terms are equal. */
+/* Bits 25-41 of a comparison or a classification: the number of survivors. With none, no finite interpretation
+ * satisfies the statements, and all terms are equal. */
 static inline uint32_t judge_survivors(uint64_t answer)
 {
     return (uint32_t)(answer >> 25 & 0x1ffff);
 }
 
-/* Bits 42-58 of a comparison: the number of rounds of type elimination that removed something. */
+/* Bits 42-58 of a comparison or a classification: the number of rounds of type elimination that removed something. */
 static inline uint32_t judge_rounds(uint64_t answer)
 {
     return (uint32_t)(answer >> 42 & 0x1ffff);
 }
 
-/* Whether a type is among the survivors that a comparison wrote. */
+/* Whether a type is among the survivors that a comparison or a classification wrote. */
 static inline int judge_survives(const uint8_t *survivors, uint32_t type)
 {
     return type < 8 * JUDGE_SURVIVOR_BYTES && (survivors[type / 8] >> type % 8 & 1);
+}
+
+/* ---- Taxonomies, taken apart ---- */
+
+/* What the entry of two names says. */
+enum {
+    JUDGE_NEITHER = 0,         /* neither of the following */
+    JUDGE_NEAREST_BROADER = 1, /* the second is strictly broader than the first, and no name is strictly between */
+    JUDGE_EQUAL_NAMES = 2      /* they are equal; a name is so with itself */
+};
+
+/* The number of names of an accepted vocabulary: its records of kind 3. */
+static inline uint32_t judge_names(const uint8_t *vocabulary, size_t vocabulary_len)
+{
+    uint32_t names = 0;
+
+    for (size_t byte = 8; byte < vocabulary_len; byte += 8)
+        names += vocabulary[byte] == 3;
+    return names;
+}
+
+/* The entry of names i and j, from 0 in record order, in the taxonomy of a vocabulary of so many names. */
+static inline int judge_entry(const uint8_t *taxonomy, uint32_t names, uint32_t i, uint32_t j)
+{
+    if (names > JUDGE_ATOMS || i >= names || j >= names)
+        return JUDGE_NEITHER;
+    return taxonomy[i * names + j];
 }
 
 /* ---- Refusals ---- */
@@ -179,6 +221,7 @@ static inline const char *judge_sentence(unsigned refusal)
         "the extension would open a 65th frame",
         "the chain ends with a frame left",
         "a step follows after all is closed",
+        "under 144 bytes are lent for the taxonomy",
     };
 
     if (refusal >= sizeof sentences / sizeof *sentences)

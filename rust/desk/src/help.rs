@@ -18,6 +18,7 @@ usage: desk COMMAND .. [--json] [--quiet] [--color[=WHEN]]
   record VOCABULARY N           one record, its fields and what it says
   compare VOCABULARY A B        whether two terms are equal in every finite interpretation that satisfies the statements
   within VOCABULARY A B         whether one term lies within another in every such interpretation
+  classify VOCABULARY ..        the names from the broadest down: equal ones, and the nearest broader ones of each
   verify VOCABULARY SCRIPT      whether a script proves that one term lies within another
   columns VOCABULARY [OWNER]    the columns that a script may use
   assemble TEXT -o FILE         a vocabulary or a script from its text
@@ -39,12 +40,13 @@ exit status: 0 holds, 1 does not hold, 2 refused input, 64 and up usage and I/O 
 ";
 
 /// A page for each command and topic.
-const PAGES: [(&str, &str); 11] = [
+const PAGES: [(&str, &str); 12] = [
     ("check", CHECK),
     ("show", SHOW),
     ("record", RECORD),
     ("compare", COMPARE),
     ("within", WITHIN),
+    ("classify", CLASSIFY),
     ("verify", VERIFY),
     ("columns", COLUMNS),
     ("assemble", ASSEMBLE),
@@ -114,6 +116,29 @@ is the answer, with status 2.
   --words TEXT   the text of the vocabulary, whose comments say what each record is called
 
 exit status: 0 within, 1 not within, 2 refused
+";
+
+const CLASSIFY: &str = "\
+usage: desk classify VOCABULARY .. [--words TEXT] [--dot FILE] [--json]
+
+The names of each vocabulary, of at most 12 atoms, as a tree from the broadest down: below a name are those of which it is
+a nearest broader one, so that they lie within it, but not the other way round, and no name is strictly between, in every
+finite interpretation that satisfies the statements. Names that are equal in every such interpretation are on one line. A
+name that has several nearest broader ones is below each, with all that is below it. Names to which nothing can belong are
+told apart, as empty: they lie within every name. It is said where no finite interpretation satisfies the statements.
+
+Of several vocabularies each is answered in order, in one run, and a last line counts them; one that is refused or cannot
+be read does not keep the others from being answered.
+
+  --words TEXT   the text of the vocabulary, whose comments say what each record is called; of several vocabularies, for
+                 those that have its bytes
+  --dot FILE     writes a drawing for Graphviz, as ontology editors show it: a node for each name, or names that are
+                 equal, an arrow to each nearest broader one, owl:Thing on top; of several vocabularies each in a frame of
+                 its own. Nothing is written unless all are classified
+
+--json writes an object for each vocabulary; of several, a last one counts them.
+
+exit status: 0 classified, 2 refused; of several the greatest
 ";
 
 const VERIFY: &str = "\
@@ -266,8 +291,9 @@ Refusals: the first in the table's order is given, with the place where it appli
     }
     page.push_str(
         "
-1 to 8 are of vocabularies, 9 of 'record', 10 of the terms asked about, 11 and 12 of 'compare', 13 to 19 of the form of
-scripts (status 2), 20 to 25 of the chain of steps (status 1). docs/FORMATS.md has the formats and each rule in full.
+1 to 8 are of vocabularies, 9 of 'record', 10 of the terms asked about, 11 and 12 of 'compare' and 'classify', 26 of
+'classify', 13 to 19 of the form of scripts (status 2), 20 to 25 of the chain of steps (status 1). docs/FORMATS.md has the
+formats and each rule in full.
 ",
     );
     page

@@ -19,6 +19,7 @@ mod signals;
 #[cfg(test)]
 mod stored;
 mod streams;
+mod taxonomy;
 mod text;
 mod trace;
 mod why;

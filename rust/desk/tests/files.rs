@@ -234,6 +234,79 @@ fn survivors_never_take_an_inputs_place() {
 }
 
 #[test]
+fn a_drawing_never_takes_an_inputs_place() {
+    let place = Place::new("drawing");
+    let (text, bytes) = vocabulary(1, 5);
+    place.put("text", &text);
+    place.put("v", &bytes);
+    for (input, before) in [("text", text.as_bytes()), ("v", &bytes)] {
+        fs::hard_link(place.path(input), place.path(&format!("hard-{input}"))).unwrap();
+        symlink(input, place.path(&format!("soft-{input}"))).unwrap();
+        for output in [input.to_string(), format!("hard-{input}"), format!("soft-{input}")] {
+            let said = run(&mut place.desk(["classify", "-q", "v", "text", "--dot", &output]));
+            assert_input_stays(&place, input, &said, &format!("classify: {output}"), before);
+            let said = run(&mut place.desk(["classify", "-q", "v", "--words", "text", "--dot", &output]));
+            assert_input_stays(&place, input, &said, &format!("classify: {output}"), before);
+        }
+    }
+}
+
+#[test]
+fn a_drawing_is_whole_or_the_old_file_stays() {
+    let place = Place::new("whole");
+    place.put("v", vocabulary(1, 5).1);
+    place.put("w", vocabulary(7, 12).1);
+    place.put("cut", [16, 1, 0]);
+    let old = vec![b'x'; 5000];
+    place.put("x", &old);
+    // One is refused or cannot be read; there is no room; a directory is none, or may not be written to.
+    for (words, status) in [(&["v", "cut", "w"][..], 2), (&["v", "w", "nowhere"], 66), (&["cut"], 2)] {
+        let words = [&["classify", "--dot", "x"], words].concat();
+        assert_eq!(run(&mut place.desk(&words)).status, Some(status), "{words:?}");
+    }
+    let said = run(&mut place.shell("ulimit -f 0; exec \"$@\"", &["classify", "-q", "v", "w", "--dot", "x"]));
+    assert_no_output(&said, "classify: x: cannot be written (file too large)");
+    place.put_directory("closed");
+    set_mode(&place.path("closed"), 0o555);
+    for (output, why) in [
+        ("nowhere/x", "there is no such directory"),
+        ("closed", "is a directory, not a file"),
+        ("closed/x", "its directory may not be written to (permission denied)"),
+    ] {
+        let said = run(&mut place.desk(["classify", "-q", "v", "--dot", output]));
+        assert_no_output(&said, &format!("classify: {output}: {why}"));
+    }
+    assert_eq!(place.get("x"), old);
+    assert_eq!(place.names(), ["closed", "cut", "v", "w", "x"]);
+    assert_eq!(
+        run(&mut place.desk(["classify", "-q", "v", "w", "--dot", "x"])).status,
+        Some(0)
+    );
+    let drawing = String::from_utf8(place.get("x")).unwrap();
+    assert!(drawing.starts_with("// ") && drawing.ends_with("  }\n}\n"), "{drawing}");
+    // A node for each name and owl:Thing, and an arrow from each name.
+    let count = |part| drawing.matches(part).count();
+    assert_eq!([count(" [label="), count(" -> "), count("subgraph")], [19, 17, 2]);
+}
+
+#[test]
+fn a_drawing_is_made_though_the_reader_of_the_answers_has_gone_away() {
+    let place = Place::new("gone-drawing");
+    let names: Vec<String> = (0..50).map(|number| format!("v{number}")).collect();
+    for name in &names {
+        place.put(name, vocabulary(1, 5).1);
+    }
+    let (reader, writer) = std::io::pipe().unwrap();
+    drop(reader);
+    let mut command = place.desk(["classify", "--dot", "x"]);
+    let output = command.args(&names).stdin(Stdio::null()).stdout(writer).output();
+    let said = Said::from(output.unwrap());
+    assert_eq!((said.status, said.err.as_str()), (Some(0), ""));
+    let drawing = String::from_utf8(place.get("x")).unwrap();
+    assert_eq!(drawing.matches("subgraph").count(), 50);
+}
+
+#[test]
 fn mode_and_owner_stay() {
     let (place, whole) = texts_in(Place::of_caller("mode"));
     for wanted in [0o640, 0o755, 0o600, 0o666, 0o4755] {
@@ -576,6 +649,9 @@ fn a_closed_standard_output_is_told() {
         ("desk show", &["show", "v"]),
         ("desk record", &["record", "v", "1"]),
         ("desk compare", &["compare", "v", "1", "2", "--json"]),
+        ("desk classify", &["classify", "v"]),
+        ("desk classify", &["classify", "v", "v", "--dot", "drawing"]),
+        ("desk classify", &["classify", "nowhere", "--json"]),
         ("desk recheck", &["recheck", "table"]),
         ("desk recheck", &["recheck", "table", "--json"]),
         ("desk assemble", &["assemble", "a", "-o", "x"]),
@@ -594,6 +670,7 @@ fn a_closed_standard_output_is_told() {
         assert_eq!(run(&mut place.shell("exec \"$@\" >&- 2>&-", words)).status, Some(74));
     }
     assert_eq!(place.get("x"), whole[0]);
+    assert!(!place.path("drawing").exists());
     let said = run(&mut place.shell(
         "exec \"$@\" >&-",
         &["compare", "v", "1", "2", "--survivors", "/dev/stdout"],
@@ -621,6 +698,8 @@ fn a_closed_standard_input_is_told() {
         ("show", "standard input", &["show", "-"]),
         ("compare", "standard input", &["compare", "-", "1", "2"]),
         ("compare", "standard input", &["compare", "v", "1", "2", "--words", "-"]),
+        ("classify", "standard input", &["classify", "-"]),
+        ("classify", "standard input", &["classify", "v", "--words", "-"]),
         ("assemble", "standard input", &["assemble", "-", "-o", "x"]),
         ("recheck", "standard input", &["recheck", "-"]),
         ("check", "/dev/stdin", &["check", "/dev/stdin"]),
@@ -651,10 +730,13 @@ fn a_closed_standard_input_is_told() {
 fn a_reader_that_has_gone_away_is_no_error() {
     let place = Place::new("gone");
     place.put("v", &vocabulary(1, 500).1);
+    place.put("w", &vocabulary(1, 5).1);
     for (words, status) in [
         (&["show", "v"][..], 0),
         (&["check", "v"], 0),
         (&["check", "v", "--json"], 0),
+        (&["classify", "w", "w", "w"], 0),
+        (&["classify", "v", "w", "--json"], 2),
         (&["compare", "v", "1", "9999"], 2),
         (&["--help"], 0),
     ] {

@@ -171,7 +171,7 @@ fn the_transcript_has_json_where_it_was_asked_for() {
             last = line;
         }
     }
-    assert!(found >= 27, "{found}");
+    assert!(found >= 40, "{found}");
 }
 
 /// Runs desk with --json on a file of these bytes, and answers whether it said JSON, the last line with its own exit status.
@@ -225,6 +225,8 @@ fn damaged_inputs_get_json_and_never_a_panic() {
         assert!(says_json(&name, &bytes, &["compare"], &[&number, "3"]));
         assert!(says_json(&name, &bytes, &["verify", path], &[]));
         assert!(says_json(&name, &bytes, &["within"], &[&number, "3"]));
+        assert!(says_json(&name, &bytes, &["classify"], &[]));
+        assert!(says_json(&name, &bytes, &["classify", path], &["--dot", &output]));
         assert!(says_json(&name, &bytes, &["columns"], &[&number]));
         assert!(says_json(&name, &bytes, &["recheck"], &[]));
         assert!(says_json(&name, &bytes, &["assemble", "-o", &output], &[]));

@@ -53,7 +53,7 @@ fn desk_says_what_the_transcript_has() {
         assert!(made == transcript, "{}", difference(&transcript, &made));
     }
     let commands = made.matches("\n$ ").count();
-    assert!(commands >= 260, "{commands} commands are too few");
+    assert!(commands >= 300, "{commands} commands are too few");
 }
 
 /// A place with copies of the examples.

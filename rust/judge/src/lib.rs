@@ -1,10 +1,10 @@
-//! The duty vocabulary judge from Rust: a safe wrapper of the four calls of libjudge.a.
+//! The duty vocabulary judge from Rust: a safe wrapper of the five calls of libjudge.a.
 //!
 //! Every call takes slices of any content and length, and answers or refuses: none panics, none needs a
 //! condition. What an answer means (docs/FORMATS.md) is proved of the library's Rattle source; the compiler's
 //! back end and the linker are trusted, and this wrapper, which takes the numbers apart, is tested. A borrowed
-//! buffer cannot overlap a vocabulary, so what include/judge.h asks of pointers holds by itself. A call runs on
-//! the caller's stack: [`STACK_BYTES`] are enough.
+//! buffer overlaps neither a vocabulary nor another buffer, so what include/judge.h asks of pointers holds by
+//! itself. A call runs on the caller's stack: [`STACK_BYTES`] are enough.
 //!
 //! ```
 //! let vocabulary = [16, 1, 0, 0, 0, 0, 0, 0, 3, 0, 7, 0, 0, 0, 0, 0]; // a header and a name
@@ -27,15 +27,17 @@ pub const SCRIPT_BYTES: usize = 32_768;
 pub const RECORD_BYTES: usize = 8;
 /// The bytes of a script's record.
 pub const SCRIPT_RECORD_BYTES: usize = 16;
-/// The bytes that a comparison writes, and asks for.
+/// The bytes that a comparison and a classification write, and ask for.
 pub const SURVIVOR_BYTES: usize = 512;
+/// The bytes that a classification writes, and asks for, beside the survivors.
+pub const TAXONOMY_BYTES: usize = 144;
 /// The most records of a vocabulary, header included.
 pub const RECORDS: usize = VOCABULARY_BYTES / RECORD_BYTES;
 /// The most records of a script, header included.
 pub const SCRIPT_RECORDS: usize = SCRIPT_BYTES / SCRIPT_RECORD_BYTES;
 /// The most roles of a vocabulary.
 pub const ROLES: usize = 64;
-/// The most atoms (names and restrictions) of a vocabulary that can be compared.
+/// The most atoms (names and restrictions) of a vocabulary to compare or to classify.
 pub const ATOMS: usize = 12;
 /// The most frames that may be open together while a script is checked.
 pub const FRAMES: usize = 64;
@@ -53,6 +55,14 @@ mod library {
             b: u32,
             buffer: *mut u8,
             buffer_len: usize,
+        ) -> u64;
+        pub fn judge_classify(
+            vocabulary: *const u8,
+            vocabulary_len: usize,
+            survivors: *mut u8,
+            survivors_len: usize,
+            taxonomy: *mut u8,
+            taxonomy_len: usize,
         ) -> u64;
         pub fn judge_check_script(
             vocabulary: *const u8,
@@ -86,6 +96,26 @@ pub struct Comparison {
     pub rounds: u32,
 }
 
+/// The answer of a classification.
+#[derive(Clone, Copy, Debug, PartialEq, Eq)]
+pub struct Classification {
+    /// The number of survivors. With none, no finite interpretation satisfies the statements, and all names are equal.
+    pub survivors: u32,
+    /// The number of rounds that removed a type.
+    pub rounds: u32,
+}
+
+/// What a taxonomy says of a first name and a second, in every finite interpretation that satisfies the statements.
+#[derive(Clone, Copy, Debug, PartialEq, Eq)]
+pub enum Relation {
+    /// They are equal; a name is so with itself.
+    Equal,
+    /// The second is strictly broader than the first, and no name is strictly between.
+    NearestBroader,
+    /// Neither of these.
+    Neither,
+}
+
 /// The vocabulary check: the number of records, header included.
 pub fn check_vocabulary(vocabulary: &[u8]) -> Result<u32, Refusal> {
     // SAFETY: a slice's pointer is not null and has as many readable bytes as its length says.
@@ -114,6 +144,7 @@ pub fn compare(vocabulary: &[u8], a: u32, b: u32, buffer: &mut [u8]) -> Result<C
             buffer.len(),
         )
     })?;
+    let [survivors, rounds] = counts(answer);
     Ok(Comparison {
         verdict: match bits(answer, 8, 1) {
             0 => Verdict::Equal,
@@ -121,9 +152,50 @@ pub fn compare(vocabulary: &[u8], a: u32, b: u32, buffer: &mut [u8]) -> Result<C
                 element: bits(answer, 9, 16) as u16,
             },
         },
-        survivors: bits(answer, 25, 17) as u32,
-        rounds: bits(answer, 42, 17) as u32,
+        survivors,
+        rounds,
     })
+}
+
+/// The classification of the names of an accepted vocabulary of at most [`ATOMS`] atoms: which are equal, and which are
+/// the nearest broader names of each. The survivors are written into the first [`SURVIVOR_BYTES`] of the one buffer, the
+/// taxonomy, which [`relation`] reads, into the first [`TAXONOMY_BYTES`] of the other; a refusal writes nothing.
+///
+/// ```
+/// // Names 1 and 2, and the statement that the first lies within the second.
+/// let vocabulary = [
+///     16, 1, 3, 0, 0, 0, 0, 0, 3, 0, 7, 0, 0, 0, 0, 0, 3, 0, 8, 0, 0, 0, 0, 0, 9, 0, 1, 0, 2, 0, 0, 0,
+/// ];
+/// let (mut survivors, mut taxonomy) = ([0; judge::SURVIVOR_BYTES], [0; judge::TAXONOMY_BYTES]);
+/// let answer = judge::classify(&vocabulary, &mut survivors, &mut taxonomy)?;
+/// assert_eq!(answer.survivors, 3);
+/// assert_eq!(judge::relation(&taxonomy, 2, 0, 1), judge::Relation::NearestBroader);
+/// # Ok::<(), judge::Refusal>(())
+/// ```
+pub fn classify(vocabulary: &[u8], survivors: &mut [u8], taxonomy: &mut [u8]) -> Result<Classification, Refusal> {
+    // SAFETY: as above; both buffers are borrowed for writing, so neither overlaps the other.
+    let answer = taken(unsafe {
+        library::judge_classify(
+            vocabulary.as_ptr(),
+            vocabulary.len(),
+            survivors.as_mut_ptr(),
+            survivors.len(),
+            taxonomy.as_mut_ptr(),
+            taxonomy.len(),
+        )
+    })?;
+    let [survivors, rounds] = counts(answer);
+    Ok(Classification { survivors, rounds })
+}
+
+/// What the taxonomy of a vocabulary of so many names says of two of them, numbered from 0 in record order.
+pub fn relation(taxonomy: &[u8], names: usize, first: usize, second: usize) -> Relation {
+    let place = (names <= ATOMS && first < names && second < names).then(|| first * names + second);
+    match place.and_then(|place| taxonomy.get(place)) {
+        Some(2) => Relation::Equal,
+        Some(1) => Relation::NearestBroader,
+        _ => Relation::Neither,
+    }
 }
 
 /// The script check: the number of steps of a script that proves what its header asks. It is accepted exactly when it
@@ -137,6 +209,11 @@ pub fn check_script(vocabulary: &[u8], script: &[u8]) -> Result<u32, Refusal> {
 /// `count` bits of an answer from bit `first` on.
 fn bits(answer: u64, first: u32, count: u32) -> u64 {
     answer >> first & ((1 << count) - 1)
+}
+
+/// The numbers of survivors and of rounds that a comparison or a classification answers.
+fn counts(answer: u64) -> [u32; 2] {
+    [25, 42].map(|first| bits(answer, first, 17) as u32)
 }
 
 /// The answer, unless it is a refusal.

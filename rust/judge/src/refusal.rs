@@ -80,6 +80,8 @@ pub enum Rule {
     Open,
     /// 25
     AllClosed,
+    /// 26
+    TaxonomyLent,
     /// A number that the table does not have.
     Unlisted(u8),
 }
@@ -106,7 +108,7 @@ const fn row(rule: Rule, place: Place, condition: &'static str, words: &'static 
 /// The table, in the order of the numbers: the condition, in the words of docs/FORMATS.md, and a sentence, which
 /// include/judge.h has too.
 #[rustfmt::skip]
-const TABLE: [Row; 25] = [
+const TABLE: [Row; 26] = [
     row(Rule::VocabularyLength, Whole, "under 8, over 4,096 or no multiple of 8",
         "the vocabulary's length is under 8, over 4,096 or no multiple of 8"),
     row(Rule::Header, Whole, "kind, second byte, role count or next",
@@ -159,6 +161,8 @@ const TABLE: [Row; 25] = [
         "the chain ends with a frame left"),
     row(Rule::AllClosed, ScriptRecord, "step after all is closed",
         "a step follows after all is closed"),
+    row(Rule::TaxonomyLent, Whole, "under 144 bytes lent",
+        "under 144 bytes are lent for the taxonomy"),
 ];
 
 impl Rule {

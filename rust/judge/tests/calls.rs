@@ -2,7 +2,7 @@
 
 #![allow(clippy::unwrap_used, clippy::indexing_slicing)]
 
-use judge::{Comparison, Refusal, Verdict, SURVIVOR_BYTES};
+use judge::{Classification, Comparison, Refusal, Relation, Verdict, SURVIVOR_BYTES, TAXONOMY_BYTES};
 use std::fmt::Write;
 
 /// Sample V of docs/FORMATS.md, section 10: names 1, 2, 3; 4 = 1 and 2; 5: 4 within 3.
@@ -44,6 +44,118 @@ fn a_longer_buffer_keeps_the_bytes_after_the_survivors() {
     }
 }
 
+/// Names 1 to 6; 3 and 4 are stated equal; 1 within 2, 2 within 3, 1 within 3; 5 within "not 5", 7. So 1 is below 2, 2 below
+/// the equal 3 and 4, nothing belongs to 5, and 6 stands alone.
+const LADDER: [u8; 112] = [
+    16, 1, 8, 0, 0, 0, 0, 0, 3, 0, 1, 0, 0, 0, 0, 0, 3, 0, 2, 0, 0, 0, 0, 0, 3, 0, 3, 0, 0, 0, 0, 0, //
+    3, 0, 4, 0, 0, 0, 0, 0, 3, 0, 5, 0, 0, 0, 0, 0, 3, 0, 6, 0, 0, 0, 0, 0, 4, 0, 5, 0, 0, 0, 0, 0, //
+    9, 0, 3, 0, 4, 0, 9, 0, 9, 0, 4, 0, 3, 0, 10, 0, 9, 0, 1, 0, 2, 0, 11, 0, 9, 0, 2, 0, 3, 0, 12, 0, //
+    9, 0, 1, 0, 3, 0, 13, 0, 9, 0, 5, 0, 7, 0, 0, 0,
+];
+
+/// Its taxonomy: a row for each name, a byte for each name.
+#[rustfmt::skip]
+const ROWS: [u8; 36] = [
+    2, 1, 0, 0, 0, 0,
+    0, 2, 1, 1, 0, 0,
+    0, 0, 2, 2, 0, 0,
+    0, 0, 2, 2, 0, 0,
+    1, 0, 0, 0, 2, 1,
+    0, 0, 0, 0, 0, 2,
+];
+
+#[test]
+fn a_classification_writes_survivors_and_rows_of_as_many_bytes_as_names() {
+    let (mut survivors, mut compared) = ([9; SURVIVOR_BYTES], [7; SURVIVOR_BYTES]);
+    let mut taxonomy = [9; TAXONOMY_BYTES];
+    let answer = judge::classify(&LADDER, &mut survivors, &mut taxonomy).unwrap();
+    let Comparison {
+        survivors: count,
+        rounds,
+        ..
+    } = judge::compare(&LADDER, 1, 6, &mut compared).unwrap();
+    // 1, 2 and 3 as a ladder of four rungs, and 6 free.
+    assert_eq!((count, rounds), (8, 0));
+    assert_eq!(
+        answer,
+        Classification {
+            survivors: count,
+            rounds
+        }
+    );
+    assert_eq!(survivors, compared);
+    assert_eq!((&taxonomy[..36], &taxonomy[36..]), (&ROWS[..], &[0; 108][..]));
+}
+
+#[test]
+fn an_entry_is_read_by_its_names() {
+    let mut taxonomy = [0; TAXONOMY_BYTES];
+    judge::classify(&LADDER, &mut [0; SURVIVOR_BYTES], &mut taxonomy).unwrap();
+    let relation = |first, second| judge::relation(&taxonomy, 6, first, second);
+    assert_eq!(relation(0, 1), Relation::NearestBroader);
+    assert_eq!([relation(1, 0), relation(0, 2)], [Relation::Neither; 2]);
+    assert_eq!([relation(2, 3), relation(3, 2), relation(5, 5)], [Relation::Equal; 3]);
+    // What is no name of the vocabulary has no entry, though there may be a byte at its place.
+    assert_eq!([relation(0, 6), relation(6, 0)], [Relation::Neither; 2]);
+    let last = [2; TAXONOMY_BYTES];
+    assert_eq!(judge::relation(&last, 12, 11, 11), Relation::Equal);
+    for (names, first, second) in [(0, 0, 0), (13, 0, 0), (usize::MAX, usize::MAX - 1, 3)] {
+        assert_eq!(judge::relation(&last, names, first, second), Relation::Neither);
+    }
+    assert_eq!(judge::relation(&[], 1, 0, 0), Relation::Neither);
+}
+
+#[test]
+fn without_names_or_without_survivors_the_taxonomy_is_zero_or_all_equal() {
+    let classify = |vocabulary: &[u8]| {
+        let mut taxonomy = [9; TAXONOMY_BYTES];
+        let answer = judge::classify(vocabulary, &mut [9; SURVIVOR_BYTES], &mut taxonomy).unwrap();
+        (answer.survivors, taxonomy)
+    };
+    // The header alone; a name and "the name within not the name", "not the name within the name".
+    assert_eq!(classify(&[16, 1, 0, 0, 0, 0, 0, 0]), (1, [0; TAXONOMY_BYTES]));
+    let contradiction = [
+        16, 1, 4, 0, 0, 0, 0, 0, 3, 0, 1, 0, 0, 0, 0, 0, 3, 0, 2, 0, 0, 0, 0, 0, 4, 0, 1, 0, 0, 0, 0, 0, //
+        9, 0, 1, 0, 3, 0, 5, 0, 9, 0, 3, 0, 1, 0, 0, 0,
+    ];
+    let mut equal = [0; TAXONOMY_BYTES];
+    equal[..4].fill(2);
+    assert_eq!(classify(&contradiction), (0, equal));
+}
+
+#[test]
+fn buffers_that_are_too_short_keep_their_content_and_the_survivors_are_asked_for_first() {
+    let pattern: Vec<u8> = (0..SURVIVOR_BYTES).map(|i| (i * 7 + 3) as u8).collect();
+    let lengths = (0..SURVIVOR_BYTES).map(|short| (short, short % 200, 12));
+    let lengths = lengths.chain((0..TAXONOMY_BYTES).map(|short| (SURVIVOR_BYTES, short, 26)));
+    for (survivors_len, taxonomy_len, number) in lengths {
+        let (mut survivors, mut taxonomy) = (pattern[..survivors_len].to_vec(), pattern[..taxonomy_len].to_vec());
+        let refusal = judge::classify(V, &mut survivors, &mut taxonomy).unwrap_err();
+        assert_eq!((refusal.rule.number(), refusal.place), (number, 0));
+        assert_eq!(
+            (&survivors[..], &taxonomy[..]),
+            (&pattern[..survivors_len], &pattern[..taxonomy_len])
+        );
+    }
+}
+
+#[test]
+fn longer_buffers_keep_the_bytes_after_survivors_and_taxonomy() {
+    for over in [0, 1, 7, 100, 4096] {
+        let (mut survivors, mut taxonomy) = (vec![171; SURVIVOR_BYTES + over], vec![205; TAXONOMY_BYTES + over]);
+        judge::classify(V, &mut survivors, &mut taxonomy).unwrap();
+        assert_eq!(
+            (survivors[0], &taxonomy[..10]),
+            (247, &[2, 0, 0, 0, 2, 0, 0, 0, 2, 0][..])
+        );
+        assert!(survivors[SURVIVOR_BYTES..].iter().all(|byte| *byte == 171));
+        assert!(taxonomy[TAXONOMY_BYTES..].iter().all(|byte| *byte == 205));
+        // A refusal leaves what the call before wrote.
+        judge::classify(&V[..20], &mut survivors, &mut taxonomy).unwrap_err();
+        assert_eq!((survivors[0], taxonomy[0]), (247, 2));
+    }
+}
+
 #[test]
 fn a_record_is_a_part_of_the_vocabulary() {
     for number in 0..6 {
@@ -69,6 +181,8 @@ fn slices_of_every_length_get_an_answer() {
             // The vocabulary's refusal comes first, whatever is asked.
             let compared = judge::compare(slice, 1, 2, &mut [0; 512]).err();
             assert!(vocabulary.is_ok() || compared == vocabulary.err());
+            let classified = judge::classify(slice, &mut [0; 512], &mut [0; 144]).err();
+            assert!(vocabulary.is_ok() || classified == vocabulary.err());
             let script = judge::check_script(V, slice).unwrap_err().rule.number();
             assert_eq!(script == 13, length < 16 || length % 16 != 0);
             assert!(judge::check_script(slice, slice).is_err());

@@ -2,7 +2,7 @@
 
 #![allow(clippy::unwrap_used)]
 
-use judge::{check_script, check_vocabulary, compare, Refusal};
+use judge::{check_script, check_vocabulary, classify, compare, Refusal};
 
 /// The header of a vocabulary with these roles and first statement.
 fn header(roles: usize, first: u8) -> Vec<u8> {
@@ -36,11 +36,33 @@ fn vocabularies_are_refused_past_their_limits() {
         let vocabulary = names(judge::ATOMS + over);
         let answer = compare(&vocabulary, 1, 1, &mut [0; judge::SURVIVOR_BYTES]);
         assert_eq!(number(answer), refused);
+        let (mut survivors, mut taxonomy) = ([0; judge::SURVIVOR_BYTES], [0; judge::TAXONOMY_BYTES]);
+        assert_eq!(number(classify(&vocabulary, &mut survivors, &mut taxonomy)), refused);
     }
     for (short, refused) in [(0, 0), (1, 12)] {
         let mut lent = vec![0; judge::SURVIVOR_BYTES - short];
         assert_eq!(number(compare(&names(1), 1, 1, &mut lent)), refused);
+        let mut taxonomy = [0; judge::TAXONOMY_BYTES];
+        assert_eq!(number(classify(&names(1), &mut lent, &mut taxonomy)), refused);
     }
+    for (short, refused) in [(0, 0), (1, 26)] {
+        let mut lent = vec![0; judge::TAXONOMY_BYTES - short];
+        let mut survivors = [0; judge::SURVIVOR_BYTES];
+        assert_eq!(number(classify(&names(1), &mut survivors, &mut lent)), refused);
+    }
+}
+
+/// A full taxonomy has no byte to spare: a byte for each pair of as many names as can be classified.
+#[test]
+fn a_taxonomy_has_room_for_the_most_names() {
+    assert_eq!(judge::TAXONOMY_BYTES, judge::ATOMS * judge::ATOMS);
+    let mut taxonomy = [9; judge::TAXONOMY_BYTES];
+    classify(&names(judge::ATOMS), &mut [0; judge::SURVIVOR_BYTES], &mut taxonomy).unwrap();
+    let equal = |place: usize| place.is_multiple_of(judge::ATOMS + 1);
+    assert!(taxonomy
+        .iter()
+        .enumerate()
+        .all(|(place, entry)| *entry == if equal(place) { 2 } else { 0 }));
 }
 
 /// A script over a name that lies within itself, which opens so many frames and leaves them open.
@@ -79,6 +101,7 @@ fn the_header_has_the_same_limits() {
         ("VOCABULARY_BYTES", judge::VOCABULARY_BYTES),
         ("SCRIPT_BYTES", judge::SCRIPT_BYTES),
         ("SURVIVOR_BYTES", judge::SURVIVOR_BYTES),
+        ("TAXONOMY_BYTES", judge::TAXONOMY_BYTES),
         ("RECORDS", judge::RECORDS),
         ("SCRIPT_RECORDS", judge::SCRIPT_RECORDS),
         ("ROLES", judge::ROLES),

@@ -5,7 +5,7 @@
 use judge::{Place, Refusal, Rule};
 
 /// The table of docs/FORMATS.md in words, as a refusal is printed.
-const PRINTED: [&str; 25] = [
+const PRINTED: [&str; 26] = [
     "refused, 1: the vocabulary's length is under 8, over 4,096 or no multiple of 8",
     "refused, 2: the vocabulary's header has a wrong kind, second byte, role count or next",
     "refused, 3, at record 1: the record's kind is not 1 to 9, or its second byte is not 0",
@@ -31,6 +31,7 @@ const PRINTED: [&str; 25] = [
     "refused, 23, at script record 66: the extension would open a 65th frame",
     "refused, 24, at script record 2: the chain ends with a frame left",
     "refused, 25, at script record 4: a step follows after all is closed",
+    "refused, 26: under 144 bytes are lent for the taxonomy",
 ];
 
 /// A vocabulary of these records.
@@ -104,6 +105,7 @@ fn refusal(number: u8) -> Option<Refusal> {
         23 => refused_script(&tower()),
         24 => refused_script(&[[3, 0, 0, 0, 0, 0, 0, 0]]),
         25 => refused_script(&[START, CLOSE, [5, 0, 0, 0, 0, 0, 0, 0]]),
+        26 => judge::classify(&one_name(), &mut [0; 512], &mut [0; 143]).err(),
         _ => None,
     }
 }
@@ -115,7 +117,28 @@ fn each_refusal_has_its_number_place_and_words() {
         assert_eq!(refusal.rule.number(), number);
         assert_eq!(refusal.to_string(), printed);
         assert!(printed.ends_with(&format!(": {}", refusal.rule.words())));
-        assert_eq!(refusal.rule.is_of_chain(), number >= 20);
+        assert_eq!(refusal.rule.is_of_chain(), (20..=25).contains(&number));
+    }
+}
+
+/// The first of the table's order that applies: 1 to 8, 11, 12, 26.
+#[test]
+fn a_classification_is_refused_in_the_tables_order() {
+    let header = (16, 1, 0, 0, 0);
+    let names: Vec<_> = (0..13).map(|label| (3, 0, label, 0, 0)).collect();
+    let cut = vocabulary(&[header, (3, 0, 7, 0, 0)])[..15].to_vec();
+    let repeated = vocabulary(&[&[header], &names[..], &names[..1]].concat());
+    let many = vocabulary(&[&[header], &names[..]].concat());
+    for (vocabulary, lent, number, place) in [
+        (&cut, [0, 0], 1, 0),
+        (&repeated, [0, 0], 7, 14),
+        (&many, [0, 0], 11, 13),
+        (&one_name(), [511, 0], 12, 0),
+        (&one_name(), [512, 143], 26, 0),
+    ] {
+        let [mut survivors, mut taxonomy] = lent.map(|length| vec![0; length]);
+        let refusal = judge::classify(vocabulary, &mut survivors, &mut taxonomy).unwrap_err();
+        assert_eq!((refusal.rule.number(), refusal.place), (number, place));
     }
 }
 
@@ -133,7 +156,7 @@ fn a_rule_is_known_by_its_number() {
     for number in 0..=255 {
         let rule = Rule::of(number);
         assert_eq!(rule.number(), number);
-        assert_eq!(matches!(rule, Rule::Unlisted(_)), !(1..=25).contains(&number));
+        assert_eq!(matches!(rule, Rule::Unlisted(_)), !(1..=26).contains(&number));
     }
     let unlisted = Refusal {
         rule: Rule::of(77),
@@ -166,7 +189,7 @@ fn the_header_has_the_same_sentences() {
     // A sentence may be written in pieces on several lines.
     let header: String = header.lines().map(str::trim).collect();
     let header = header.replace("\"\"", "");
-    for number in 1..=25 {
+    for number in 1..=26 {
         let sentence = format!("\"{}\"", Rule::of(number).words());
         assert!(header.contains(&sentence), "{number}: {sentence}");
     }

@@ -1,6 +1,6 @@
 //! `desk check`.
 
-use super::{each, read_vocabulary};
+use super::{contradiction, each, read_vocabulary};
 use crate::console::Console;
 use crate::display::counted;
 use crate::input::Input;
@@ -91,10 +91,7 @@ fn accepted(style: Style, input: &Input, records: u32) -> Report {
     // Not known where there are too many atoms.
     let contradictory = Questions::new(&input.bytes).is_contradictory().ok();
     if contradictory == Some(true) {
-        let words = style.paint(Status::DoesNotHold, "the statements contradict each other");
-        text.push_str(&format!(
-            "  {words}: nothing satisfies them, so that all terms are equal\n"
-        ));
+        text.push_str(&contradiction(style));
     }
     let mut json = vec![
         ("file", Json::from(input.name.as_str())),

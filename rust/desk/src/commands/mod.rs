@@ -2,6 +2,7 @@
 
 mod assemble;
 mod check;
+mod classify;
 mod columns;
 mod compare;
 mod pair;
@@ -41,12 +42,13 @@ const fn command(
 }
 
 /// The commands, in the order of the help.
-const COMMANDS: [Command; 9] = [
+const COMMANDS: [Command; 10] = [
     command("check", &[], check::run),
     command("show", &[], show::run),
     command("record", &[], record::run),
     command("compare", compare::FLAGS, compare::run),
     command("within", within::FLAGS, within::run),
+    command("classify", classify::FLAGS, classify::run),
     command("verify", verify::FLAGS, verify::run),
     command("columns", columns::FLAGS, columns::run),
     command("assemble", assemble::FLAGS, assemble::run),
@@ -98,17 +100,28 @@ fn each(
 ) -> Result<Status, Stop> {
     let mut greatest = Status::Holds;
     for path in arguments.some_words(name)? {
-        let status = match answer(path, console.style) {
-            Ok(report) => console.answer(report)?,
-            Err(Stop::Answer(report)) => console.answer(*report)?,
-            Err(Stop::Failure(failure)) => console.fail(&failure, None),
-        };
-        greatest = greatest.max(status);
+        let answered = answer(path, console.style);
+        greatest = greatest.max(tell(console, answered)?);
         if console.is_gone() {
             break;
         }
     }
     Ok(greatest)
+}
+
+/// Tells what came of one of several files.
+fn tell(console: &mut Console, answered: Result<Report, Stop>) -> Result<Status, Failure> {
+    match answered {
+        Ok(report) => console.answer(report),
+        Err(Stop::Answer(report)) => console.answer(*report),
+        Err(Stop::Failure(failure)) => Ok(console.fail(&failure, None)),
+    }
+}
+
+/// The line of a vocabulary whose statements contradict each other.
+fn contradiction(style: Style) -> String {
+    let words = style.paint(Status::DoesNotHold, "the statements contradict each other");
+    format!("  {words}: nothing satisfies them, so that all terms are equal\n")
 }
 
 /// Reads a vocabulary, from its bytes or its text.

@@ -80,11 +80,16 @@ impl Written {
 
     /// The same for programs.
     pub fn term_json(&self, number: u16) -> Json {
-        Json::object([
+        Json::object(self.term_fields(number))
+    }
+
+    /// The fields of that.
+    pub fn term_fields(&self, number: u16) -> [(&'static str, Json); 3] {
+        [
             ("record", Json::from(number)),
             ("text", Json::from(self.expression(usize::from(number)))),
             ("words", Json::from(self.words(number))),
-        ])
+        ]
     }
 
     /// What a record says, in OWL 2 functional syntax; nothing for a record that has no form.
