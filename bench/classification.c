@@ -248,26 +248,29 @@ static unsigned first_survivor(const uint8_t *survivors)
     return type;
 }
 
-/* Two terms that differ at the smallest survivor, so that the comparison looks no further: the
- * elimination, and as little beside it as can be. Where there are none, the first term twice. */
+/* The first term, and another that differs from it at the smallest survivor or soon after, so that the
+ * comparison's search ends there: the elimination, and as little beside it as can be. Where no term
+ * differs from the first, that term twice. */
 static struct pair choose_pair(const struct input *input)
 {
     uint8_t survivors[SURVIVOR_BYTES];
     struct pair pair = {1, 1};
+    unsigned soonest = MAX_TYPES;
 
-    while (kind_of(input, pair.a) == STATEMENT)
-        pair.a++;
     judge_compare(input->bytes, input->len, pair.a, pair.a, survivors, sizeof survivors);
     unsigned first = first_survivor(survivors);
 
-    for (pair.b = last_number(input); first < MAX_TYPES && pair.b > pair.a; pair.b--) {
+    for (uint32_t b = last_number(input); soonest > first && b > pair.a; b--) {
         uint64_t answer =
-            judge_compare(input->bytes, input->len, pair.a, pair.b, survivors, sizeof survivors);
+            judge_compare(input->bytes, input->len, pair.a, b, survivors, sizeof survivors);
 
-        if (judge_refusal(answer) == ACCEPTED && judge_different(answer) && judge_element(answer) == first)
-            return pair;
+        if (judge_refusal(answer) == ACCEPTED && judge_different(answer)
+            && judge_element(answer) < soonest) {
+            soonest = judge_element(answer);
+            pair.b = b;
+        }
     }
-    return (struct pair){pair.a, pair.a};
+    return pair;
 }
 
 /* --- time --- */
