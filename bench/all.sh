@@ -1,13 +1,14 @@
 #!/bin/sh
-# Prints every table of docs/BENCHMARKS.md: the library's three checks beside C, in time and in instructions, and the
-# comparison beside FaCT++ and Konclude; `desk recheck` on long tables. A quarter of an hour on an idle machine.
+# Prints every table of docs/BENCHMARKS.md: the library's calls beside C, in time and in instructions; the comparison
+# and the classification beside FaCT++ and Konclude; `desk recheck` on long tables. A quarter of an hour on an idle
+# machine.
 #
 # usage: all.sh [ARCHIVE]      (after `rt staticlib judge`)
 # Exit status: 0 done; else that of the first part that failed.
 set -eu
 bench=$(CDPATH='' cd -- "$(dirname -- "$0")" && pwd)
 
-for part in vocabulary comparison script; do
+for part in vocabulary comparison classification script; do
     printf '## %s\n\n' "$part"
     "$bench/$part.sh" "$@"
     "$bench/$part.sh" --instructions "$@"

@@ -6,12 +6,20 @@ static uint32_t count_atoms(const uint8_t *vocabulary, size_t count)
 {
     uint32_t atoms = 0;
 
-    for (size_t i = 1; i < count; i++) {
-        uint8_t kind = read_record(vocabulary, i).kind;
-
-        atoms += kind == NAME || kind == SOME || kind == ALL;
-    }
+    for (size_t i = 1; i < count; i++)
+        atoms += is_atom(read_record(vocabulary, i).kind);
     return atoms;
+}
+
+uint64_t refuse_atoms(const uint8_t *vocabulary, size_t count, size_t buffer_len)
+{
+    uint32_t atoms = count_atoms(vocabulary, count);
+
+    if (atoms > MAX_ATOMS)
+        return pack_answer(MANY_ATOMS, atoms);
+    if (buffer_len < SURVIVOR_BYTES)
+        return pack_answer(SHORT_BUFFER, 0);
+    return pack_answer(ACCEPTED, atoms);
 }
 
 uint64_t refuse_comparison(const uint8_t *vocabulary, size_t vocabulary_len,
@@ -25,13 +33,7 @@ uint64_t refuse_comparison(const uint8_t *vocabulary, size_t vocabulary_len,
     uint64_t query = plain_check_query(vocabulary, count, a, b);
     if (query != ACCEPTED)
         return query;
-
-    uint32_t atoms = count_atoms(vocabulary, count);
-    if (atoms > MAX_ATOMS)
-        return pack_answer(MANY_ATOMS, atoms);
-    if (buffer_len < SURVIVOR_BYTES)
-        return pack_answer(SHORT_BUFFER, 0);
-    return pack_answer(ACCEPTED, atoms);
+    return refuse_atoms(vocabulary, count, buffer_len);
 }
 
 uint64_t answer_comparison(const bool *survives, const bool *differ, unsigned types,

@@ -159,21 +159,26 @@ static __attribute__((noinline)) bool run_round(const struct decoded *d, struct 
     return removed;
 }
 
+uint64_t fast_settle(const uint8_t *vocabulary, size_t vocabulary_len, unsigned atoms,
+                     uint32_t a, uint32_t b, uint8_t *buffer)
+{
+    struct decoded decoded;
+    struct types types;
+    uint32_t rounds = 0;
+
+    types.count = 1u << atoms;
+    decode(vocabulary, vocabulary_len, &decoded);
+    fill_types(&decoded, a, b, &types);
+    while (run_round(&decoded, &types))
+        rounds++;
+    return answer_comparison(types.alive, types.differ, types.count, rounds, buffer);
+}
+
 uint64_t fast_compare(const uint8_t *vocabulary, size_t vocabulary_len,
                       uint32_t a, uint32_t b, uint8_t *buffer, size_t buffer_len)
 {
     uint64_t checked = refuse_comparison(vocabulary, vocabulary_len, a, b, buffer_len);
     if ((checked & 0xff) != ACCEPTED)
         return checked;
-
-    struct decoded decoded;
-    struct types types;
-    uint32_t rounds = 0;
-
-    types.count = 1u << (checked >> 8);
-    decode(vocabulary, vocabulary_len, &decoded);
-    fill_types(&decoded, a, b, &types);
-    while (run_round(&decoded, &types))
-        rounds++;
-    return answer_comparison(types.alive, types.differ, types.count, rounds, buffer);
+    return fast_settle(vocabulary, vocabulary_len, (unsigned)(checked >> 8), a, b, buffer);
 }

@@ -101,17 +101,13 @@ static __attribute__((noinline)) bool run_round(void)
     return removed;
 }
 
-uint64_t literal_compare(const uint8_t *vocabulary, size_t vocabulary_len,
-                         uint32_t a, uint32_t b, uint8_t *buffer, size_t buffer_len)
+uint64_t literal_settle(const uint8_t *vocabulary, size_t vocabulary_len, unsigned atoms,
+                        uint32_t a, uint32_t b, uint8_t *buffer)
 {
-    uint64_t checked = refuse_comparison(vocabulary, vocabulary_len, a, b, buffer_len);
-    if ((checked & 0xff) != ACCEPTED)
-        return checked;
-
     size_t count = vocabulary_len / RECORD_BYTES;
     uint32_t rounds = 0;
 
-    types = 1u << (checked >> 8);
+    types = 1u << atoms;
     fill_modal(vocabulary, count);
     for (unsigned t = 0; t < types; t++) {
         fill_truths(vocabulary, count, t);
@@ -121,4 +117,13 @@ uint64_t literal_compare(const uint8_t *vocabulary, size_t vocabulary_len,
     while (run_round())
         rounds++;
     return answer_comparison(set, differ, types, rounds, buffer);
+}
+
+uint64_t literal_compare(const uint8_t *vocabulary, size_t vocabulary_len,
+                         uint32_t a, uint32_t b, uint8_t *buffer, size_t buffer_len)
+{
+    uint64_t checked = refuse_comparison(vocabulary, vocabulary_len, a, b, buffer_len);
+    if ((checked & 0xff) != ACCEPTED)
+        return checked;
+    return literal_settle(vocabulary, vocabulary_len, (unsigned)(checked >> 8), a, b, buffer);
 }

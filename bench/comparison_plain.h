@@ -29,6 +29,20 @@ static inline uint64_t pack_comparison(bool different, uint32_t element, uint32_
 uint64_t refuse_comparison(const uint8_t *vocabulary, size_t vocabulary_len,
                            uint32_t a, uint32_t b, size_t buffer_len);
 
+/* Its rows 11 and 12, over a vocabulary that the check has accepted. */
+uint64_t refuse_atoms(const uint8_t *vocabulary, size_t count, size_t buffer_len);
+
+static inline bool is_atom(uint8_t kind)
+{
+    return kind == NAME || kind == SOME || kind == ALL;
+}
+
+/* The comparison where nothing refuses it. With 0, the header, for a and b no two terms are compared:
+ * the answer is the survivors and the rounds. */
+typedef uint64_t settle_function(const uint8_t *vocabulary, size_t vocabulary_len, unsigned atoms,
+                                 uint32_t a, uint32_t b, uint8_t *buffer);
+settle_function fast_settle, literal_settle;
+
 /* Writes the survivors and packs the answer. `differ`: do the two terms differ at the type? */
 uint64_t answer_comparison(const bool *survives, const bool *differ, unsigned types,
                            uint32_t rounds, uint8_t *buffer);

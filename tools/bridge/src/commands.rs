@@ -43,7 +43,7 @@ struct Command {
 }
 
 /// The commands; of two that begin alike, the one with the longer name is first.
-const COMMANDS: [Command; 8] = [
+const COMMANDS: [Command; 9] = [
     Command {
         name: "emit options",
         takes: "TBOX",
@@ -85,6 +85,12 @@ const COMMANDS: [Command; 8] = [
         takes: "DIRECTORY [--repeats N] [--limit SECONDS] [--konclude PATH] [--fact PATH]",
         flags: &[REPEATS, LIMIT, KONCLUDE, FACT],
         run: race::table,
+    },
+    Command {
+        name: "race names",
+        takes: "DIRECTORY --ours PROGRAM [--repeats N] [--limit SECONDS] [--konclude PATH] [--fact PATH]",
+        flags: &[OURS, REPEATS, LIMIT, KONCLUDE, FACT],
+        run: race::names,
     },
     Command {
         name: "race worst",

@@ -14,7 +14,7 @@ use crate::files::{create, write};
 use crate::making::Making;
 use crate::question::{choose, Question, Wanted};
 use crate::random::Random;
-use crate::reasoner::{write_query, write_table};
+use crate::reasoner::{write_names, write_query, write_table};
 
 /// The fewest atoms of a customs vocabulary; the most are those that can be compared.
 pub const FEWEST_ATOMS: usize = 6;
@@ -64,11 +64,12 @@ fn write_question(random: &mut Random, stem: &Path, question: &Question) -> Resu
     for language in [Language::Fact, Language::Konclude] {
         write_query(language, Form::Named, &beside(stem, "query"), question)?;
         write_table(language, &beside(stem, "table"), &question.vocabulary)?;
+        write_names(language, &beside(stem, "names"), &question.vocabulary)?;
     }
     Ok(())
 }
 
-/// The stem of the reasoners' files for a query or a table.
+/// The stem of the reasoners' files for a query, a table or the names.
 pub fn beside(stem: &Path, what: &str) -> PathBuf {
     let name = stem.file_name().unwrap_or_default().to_string_lossy();
     stem.with_file_name(format!("{name}-{what}"))

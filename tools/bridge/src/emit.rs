@@ -8,6 +8,8 @@ use std::fmt::Write;
 
 use base::vocabulary::{Saying, Vocabulary};
 
+use crate::taxonomy;
+
 #[cfg(test)]
 mod tests;
 
@@ -52,6 +54,15 @@ pub fn table(language: Language, vocabulary: &Vocabulary) -> String {
     let all = vocabulary.terms().into_iter().collect();
     let terms = Terms::new(language, Form::Named, vocabulary, &all);
     terms.map_or_else(String::new, |terms| document(language, vocabulary, &terms, ""))
+}
+
+/// The chained statements, with their terms in the form given, and all names: for a classification of the names.
+/// Nothing where a term written out is too long.
+pub fn names(language: Language, form: Form, vocabulary: &Vocabulary) -> Option<String> {
+    let mut roots = taxonomy::names(vocabulary);
+    roots.extend(vocabulary.statements().into_iter().flat_map(|(a, b)| [a, b]));
+    let terms = Terms::new(language, form, vocabulary, &needed(vocabulary, &roots))?;
+    Some(document(language, vocabulary, &terms, ""))
 }
 
 /// The options that FaCT++ takes: the TBox's file, and the class to ask about; without one it classifies.
@@ -122,7 +133,7 @@ fn document(language: Language, vocabulary: &Vocabulary, terms: &Terms, question
     text += &roles(language, &terms.sayings);
     for (number, saying) in &terms.classes {
         if let Some(meaning) = expression(language, *saying, terms) {
-            text += &definition(language, &format!("T{number}"), &meaning);
+            text += &definition(language, &class_name(*number), &meaning);
         }
     }
     for (a, b) in vocabulary.statements() {
@@ -144,9 +155,14 @@ fn framed(language: Language, text: &str) -> String {
 
 fn class(language: Language, number: u16) -> String {
     match language {
-        Konclude => format!(":T{number}"),
-        Fact => format!("T{number}"),
+        Konclude => format!(":{}", class_name(number)),
+        Fact => class_name(number),
     }
+}
+
+/// The name of a term's class, without what stands before it.
+pub fn class_name(number: u16) -> String {
+    format!("T{number}")
 }
 
 fn role(language: Language, number: u16) -> String {

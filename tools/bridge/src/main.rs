@@ -7,6 +7,7 @@ mod customs;
 mod draw;
 mod emit;
 mod files;
+mod hierarchy;
 mod making;
 mod meaning;
 mod output;
@@ -16,6 +17,7 @@ mod race;
 mod random;
 mod reasoner;
 mod report;
+mod taxonomy;
 
 use std::process::ExitCode;
 

@@ -26,7 +26,7 @@ pub fn tells_apart(vocabulary: &Vocabulary, survivors: &[u8], a: u16, b: u16, el
 }
 
 /// The types whose bits are set.
-fn elements(survivors: &[u8]) -> Vec<u16> {
+pub fn elements(survivors: &[u8]) -> Vec<u16> {
     let byte = |t: &u16| survivors.get(usize::from(t / 8));
     let is_set = |t: &u16| byte(t).is_some_and(|byte| byte >> (t % 8) & 1 == 1);
     (0..1 << judge::ATOMS).filter(is_set).collect()

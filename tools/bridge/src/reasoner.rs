@@ -12,8 +12,10 @@ use base::{Failure, Status};
 use crate::commands::{FACT, KONCLUDE};
 use crate::emit::{self, Form, Language};
 use crate::files::{read, write};
+use crate::hierarchy::Hierarchy;
 use crate::process::Run;
 use crate::question::Question;
+use crate::taxonomy::Taxonomy;
 use Language::{Fact, Konclude};
 
 /// A reasoner's program.
@@ -137,6 +139,12 @@ impl Reasoner {
         let _ = fs::remove_file(self.classes(stem));
     }
 
+    /// The names as a classification has them; nothing where it wrote no file, or not of all names.
+    pub fn taxonomy(&self, stem: &Path, vocabulary: &Vocabulary) -> Option<Taxonomy> {
+        let text = read(&self.classes(stem)).ok()?;
+        Taxonomy::classified(vocabulary, &Hierarchy::read(self.language, &text))
+    }
+
     /// The classes that a classification found equal, in groups of term numbers; nothing where it wrote no file.
     pub fn groups(&self, stem: &Path) -> Option<Vec<Vec<u16>>> {
         let text = read(&self.classes(stem)).ok()?;
@@ -176,6 +184,14 @@ pub fn write_query(language: Language, form: Form, stem: &Path, question: &Quest
 /// Writes the files of a classification.
 pub fn write_table(language: Language, stem: &Path, vocabulary: &Vocabulary) -> Result<(), Failure> {
     write_input(language, stem, &emit::table(language, vocabulary), None)
+}
+
+/// Writes the files of a classification of the names: the statements' terms are written out, so that the names are the
+/// only classes.
+pub fn write_names(language: Language, stem: &Path, vocabulary: &Vocabulary) -> Result<(), Failure> {
+    let text = emit::names(language, Form::WrittenOut, vocabulary);
+    let too_long = || Failure::new(Status::Refused, "a term written out is too long");
+    write_input(language, stem, &text.ok_or_else(too_long)?, None)
 }
 
 fn write_input(language: Language, stem: &Path, text: &str, target: Option<&str>) -> Result<(), Failure> {

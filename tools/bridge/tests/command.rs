@@ -4,7 +4,7 @@
 
 use std::ffi::OsStr;
 use std::fs::{self, File};
-use std::path::PathBuf;
+use std::path::{Path, PathBuf};
 use std::process::{Command, Stdio};
 
 /// A vocabulary that is accepted.
@@ -70,6 +70,7 @@ fn what_is_wrong_has_its_status_and_is_said() {
         ("customs", 64, "DIRECTORY is missing\n"),
         ("compare x", 64, "x is one word too many\n"),
         ("race worst x", 64, "--ours has to name a program\n"),
+        ("race names x", 64, "--ours has to name a program\n"),
         ("emit prolog v 1 2", 64, "the language is konclude or fact\n"),
         ("emit fact v 1 2 --form=long", 64, "--form takes named or written-out\n"),
         ("answer v 1 x", 64, "B is a record number, and 'x' is none\n"),
@@ -143,7 +144,7 @@ fn customs_vocabularies_are_the_same_for_the_same_seed() {
         files
     };
     let first = files("customs-first", "--seed=1");
-    assert_eq!(first.len(), 8 * 9 + 1);
+    assert_eq!(first.len(), 8 * 12 + 1);
     assert!(first == files("customs-again", "--seed=1"));
     assert!(first != files("customs-other", "--seed=2"));
 }
@@ -233,4 +234,84 @@ fn a_process_that_cannot_be_run_has_its_status() {
     command.arg(&path);
     let (code, _, stderr) = run(command);
     assert_eq!(code, 71, "{stderr}");
+}
+
+/// A race of all names in a directory, with stand-ins for the library's program and for both reasoners: what it
+/// printed, and what it said of differences.
+fn race_names(directory: &Path, ours: &str, theirs: &str) -> (String, String) {
+    let mut command = bridge(["race", "names", "--repeats=1", "--ours", &reasoner(ours)]);
+    command.args(["--konclude", &reasoner(theirs), "--fact", &reasoner(theirs)]);
+    command.arg(directory);
+    let (code, stdout, stderr) = run(command);
+    assert_eq!(code, 0, "{stderr}");
+    (stdout, stderr)
+}
+
+/// The last two cells of the rows of all three: wrong tables, and runs without one.
+fn failures(stdout: &str) -> Vec<String> {
+    let rows = ["| library |", "| FaCT++ |", "| Konclude |"].map(|name| {
+        let row = stdout.lines().find(|line| line.starts_with(name));
+        row.unwrap()
+    });
+    let last = |row: &str| row.rsplit(" | ").take(2).collect::<Vec<_>>().join(" ");
+    rows.map(last).to_vec()
+}
+
+/// Two names that are apart, with the reasoners' files.
+#[test]
+fn names_that_are_said_to_be_apart_and_are_so_are_right() {
+    let path = directory("race-apart");
+    fs::create_dir(&path).unwrap();
+    let records = [
+        [16, 1, 0, 0, 0, 0, 0, 0],
+        [3, 0, 1, 0, 0, 0, 0, 0],
+        [3, 0, 2, 0, 0, 0, 0, 0],
+    ];
+    for (name, content) in [
+        ("list", "two 1 2\n"),
+        ("two-names.tbox", "(defprimconcept T1)\n(defprimconcept T2)\n"),
+        ("two-names.ofn", "Declaration(Class(:T1))\nDeclaration(Class(:T2))\n"),
+    ] {
+        fs::write(path.join(name), content).unwrap();
+    }
+    fs::write(path.join("two.vocabulary"), records.concat()).unwrap();
+    let (stdout, stderr) = race_names(&path, "flat", "flat");
+    assert_eq!(
+        failures(&stdout),
+        ["0 | 0 of 1", "0 | 0 of 1", "0 | 0 of 1"],
+        "{stdout}"
+    );
+    assert_eq!(stderr, "");
+}
+
+/// In a customs vocabulary some name lies within another.
+#[test]
+fn wrong_and_missing_tables_of_names_are_counted_and_said() {
+    let path = directory("race-names");
+    let customs = run(bridge([
+        OsStr::new("customs"),
+        path.as_os_str(),
+        OsStr::new("--count=2"),
+    ]));
+    assert_eq!(customs.0, 0, "{}", customs.2);
+    let (stdout, stderr) = race_names(&path, "flat", "flat");
+    assert_eq!(
+        failures(&stdout),
+        ["0 | 2 of 2", "0 | 2 of 2", "0 | 2 of 2"],
+        "{stdout}"
+    );
+    assert_eq!(stderr.matches("for the library only: ").count(), 4, "{stderr}");
+    let (stdout, stderr) = race_names(&path, "silent", "silent");
+    assert_eq!(
+        failures(&stdout),
+        ["0 | 2 of 2", "2 | 0 of 2", "2 | 0 of 2"],
+        "{stdout}"
+    );
+    assert_eq!(
+        stderr
+            .matches(": no table, status Some(0); it said:\nLoading KB\n")
+            .count(),
+        4,
+        "{stderr}"
+    );
 }

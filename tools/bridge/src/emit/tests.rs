@@ -2,7 +2,7 @@
 
 #![allow(clippy::unwrap_used)]
 
-use super::{fact_options, query, table, Fact, Form, Konclude};
+use super::{fact_options, names, query, table, Fact, Form, Konclude};
 use crate::making::Making;
 use base::vocabulary::{Saying, Vocabulary};
 
@@ -122,6 +122,28 @@ fn a_classification_has_all_terms_and_no_question() {
     assert_eq!(text, before);
     assert_eq!(question, "(or (and T1 (not T10)) (and T10 (not T1))))\n");
     assert!(text.contains("(equal_c T10 (not T6))\n"));
+}
+
+/// Name 13 is in no statement.
+#[test]
+fn a_classification_of_the_names_has_all_of_them_and_what_the_statements_need() {
+    let mut vocabulary = vocabulary();
+    vocabulary.records.push(Saying::Name(8).record(0));
+    let expected = "\
+(defprimconcept T1)
+(defprimconcept T13)
+(defprimrole R0)
+(defprimrole R1)
+(implies_c (and T1 (not (some R1 T1))) *BOTTOM*)
+(implies_c *TOP* (all R0 *TOP*))
+";
+    assert_eq!(names(Fact, Form::WrittenOut, &vocabulary).unwrap(), expected);
+    let named = names(Fact, Form::Named, &vocabulary).unwrap();
+    assert!(
+        named.contains("(equal_c T9 (all R0 T8))\n(implies_c T5 T6)\n"),
+        "{named}"
+    );
+    assert!(!named.contains("T10"), "{named}");
 }
 
 #[test]

@@ -1,9 +1,11 @@
 //! The times of the library and of the reasoners: wall time of whole processes, one run, alternating.
 
+mod names;
 mod one;
 mod table;
 mod worst;
 
+pub use names::names;
 pub use one::one;
 pub use table::{answer_pairs, table};
 pub use worst::worst;
@@ -19,9 +21,10 @@ use judge::SURVIVOR_BYTES;
 
 use crate::commands::OURS;
 use crate::files::{read, read_vocabulary};
+use crate::output::complain;
 use crate::process::Run;
 use crate::question::Question;
-use crate::reasoner::Reply;
+use crate::reasoner::{Reasoner, Reply};
 use crate::report::{median, milliseconds};
 
 /// A question of a directory's list.
@@ -79,7 +82,8 @@ fn read_pair(text: &str) -> Option<(u32, u32)> {
     Some((digits(a)?, digits(b)?))
 }
 
-/// The program of the library's side: it takes a vocabulary and two terms and says equal or different.
+/// The program of the library's side: it takes a vocabulary and two terms and says equal or different, or takes a
+/// vocabulary and prints the taxonomy of its names.
 fn our_program(arguments: &Arguments) -> Result<&OsStr, Failure> {
     let program = arguments.value(OURS.name);
     program.ok_or_else(|| Failure::usage("--ours has to name a program"))
@@ -156,4 +160,34 @@ fn failures(sides: &[Vec<Times>], place: usize) -> String {
     let wrong: usize = all().map(|times| times.wrong).sum();
     let without: usize = all().map(|times| times.no_answer).sum();
     format!("{wrong} of {runs} | {without}")
+}
+
+/// A ratio, marked where it is under the one to reach.
+fn ratio(times: f64, to_reach: f64) -> String {
+    let missed = if times < to_reach { " **missed**" } else { "" };
+    format!("{times:.1}{missed}")
+}
+
+/// Says on standard error what a classification answers otherwise than the library, line by line, since a reasoner may
+/// not do it again.
+fn say_difference(reasoner: &Reasoner, stem: &Path, run: &Run, ours: &str, theirs: Option<&str>) {
+    let (name, stem) = (reasoner.name(), stem.display());
+    let Some(theirs) = theirs else {
+        let (status, text) = (run.status, &run.text);
+        complain(&format!(
+            "{name}, {stem}: no table, status {status:?}; it said:\n{text}"
+        ));
+        return;
+    };
+    let only = |here: &str, there: &str| {
+        let lines = here.lines().filter(|line| !there.lines().any(|other| other == *line));
+        lines.collect::<Vec<_>>().join("; ")
+    };
+    if ours != theirs {
+        complain(&format!(
+            "{name}, {stem}: for the library only: {}. For {name} only: {}",
+            only(ours, theirs),
+            only(theirs, ours)
+        ));
+    }
 }

@@ -8,7 +8,9 @@ use std::time::Duration;
 use base::arguments::Arguments;
 use base::{Failure, Status};
 
-use super::{call_alone, entries, expected, failures, judged, medians, our_program, ours, reply, spread, Entry, Times};
+use super::{
+    call_alone, entries, expected, failures, judged, medians, our_program, ours, ratio, reply, spread, Entry, Times,
+};
 use crate::commands::REPEATS;
 use crate::customs::{beside, FEWEST_ATOMS};
 use crate::output::say_line;
@@ -118,10 +120,4 @@ fn whole(reasoners: &[Reasoner], sides: &[Vec<Times>], calls: &[f64]) -> String 
         );
     }
     table
-}
-
-/// A ratio, marked where it is under the one to reach.
-fn ratio(times: f64, to_reach: f64) -> String {
-    let missed = if times < to_reach { " **missed**" } else { "" };
-    format!("{times:.1}{missed}")
 }

@@ -10,12 +10,12 @@ use base::vocabulary::Vocabulary;
 use base::{Failure, Status};
 use judge::Verdict;
 
-use super::{entries, failures, medians, read_pair, spread, Entry, Times};
+use super::{entries, failures, medians, read_pair, say_difference, spread, Entry, Times};
 use crate::commands::REPEATS;
 use crate::customs::{beside, PAIRS};
 use crate::files::read;
-use crate::output::{complain, say_line};
-use crate::process::{self, Run};
+use crate::output::say_line;
+use crate::process;
 use crate::question::compare;
 use crate::reasoner::Reasoner;
 use crate::report::median;
@@ -90,29 +90,6 @@ fn run_table(entry: &Entry, reasoners: &[Reasoner], limit: Duration, times: &mut
         say_difference(reasoner, &stem, &run, &all.text, told.as_deref());
     }
     Ok(())
-}
-
-/// Says on standard error which pairs a classification answers otherwise, since a reasoner may not do it again.
-fn say_difference(reasoner: &Reasoner, stem: &Path, run: &Run, ours: &str, theirs: Option<&str>) {
-    let (name, stem) = (reasoner.name(), stem.display());
-    let Some(theirs) = theirs else {
-        let (status, text) = (run.status, &run.text);
-        complain(&format!(
-            "{name}, {stem}: no table, status {status:?}; it said:\n{text}"
-        ));
-        return;
-    };
-    let only = |here: &str, there: &str| {
-        let lines = here.lines().filter(|pair| !there.lines().any(|other| other == *pair));
-        lines.collect::<Vec<_>>().join(", ")
-    };
-    if ours != theirs {
-        complain(&format!(
-            "{name}, {stem}: equal for the library only: {}; equal for {name} only: {}",
-            only(ours, theirs),
-            only(theirs, ours)
-        ));
-    }
 }
 
 /// The equal pairs that groups of equal terms say, as `answer` prints them.
