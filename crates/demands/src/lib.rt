@@ -1,6 +1,7 @@
 // The library's calls: those of the crates below, with the three demands as their contracts. Each says that the answer is the
-// definition's, what that tells a caller (specs/Returns.antt), and what the lent bytes are after the call. Only the comparison and
-// the classification are lent bytes that they may write. That a call ends on every input is part of what the prover checks of every function.
+// definition's, what that tells a caller (specs/Returns.antt), and what the lent bytes are after the call. Only the comparison
+// and the classification are lent bytes that they may write. That a call ends on every input is part of what the prover
+// checks of every function.
 use records::answers::Counted;
 use records::answers::Located;
 use scripts::answers::Judged;
@@ -15,7 +16,7 @@ ghost use Rattle.types.specs.Answers.{compared};
 ghost use Rattle.types.specs.Comparison.{comparison};
 ghost use Rattle.types.specs.Bitmap.{written};
 ghost use Rattle.taxonomy.specs.Answers.{classified};
-ghost use Rattle.taxonomy.specs.Taxonomy.{classification, tabulated};
+ghost use Rattle.taxonomy.specs.Taxonomy.{classification, firstAfter, secondAfter};
 ghost use Rattle.scripts.specs.Answers.{judged};
 ghost use Rattle.scripts.specs.Run.{scriptCheck};
 ghost use Rattle.demands.specs.Returns.{VocabularyReturns, OffsetReturns, RecordReturns, ComparisonReturns};
@@ -64,12 +65,8 @@ pub fn compare(v: &[u8], a: u32, b: u32, lent: &mut [u8]) -> Compared
 pub fn classify(v: &[u8], lent: &mut [u8], room: &mut [u8]) -> Classified
     ensures { λ r. ⌜ classified r
         ≡ classification (now (v .entry)) (length (now (lent .entry))) (length (now (room .entry))) ⌝ }
-    ensures { λ _. ⌜ now (lent .exit)
-        ≡ written (classification (now (v .entry)) (length (now (lent .entry))) (length (now (room .entry))))
-        (now (v .entry)) (now (lent .entry)) ⌝ }
-    ensures { λ _. ⌜ now (room .exit)
-        ≡ tabulated (classification (now (v .entry)) (length (now (lent .entry))) (length (now (room .entry))))
-        (now (v .entry)) (now (room .entry)) ⌝ }
+    ensures { λ _. ⌜ now (lent .exit) ≡ firstAfter (now (v .entry)) (now (lent .entry)) (now (room .entry)) ⌝ }
+    ensures { λ _. ⌜ now (room .exit) ≡ secondAfter (now (v .entry)) (now (lent .entry)) (now (room .entry)) ⌝ }
     ensures { λ r. ⌜ ClassificationReturns (now (v .entry)) (now (lent .entry)) (now (lent .exit)) (now (room .entry))
         (now (room .exit)) r ⌝ }
     ensures { λ _. ⌜ now (v .exit) ≡ now (v .entry) ⌝ }

@@ -12,7 +12,7 @@ ghost use Rattle.records.specs.Check.{vocabularyCheck};
 ghost use Rattle.records.specs.Call.{recordCall};
 ghost use Rattle.types.specs.Comparison.{comparison};
 ghost use Rattle.types.specs.Bitmap.{written};
-ghost use Rattle.taxonomy.specs.Taxonomy.{classification, tabulated};
+ghost use Rattle.taxonomy.specs.Taxonomy.{classification, firstAfter, secondAfter};
 ghost use Rattle.scripts.specs.Run.{scriptCheck};
 ghost use Rattle.judge.specs.Packed.{packed, flag, packedParts, packedVerdict, packedCounts};
 
@@ -96,11 +96,9 @@ pub extern "C" fn judge_classify(
     ensures { λ r. ⌜ r ≡ packedCounts
         (classification (now (vocabulary .entry)) (length (now (survivors .entry))) (length (now (taxonomy .entry)))) ⌝ }
     ensures { λ _. ⌜ now (survivors .exit)
-        ≡ written (classification (now (vocabulary .entry)) (length (now (survivors .entry))) (length (now (taxonomy .entry))))
-        (now (vocabulary .entry)) (now (survivors .entry)) ⌝ }
+        ≡ firstAfter (now (vocabulary .entry)) (now (survivors .entry)) (now (taxonomy .entry)) ⌝ }
     ensures { λ _. ⌜ now (taxonomy .exit)
-        ≡ tabulated (classification (now (vocabulary .entry)) (length (now (survivors .entry))) (length (now (taxonomy .entry))))
-        (now (vocabulary .entry)) (now (taxonomy .entry)) ⌝ }
+        ≡ secondAfter (now (vocabulary .entry)) (now (survivors .entry)) (now (taxonomy .entry)) ⌝ }
     ensures { λ _. ⌜ now (vocabulary .exit) ≡ now (vocabulary .entry) ⌝ }
 {
     let answer = demands::classify(vocabulary, survivors, taxonomy);

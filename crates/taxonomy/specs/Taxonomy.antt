@@ -14,6 +14,7 @@ use Rattle.types.specs.declared.answers.Counts.{Counts}
 use Rattle.types.specs.Types.{types, truth}
 use Rattle.types.specs.Survivors.{survivors}
 use Rattle.types.specs.Comparison.{atomLimit, sizeCheck, counts}
+use Rattle.types.specs.Bitmap.{written}
 
 -- "names in record order": their records, how many there are, and the record of name m.
 abbrev pub names : List ℕ → List ℕ
@@ -67,8 +68,14 @@ unfoldable pub classification : List ℕ → ℕ → ℕ → Outcome Counts
 classification v lent room =
     vocabularyCheck v then sizeCheck (atoms v) lent then tableCheck room then accepted (counts v)
 
--- The second buffer after the call: the table, and "later bytes keep their content"; refused, as it was. (The first is as in the
--- comparison: `written` of types.)
+-- The second buffer after the call: the table, and "later bytes keep their content"; refused, as it was.
 abbrev pub tabulated : Outcome Counts → List ℕ → List ℕ → List ℕ
 tabulated (accepted c) v room = taxonomy v ++ drop taxonomyBytes room
 tabulated (refused n p) v room = room
+
+-- Both buffers after the call, by what they were: "The first buffer .. as in the comparison", and the second.
+abbrev pub firstAfter : List ℕ → List ℕ → List ℕ → List ℕ
+firstAfter v lent room = written (classification v (length lent) (length room)) v lent
+
+abbrev pub secondAfter : List ℕ → List ℕ → List ℕ → List ℕ
+secondAfter v lent room = tabulated (classification v (length lent) (length room)) v room

@@ -20,9 +20,9 @@ ghost use lib.ListN.{length, drop};
 ghost use Rattle.records.specs.Outcome.{accepted, _then_};
 ghost use Rattle.records.specs.Answers.{checked};
 ghost use Rattle.types.specs.Comparison.{bitmapBytes, sizeCheck, counts};
-ghost use Rattle.types.specs.Bitmap.{bitmap, written};
+ghost use Rattle.types.specs.Bitmap.{bitmap};
 ghost use Rattle.types.specs.Code.Settling.{Settleable};
-ghost use Rattle.taxonomy.specs.Taxonomy.{taxonomyBytes, taxonomy, tableCheck, classification, tabulated};
+ghost use Rattle.taxonomy.specs.Taxonomy.{taxonomyBytes, taxonomy, tableCheck, classification, firstAfter, secondAfter};
 ghost use Rattle.taxonomy.specs.Answers.{classified};
 
 // Rows 11, 12 and 26, where the vocabulary has k atoms.
@@ -60,12 +60,8 @@ fn tabulate(v: &[u8], k: usize, lent: &mut [u8], room: &mut [u8]) -> Classified
 pub fn classify(v: &[u8], lent: &mut [u8], room: &mut [u8]) -> Classified
     ensures { λ r. ⌜ classified r
         ≡ classification (now (v .entry)) (length (now (lent .entry))) (length (now (room .entry))) ⌝ }
-    ensures { λ _. ⌜ now (lent .exit)
-        ≡ written (classification (now (v .entry)) (length (now (lent .entry))) (length (now (room .entry))))
-        (now (v .entry)) (now (lent .entry)) ⌝ }
-    ensures { λ _. ⌜ now (room .exit)
-        ≡ tabulated (classification (now (v .entry)) (length (now (lent .entry))) (length (now (room .entry))))
-        (now (v .entry)) (now (room .entry)) ⌝ }
+    ensures { λ _. ⌜ now (lent .exit) ≡ firstAfter (now (v .entry)) (now (lent .entry)) (now (room .entry)) ⌝ }
+    ensures { λ _. ⌜ now (room .exit) ≡ secondAfter (now (v .entry)) (now (lent .entry)) (now (room .entry)) ⌝ }
 {
     let vocabulary = records::check_vocabulary(v);
     let Counted::Records(_) = vocabulary else {

@@ -5,27 +5,20 @@ ghost use mathlib.Core.Path.{_≡_};
 ghost use mathlib.Core.List.{_++_};
 ghost use Prim.Native.Nat.{_≤_, _<_, _*_};
 ghost use lib.ListN.{length, drop};
-ghost use Rattle.records.specs.Finite.{table};
+ghost use Rattle.records.specs.Finite.{table, bit};
 ghost use Rattle.types.specs.Comparison.{atomLimit};
 ghost use Rattle.taxonomy.specs.Taxonomy.{taxonomyBytes};
-ghost use Rattle.taxonomy.specs.Code.Meets.{Small, isAbove, strictlyAbove, amid, entryOf, byteAt};
+ghost use Rattle.taxonomy.specs.Code.Meets.{Small, strictlyAbove, amid, entryOf, byteAt};
 
-// Whether name j is broader than name i.
-fn is_broader(
-    atoms: &[u16; TypeData::ATOMS],
-    meets: &[u16; TypeData::ATOMS],
-    i: usize,
-    j: usize,
-) -> bool
-    requires { ⌜ Small (now atoms) ⌝ }
-    requires { ⌜ i < atomLimit ⌝ }
+// Bit j of a word.
+fn has_bit(word: u16, j: u16) -> bool
     requires { ⌜ j < atomLimit ⌝ }
-    ensures { λ r. ⌜ r ≡ isAbove (now (atoms .entry)) (now (meets .entry)) i j ⌝ }
+    ensures { λ r. ⌜ r ≡ bit word j ⌝ }
 {
-    (meets[i] >> atoms[j]) % 2 == 1
+    (word >> j) % 2 == 1
 }
 
-// And not the other way round.
+// Whether name j is strictly broader than name i.
 fn is_strictly_broader(
     atoms: &[u16; TypeData::ATOMS],
     meets: &[u16; TypeData::ATOMS],
@@ -37,10 +30,10 @@ fn is_strictly_broader(
     requires { ⌜ j < atomLimit ⌝ }
     ensures { λ r. ⌜ r ≡ strictlyAbove (now (atoms .entry)) (now (meets .entry)) i j ⌝ }
 {
-    if !is_broader(atoms, meets, i, j) {
+    if !has_bit(meets[i], atoms[j]) {
         return false;
     }
-    !is_broader(atoms, meets, j, i)
+    !has_bit(meets[j], atoms[i])
 }
 
 // Whether one of the n names is strictly between names i and j.
@@ -83,10 +76,10 @@ fn entry(
     requires { ⌜ j < atomLimit ⌝ }
     ensures { λ r. ⌜ r ≡ entryOf (now (atoms .entry)) (now (meets .entry)) n i j ⌝ }
 {
-    if !is_broader(atoms, meets, i, j) {
+    if !has_bit(meets[i], atoms[j]) {
         return 0;
     }
-    if is_broader(atoms, meets, j, i) {
+    if has_bit(meets[j], atoms[i]) {
         return 2;
     }
     if is_between(atoms, meets, n, i, j) {
@@ -113,7 +106,8 @@ pub fn write_table(names: Names, meets: &[u16; TypeData::ATOMS], lent: &mut [u8]
     requires { ⌜ names .count ≤ atomLimit ⌝ }
     requires { ⌜ taxonomyBytes ≤ length (now lent) ⌝ }
     ensures { λ _. ⌜ now (lent .exit)
-        ≡ table taxonomyBytes (byteAt (names .atoms) (now (meets .entry)) (names .count)) ++ drop taxonomyBytes (now (lent .entry)) ⌝ }
+        ≡ table taxonomyBytes (byteAt (names .atoms) (now (meets .entry)) (names .count))
+        ++ drop taxonomyBytes (now (lent .entry)) ⌝ }
 {
     let atoms = names.atoms;
     let n = names.count;

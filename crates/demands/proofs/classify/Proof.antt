@@ -13,7 +13,7 @@ returns c =
     let a = k .before .before .before .before .before .before .args in
     let e = k .classify .ensures in
     let means = classification-returns (now (a .v)) (now (a .lent)) _ (now (a .room)) _ (k .classify .result) (e .0) (e .1 .0)
-        (e .1 .1) in
+    (e .1 .1) in
     (e .0, (e .1 .0, (e .1 .1, (means, refl))))
 
 pub classify-spec : {M : Type 1} → statement M

@@ -7,13 +7,22 @@ use Rattle.records.proofs.Laws.Tests.{both-first-false, both-first-true}
 use Rattle.taxonomy.proofs.table.is_strictly_broader.Statement.{statement}
 use Rattle.taxonomy.proofs.table.is_strictly_broader.Tie as tie
 
+has-bit-requires : tie.Need-has-bit-requires
+has-bit-requires c κs = let s = c .before .before in s .pre .0 (s .args .j)
+
+has-bit-requires-2 : tie.Need-has-bit-requires-2
+has-bit-requires-2 c κs = let s = c .before .before .before .before .before .before in s .pre .0 (s .args .i)
+
 returns : tie.Need-returns
-returns c = both-first-false _ _ _ (c .before .is-broader .ensures) (c .if1 .taken)
+returns c = both-first-false _ _ _ (c .before .has-bit .ensures) (c .if1 .taken)
 
 returns-2 : tie.Need-returns-2
 returns-2 c =
-    both-first-true _ _ _ _ (c .before .before .is-broader .ensures) (c .before .if1 .left)
-    (ap (λ (b : Bool). not b) (c .is-broader2 .ensures))
+    let first = c .before .before .before in
+    both-first-true _ _ _ _ (first .before .has-bit .ensures) (first .if1 .left) (ap (λ (b : Bool). not b) (c .has-bit2 .ensures))
 
 pub is-strictly-broader-spec : {M : Type 1} → statement M
-is-strictly-broader-spec = tie.close (tie.spec (λ c κs. search needs) returns (λ c κs. search needs) returns-2)
+is-strictly-broader-spec =
+    tie.close
+    (tie.spec (λ c. search needs) (λ c. search needs) (λ c. search needs) (λ c. search needs) has-bit-requires returns
+    (λ c. search needs) (λ c. search needs) (λ c. search needs) (λ c. search needs) has-bit-requires-2 returns-2)
