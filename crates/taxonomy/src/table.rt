@@ -95,7 +95,9 @@ fn byte_at(atoms: &[u16; TypeData::ATOMS], meets: &[u16; TypeData::ATOMS], n: us
     ensures { λ r. ⌜ r ≡ byteAt (now (atoms .entry)) (now (meets .entry)) n e ⌝ }
 {
     if e < n * n {
-        return entry(atoms, meets, n, e / n, e % n);
+        let i = e / n;
+        let j = e % n;
+        return entry(atoms, meets, n, i, j);
     }
     0
 }

@@ -15,11 +15,11 @@ pair c = pair-at (c .before .args .n) (c .before .args .e) (c .if1 .taken)
 mul-if1 : tie.Need-mul-if1
 mul-if1 c = omega (arith, square-few (c .args .n) atomLimit (c .pre .1))
 
-div-entry : tie.Need-div-entry
-div-entry c = omega (arith, pair c .some)
+div-i : tie.Need-div-i
+div-i c = omega (arith, pair c .some)
 
-rem-entry : tie.Need-rem-entry
-rem-entry c = omega (arith, pair c .some)
+rem-j : tie.Need-rem-j
+rem-j c = omega (arith, pair c .some)
 
 entry-requires : tie.Need-entry-requires
 entry-requires c κs =
@@ -35,4 +35,4 @@ returns-2 : tie.Need-returns-2
 returns-2 c = let a = c .before .args in rw (le-ltb (a .e) (a .n * a .n) (c .if1 .left))
 
 pub byte-at-spec : {M : Type 1} → statement M
-byte-at-spec = tie.close (tie.spec mul-if1 div-entry rem-entry entry-requires returns returns-2)
+byte-at-spec = tie.close (tie.spec mul-if1 div-i rem-j entry-requires returns returns-2)
