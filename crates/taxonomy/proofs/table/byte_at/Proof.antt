@@ -24,7 +24,9 @@ rem-j c = omega (arith, pair c .some)
 entry-requires : tie.Need-entry-requires
 entry-requires c κs =
     let p = c .before .pre in
-    (p .0, (p .1, (omega (arith, p .1, pair c .row), omega (arith, p .1, pair c .column))))
+    let row = pair c .row in
+    let column = pair c .column in
+    (p .0, (p .1, (omega (arith, p .1, row, column), omega (arith, p .1, row, column))))
 
 returns : tie.Need-returns
 returns c =
