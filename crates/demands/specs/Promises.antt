@@ -5,32 +5,21 @@ use mathlib.Core.Path.{_≡_}
 use mathlib.Core.List.{List, _++_}
 use lib.ListN.{length, getD, drop}
 use Rattle.records.specs.Outcome.{accepted}
-use Rattle.records.specs.Format.{recordAt, count}
 use Rattle.records.specs.Atoms.{atoms}
-use Rattle.types.specs.Meaning.{Interpretation, Model, AlwaysEqual, AlwaysWithin}
+use Rattle.types.specs.Meaning.{Interpretation, Model, AlwaysEqual}
 use Rattle.types.specs.Comparison.{counts}
 use Rattle.types.specs.Bitmap.{bitmap, written}
+use Rattle.taxonomy.specs.Nearest.{NameOf, Nearest}
 use Rattle.taxonomy.specs.Taxonomy.{names, nameCount, nameAt, classification, tabulated}
 use Rattle.demands.specs.Table.{AcceptedVocabulary}
 
--- Slip 1, "Nearest broader names". A name is a record of kind 3.
-abbrev pub NameOf : List ℕ → ℕ → Type 0
-NameOf v a = (a < count v) × (recordAt v a .kind ≡ 3)
+-- Slip 1, "Nearest broader names".
 
 -- "names in record order": each number of the list is a name's, they rise, and every name's is in it.
 pub record InRecordOrder (v list : List ℕ) : Type 0 where
   pub each : (i : ℕ) → i < length list → NameOf v (getD list i 0)
   pub rising : (i j : ℕ) → i < j → j < length list → getD list i 0 < getD list j 0
   pub every : (a : ℕ) → NameOf v a → (i : ℕ) × (i < length list) × (getD list i 0 ≡ a)
-
--- b is "strictly broader" than a: a lies within b in every finite interpretation satisfying the statements, and not the other
--- way round. "Broader too means in every such interpretation."
-abbrev pub StrictlyWithin : List ℕ → ℕ → ℕ → Type 0
-StrictlyWithin v a b = AlwaysWithin v a b × (AlwaysWithin v b a → ⊥)
-
--- "strictly broader with no name strictly between"
-abbrev pub Nearest : List ℕ → ℕ → ℕ → Type 0
-Nearest v a b = StrictlyWithin v a b × ((c : ℕ) → NameOf v c → StrictlyWithin v a c → StrictlyWithin v c b → ⊥)
 
 -- "2 if the two are equal in every finite interpretation satisfying the statements, 1 if the second is strictly broader with
 -- no name strictly between, else 0": 2 and 1 exactly if so.

@@ -6,7 +6,6 @@ use records::fields::read_at;
 use records::kinds::is_restriction;
 ghost use mathlib.Core.Path.{_≡_};
 ghost use Prim.Native.Nat.{_≤_};
-ghost use lib.ListN.{getD};
 ghost use Rattle.records.specs.Check.{IsAccepted};
 ghost use Rattle.records.specs.Finite.{number};
 ghost use Rattle.types.specs.Code.Words.{signed};

@@ -1,6 +1,6 @@
 -- `judge::judge_compare` meets its contract. The answer is small enough for its bits (`comparison-small`).
 -- Assumes nothing.
-use Prim.Native.Nat.{ℕ, _-_}
+use Prim.Native.Nat.{ℕ}
 use native.Mathlib.Omega.{arith}
 use mathlib.Core.Path.{_≡_, refl, sym, ap, _∙_, subst}
 use lib.ListN.{length}

@@ -1,6 +1,6 @@
 -- `judge::pack_verdict` meets its contract. The parts stand side by side, so no sum wraps.
 -- Assumes nothing.
-use Prim.Native.Nat.{_-_, _≤_}
+use Prim.Native.Nat.{_≤_}
 use native.Mathlib.Omega.{arith}
 use mathlib.Core.Bool.{Bool, true, false}
 use borrow.Author.Needs.{needs}

@@ -1,6 +1,6 @@
 -- `lent::fill` is safe and ends. The measure is the number of bytes that are left. From turn to turn the buffer
 -- keeps its length. Assumes nothing.
-use mathlib.Core.Path.{_≡_, refl, _∙_}
+use mathlib.Core.Path.{_≡_, refl}
 use Prim.Native.Nat.{_-_}
 use native.Mathlib.Omega.{arith}
 use borrow.Author.Needs.{needs}

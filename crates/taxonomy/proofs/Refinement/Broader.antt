@@ -4,11 +4,11 @@
 --   NameFacts, name-facts      a name is an atom, whose number is below the limit
 --   meets-above                the words of the names say which names are broader
 -- Assumes nothing.
-use Prim.Native.Nat.{ℕ, _+_, _-_, _*_, _/_, _%_, _^_, _≤_, _<_}
+use Prim.Native.Nat.{ℕ, _+_, _-_, _≤_, _<_}
 use native.Mathlib.Omega.{arith}
 use native.Mathlib.Decide.{decLt}
 use mathlib.Core.Path.{_≡_, refl, sym, ap, ap₂, _∙_}
-use mathlib.Core.Bool.{Bool, true, false, not, _&&_, _||_}
+use mathlib.Core.Bool.{Bool, true, not, _&&_, _||_}
 use mathlib.Core.List.{List}
 use lib.Dec.{eqb}
 use lib.ListN.{getD}
@@ -21,9 +21,9 @@ use Rattle.records.proofs.Laws.Below.{all-intro, all-at, all-cong}
 use Rattle.records.proofs.Laws.Listing.{entry-sound}
 use Rattle.records.proofs.Laws.Tests.{both-left, both-right, both-true, implies-true, implies-rest, same-truth}
 use Rattle.records.proofs.Laws.Width.{bit-low, bit-high}
-use Rattle.records.proofs.Theorems.Accepted.{AcceptedFacts, accepted-vocabulary}
+use Rattle.records.proofs.Theorems.Accepted.{accepted-vocabulary}
 use Rattle.records.proofs.Theorems.Ranks.{rank-below, name-atom}
-use Rattle.types.specs.Types.{types, truth}
+use Rattle.types.specs.Types.{types}
 use Rattle.types.specs.Survivors.{survivors}
 use Rattle.types.specs.Comparison.{atomLimit, typeLimit}
 use Rattle.types.specs.Code.Words.{SameSet}

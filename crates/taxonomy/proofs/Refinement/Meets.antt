@@ -5,7 +5,7 @@
 use Prim.Native.Nat.{ℕ, _+_, _^_, _-_, _<_}
 use native.Mathlib.Omega.{arith}
 use native.Mathlib.Decide.{ℕ-discrete}
-use mathlib.Core.Path.{_≡_, refl, sym, ap, _∙_}
+use mathlib.Core.Path.{_≡_, refl, sym, _∙_}
 use mathlib.Core.Bool.{Bool, true, false, not, _&&_, _||_, and-false}
 use mathlib.Core.List.{List}
 use lib.Bits.{bitAnd}
@@ -19,7 +19,7 @@ use Rattle.records.proofs.Laws.Bits.{bit-and}
 use Rattle.records.proofs.Laws.Width.{bit-ones}
 use Rattle.records.proofs.Laws.Filling.{all-start, all-turn, all-holds-turn}
 use Rattle.types.specs.Comparison.{atomLimit}
-use Rattle.taxonomy.specs.Code.Meets.{halves, MeetOf, Meets}
+use Rattle.taxonomy.specs.Code.Meets.{halves, Meets}
 
 module _ (test : ℕ → Bool) (word : ℕ → ℕ) (n q met : ℕ)
     (so-far : bit met q ≡ allBelow (λ x. not (test x) || bit (word x) q) n) where

@@ -7,13 +7,11 @@ use Prim.Native.Nat.{ℕ, zero, suc, _*_, _/_, _%_, _≤_, _<_}
 use native.Mathlib.Nat.{le-trans, mul-le-mul-right, mul-le-mul-left, mod-lt, div-lt-iff-lt-mul, zero-lt-suc}
 use native.Mathlib.Omega.{arith}
 use native.Mathlib.Decide.{decLt}
-use mathlib.Core.Path.{_≡_, refl, sym, ap, ap₂, _∙_}
-use mathlib.Core.Bool.{Bool, cond, not, _&&_}
+use mathlib.Core.Path.{_≡_, ap, _∙_}
 use mathlib.Core.List.{List}
-use lib.Dec.{ltb}
 use lib.ListN.{getD}
 use borrow.Author.Tests.{lt-ltb, le-ltb}
-use Rattle.records.specs.Finite.{table, digit, bit}
+use Rattle.records.specs.Finite.{table, bit}
 use Rattle.records.proofs.Laws.Search.{any-cong}
 use Rattle.records.proofs.Laws.Sets.{table-cong}
 use Rattle.taxonomy.specs.Taxonomy.{nameCount, nameAt, broader, strictlyBroader, between, entry, entryByte, taxonomyBytes}

@@ -1,7 +1,6 @@
 -- Broader names, in every finite interpretation that satisfies the statements.
 --   broader-within, within-broader        b is broader than a exactly if a always lies within b
 --   equivalent-equal, equal-equivalent    they are equivalent exactly if they are always equal
---   StrictlyWithin                        a always lies within b, and b not always within a
 --   strictly-within, within-strictly      b is strictly broader exactly if that is so
 --   Between, between-name, name-between   there is a name between them exactly if one is strictly between in this sense
 -- Assumes nothing.
@@ -22,6 +21,7 @@ use Rattle.types.specs.Survivors.{survivors}
 use Rattle.types.specs.Comparison.{atomLimit}
 use Rattle.types.proofs.Theorems.Survivors.{survivors-serving}
 use Rattle.types.proofs.Theorems.Inclusions.{Implied, implied-within, within-implied, equal-both, both-equal}
+use Rattle.taxonomy.specs.Nearest.{StrictlyWithin}
 use Rattle.taxonomy.specs.Taxonomy.{nameCount, nameAt, broader, equivalent, strictlyBroader, between}
 
 -- The test at one type: b is true there, or a is not, or it does not survive.
@@ -41,10 +41,6 @@ module _ (v : List ℕ) (a b : ℕ) where
   implied-broader implied =
       all-intro (broaderAt v a b) (types v) (λ t l. implies-true (has (survivors v) t && truth v t a) (truth v t b)
       (λ h. implied t (both-left (has (survivors v) t) (truth v t a) h) (both-right (has (survivors v) t) (truth v t a) h)))
-
--- Always within, and not the other way round.
-abbrev pub StrictlyWithin : List ℕ → ℕ → ℕ → Type 0
-StrictlyWithin v a b = AlwaysWithin v a b × (AlwaysWithin v b a → ⊥)
 
 -- Name m is strictly between a and b.
 pub record Between (v : List ℕ) (a b m : ℕ) : Type 0 where

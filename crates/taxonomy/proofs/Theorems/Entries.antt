@@ -1,5 +1,4 @@
 -- What the entries of the taxonomy say, and where they stand.
---   Nearest                        b is strictly broader than a, and no name is strictly between
 --   entry-equal, equal-entry       an entry is 2 exactly if the two are always equal
 --   entry-nearest, nearest-entry   it is 1 exactly if the second is nearest
 --   entry-else                     it is 0 otherwise
@@ -23,14 +22,12 @@ use Rattle.records.proofs.Theorems.Accepted.{AcceptedFacts}
 use Rattle.types.specs.Meaning.{AlwaysEqual}
 use Rattle.types.specs.Comparison.{atomLimit}
 use Rattle.types.proofs.Theorems.Inclusions.{equal-both}
+use Rattle.taxonomy.specs.Nearest.{Nearest}
 use Rattle.taxonomy.specs.Taxonomy.{nameCount, nameAt, equivalent, strictlyBroader, between, entry, taxonomyBytes}
 use Rattle.taxonomy.specs.Taxonomy.{entryByte, taxonomy}
-use Rattle.taxonomy.proofs.Theorems.Names.{NameOf, name-is, name-found, names-within}
-use Rattle.taxonomy.proofs.Theorems.Broader.{StrictlyWithin, Between, equivalent-equal, equal-equivalent}
+use Rattle.taxonomy.proofs.Theorems.Names.{name-is, name-found, names-within}
+use Rattle.taxonomy.proofs.Theorems.Broader.{Between, equivalent-equal, equal-equivalent}
 use Rattle.taxonomy.proofs.Theorems.Broader.{strictly-within, within-strictly, between-name, name-between}
-
-abbrev pub Nearest : List ℕ → ℕ → ℕ → Type 0
-Nearest v a b = StrictlyWithin v a b × ((c : ℕ) → NameOf v c → StrictlyWithin v a c → StrictlyWithin v c b → ⊥)
 
 -- 2, 1 or 0 by two tests
 marked-two : (e x : Bool) → cond e 2 (digit x) ≡ 2 → e ≡ true

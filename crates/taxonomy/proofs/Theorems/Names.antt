@@ -1,5 +1,5 @@
 -- The names of a vocabulary are its records of kind 3, in record order.
---   named, NameOf             whether a record is a name; a record of kind 3
+--   named                     whether a record is a name
 --   name-is, name-found       each name listed is one, and each one is listed
 --   names-rise                later names have greater records
 --   names-few, names-within   there are no more of them than atoms, so their pairs have a byte each
@@ -19,15 +19,12 @@ use Rattle.records.proofs.Laws.Listing.{entries, entry-sound, entry-found, entr
 use Rattle.records.proofs.Laws.Ranges.{name-range}
 use Rattle.records.proofs.Theorems.Ranks.{class-few}
 use Rattle.types.specs.Comparison.{atomLimit}
+use Rattle.taxonomy.specs.Nearest.{NameOf}
 use Rattle.taxonomy.specs.Taxonomy.{nameCount, nameAt, taxonomyBytes}
 
 -- Whether record i is a name.
 abbrev pub named : List ℕ → ℕ → Bool
 named v i = isName (recordAt v i .kind)
-
--- a is a record of kind 3.
-abbrev pub NameOf : List ℕ → ℕ → Type 0
-NameOf v a = (a < count v) × (recordAt v a .kind ≡ 3)
 
 names-atoms : (c : Class) → digit (areNames c) ≤ digit (areAtoms c)
 names-atoms Silent = omega arith

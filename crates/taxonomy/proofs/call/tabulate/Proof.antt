@@ -3,13 +3,13 @@
 use Prim.Native.Nat.{ℕ}
 use native.Mathlib.Omega.{arith}
 use mathlib.Core.List.{List, _++_}
-use mathlib.Core.Path.{_≡_, refl, ap, _∙_}
+use mathlib.Core.Path.{refl, ap, _∙_}
 use lib.ListN.{drop}
 use borrow.Author.Needs.{needs}
 use denote.Ref.{now}
 use Rattle.records.proofs.Laws.Filling.{ends-empty}
 use Rattle.records.specs.Format.{count}
-use Rattle.records.specs.Outcome.{Outcome, accepted}
+use Rattle.records.specs.Outcome.{accepted}
 use Rattle.types.specs.Comparison.{typeLimit}
 use Rattle.types.specs.declared.answers.Counts.{Counts}
 use Rattle.taxonomy.specs.Taxonomy.{taxonomyBytes}

@@ -1,6 +1,5 @@
 -- `taxonomy::meets::meet_atom` meets its contract. The test says which half has the bit.
 -- Assumes nothing.
-use Prim.Native.Nat.{_-_}
 use native.Mathlib.Omega.{arith}
 use mathlib.Core.Path.{sym, _∙_}
 use borrow.Author.Needs.{needs}

@@ -1,11 +1,11 @@
 -- `taxonomy::meets::meet_halves` meets its contract. The loop's invariant: both tables have the meets of the members below `t`.
 -- Assumes nothing.
-use Prim.Native.Nat.{ℕ, _+_, _-_, _*_, _/_, _%_, _≤_, _<_}
+use Prim.Native.Nat.{ℕ, _-_, _≤_}
 use native.Mathlib.Omega.{arith}
 use mathlib.Core.Bool.{Bool}
 use mathlib.Core.List.{List}
 use mathlib.Core.Logic.{⊎-elim}
-use mathlib.Core.Path.{_≡_, refl, sym, ap, subst}
+use mathlib.Core.Path.{_≡_, refl, subst}
 use lib.ListN.{getD-replicate}
 use denote.Ref.{now}
 use Rattle.taxonomy.specs.Code.Meets.{halves, Meets, low, high}

@@ -1,7 +1,6 @@
 -- `types::call::compare` meets its contract. Each check that passed hands on to the next; one that refused leaves the
 -- lent bytes as they were.
 -- Assumes nothing.
-use Prim.Native.Nat.{_-_}
 use borrow.Author.Needs.{needs}
 use denote.Ref.{now}
 use Rattle.types.proofs.Refinement.Outcomes.{refused-vocabulary, refused-query, query-passed, query-comparable}

@@ -1,6 +1,6 @@
 -- `types::call::decide` meets its contract. Each part of the verdict comes from the survivors, which were settled.
 -- Assumes nothing.
-use Prim.Native.Nat.{ℕ, _+_, _-_, _^_, _%_, _*_}
+use Prim.Native.Nat.{_^_, _%_, _*_}
 use native.Mathlib.Omega.{arith}
 use mathlib.Core.Path.{_≡_, refl, ap, _∙_}
 use borrow.Author.Needs.{needs}

@@ -1,6 +1,5 @@
 -- `types::settle::settle` meets its contract. Each table is what the next call asks for.
 -- Assumes nothing.
-use Prim.Native.Nat.{_-_}
 use native.Mathlib.Omega.{arith}
 use mathlib.Core.Path.{refl}
 use denote.Ref.{now}

@@ -1,6 +1,6 @@
 -- `types::settle::settle_query` meets its contract. The counts and the bytes come from the table of the survivors.
 -- Assumes nothing.
-use Prim.Native.Nat.{ℕ, _+_, _-_, _^_, _%_, _*_}
+use Prim.Native.Nat.{ℕ, _+_, _^_, _%_, _*_}
 use native.Mathlib.Omega.{arith}
 use mathlib.Core.List.{List, _++_}
 use mathlib.Core.Path.{_≡_, ap, ap₂, _∙_}
