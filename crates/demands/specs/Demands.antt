@@ -14,7 +14,7 @@ use Rattle.records.specs.Atoms.{atoms}
 use Rattle.types.specs.Meaning.{Interpretation, Element, belongs, Model, AlwaysEqual, AlwaysWithin}
 use Rattle.types.specs.Comparison.{Verdict, equal, different, verdict, comparison, counts}
 use Rattle.types.specs.Bitmap.{written, readBack}
-use Rattle.taxonomy.specs.Taxonomy.{classification, tabulated}
+use Rattle.taxonomy.specs.Taxonomy.{classification, firstAfter, secondAfter}
 use Rattle.scripts.specs.Format.{queryOf, chain}
 use Rattle.scripts.specs.Calculus.{Derives}
 use Rattle.scripts.specs.Run.{stepAt, scriptCheck}
@@ -37,8 +37,7 @@ pub record Demand1 : Type 0 where
   pub untouched : (v : List ℕ) (a b n p : ℕ) (lent : List ℕ) → comparison v a b (length lent) ≡ refused n p
       → written (comparison v a b (length lent)) v lent ≡ lent
   pub both-untouched : (v lent room : List ℕ) (n p : ℕ) → classification v (length lent) (length room) ≡ refused n p
-      → (written (classification v (length lent) (length room)) v lent ≡ lent)
-      × (tabulated (classification v (length lent) (length room)) v room ≡ room)
+      → (firstAfter v lent room ≡ lent) × (secondAfter v lent room ≡ room)
   pub empty : (v : List ℕ) (number n p : ℕ) → recordCall v number ≡ refused n p → recordPart v number ≡ []
 
 -- The script's chain is a derivation, of at most 64 open frames, by start, extension and reduction over the listed columns.

@@ -7,11 +7,11 @@ use lib.ListN.{length, getD, drop}
 use Rattle.records.specs.Outcome.{accepted}
 use Rattle.records.specs.Atoms.{atoms}
 use Rattle.types.specs.Meaning.{Interpretation, Model, AlwaysEqual}
-use Rattle.types.specs.Comparison.{counts}
+use Rattle.types.specs.Comparison.{counts, comparison}
 use Rattle.types.specs.Bitmap.{bitmap, written}
 use Rattle.taxonomy.specs.Nearest.{NameOf, Nearest}
-use Rattle.taxonomy.specs.Taxonomy.{names, nameCount, nameAt, classification, tabulated}
-use Rattle.demands.specs.Table.{AcceptedVocabulary}
+use Rattle.taxonomy.specs.Taxonomy.{names, nameCount, nameAt, classification, firstAfter, secondAfter}
+use Rattle.demands.specs.Table.{AcceptedVocabulary, TermOf}
 
 -- Slip 1, "Nearest broader names".
 
@@ -44,11 +44,12 @@ pub record RightTable (v room after : List ℕ) : Type 0 where
   pub size : length after ≡ length room
 
 -- What makes the answer right: "The first buffer and both counts are as in the comparison", that is the bitmap of the
--- survivors, their number and that of the rounds; and the second buffer has the right table.
+-- survivors, whichever two terms are compared, their number and that of the rounds; and the second buffer has the right table.
 pub record Tabulated (v lent room : List ℕ) : Type 0 where
   pub answers : classification v (length lent) (length room) ≡ accepted (counts v)
-  pub first : written (classification v (length lent) (length room)) v lent ≡ bitmap v ++ drop 512 lent
-  pub second : RightTable v room (tabulated (classification v (length lent) (length room)) v room)
+  pub first : firstAfter v lent room ≡ bitmap v ++ drop 512 lent
+  pub same : (a b : ℕ) → TermOf v a → TermOf v b → firstAfter v lent room ≡ written (comparison v a b (length lent)) v lent
+  pub second : RightTable v room (secondAfter v lent room)
 
 -- The promise: of an accepted vocabulary of at most 12 atoms, with at least 512 and 144 bytes lent, the classification gives
 -- the right answer.

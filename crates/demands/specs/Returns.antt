@@ -46,7 +46,7 @@ pub data RecordReturns (v : List ℕ) (number : ℕ) (part : List ℕ) : Type 0 
 -- What goes with either answer of the comparison: "the number of survivors and of rounds that removed something (never over
 -- 2^k)", and the bytes after the call, the survivors "in the first 512 bytes, the rest of which are 0; later bytes keep their
 -- content". With the classification too: "The first buffer and both counts are as in the comparison."
-pub record Settled (rows : List Row) (v before after : List ℕ) (alive done : ℕ) : Type 0 where
+pub record SurvivorsTold (rows : List Row) (v before after : List ℕ) (alive done : ℕ) : Type 0 where
   pub none : NoneApplies rows
   pub counted : alive ≡ members (survivors v)
   pub elapsed : done ≡ rounds v
@@ -63,10 +63,10 @@ pub record Smallest (v : List ℕ) (a b t : ℕ) : Type 0 where
 -- show it by the element. Refused: the bytes are as they were.
 abbrev pub ComparisonReturns : List ℕ → ℕ → ℕ → List ℕ → List ℕ → Compared → Type 0
 ComparisonReturns v a b before after (compared.Equal alive done) =
-    AlwaysEqual v a b × Settled (comparisonTable v a b (length before)) v before after alive done
+    AlwaysEqual v a b × SurvivorsTold (comparisonTable v a b (length before)) v before after alive done
 ComparisonReturns v a b before after (compared.Different t alive done) =
     (AlwaysEqual v a b → ⊥) × Shown (readBack v after) v a b t × Smallest v a b t
-    × Settled (comparisonTable v a b (length before)) v before after alive done
+    × SurvivorsTold (comparisonTable v a b (length before)) v before after alive done
 ComparisonReturns v a b before after (compared.Refused n p) =
     Refuses (comparisonTable v a b (length before)) n p × (after ≡ before)
 
@@ -74,7 +74,7 @@ ComparisonReturns v a b before after (compared.Refused n p) =
 -- it. Refused: both buffers are as they were.
 abbrev pub ClassificationReturns : List ℕ → List ℕ → List ℕ → List ℕ → List ℕ → Classified → Type 0
 ClassificationReturns v before after room filled (classified.Counts alive done) =
-    Settled (classificationTable v (length before) (length room)) v before after alive done
+    SurvivorsTold (classificationTable v (length before) (length room)) v before after alive done
     × (filled ≡ taxonomy v ++ drop 144 room) × RightTable v room filled
 ClassificationReturns v before after room filled (classified.Refused n p) =
     Refuses (classificationTable v (length before) (length room)) n p × (after ≡ before) × (filled ≡ room)

@@ -1,7 +1,7 @@
-// The library's calls: those of the crates below, with the three demands as their contracts. Each says that the answer is the
-// definition's, what that tells a caller (specs/Returns.antt), and what the lent bytes are after the call. Only the comparison
-// and the classification are lent bytes that they may write. That a call ends on every input is part of what the prover
-// checks of every function.
+// The library's calls: those of the crates below, with the demands and the promises as their contracts. Each says that the
+// answer is the definition's, what that tells a caller (specs/Returns.antt), and what the lent bytes are after the call. Only
+// the comparison and the classification are lent bytes that they may write. That a call ends on every input is part of what
+// the prover checks of every function.
 use records::answers::Counted;
 use records::answers::Located;
 use scripts::answers::Judged;

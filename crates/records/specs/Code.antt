@@ -1,2 +1,2 @@
--- What only the code computes with. No promise of the four calls speaks of it.
+-- What only the code computes with. No promise of a call speaks of it.
 pub mod Fields

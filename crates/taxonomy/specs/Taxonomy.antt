@@ -51,7 +51,8 @@ entry v a b = cond (equivalent v a b) 2 (digit (strictlyBroader v a b && not (be
 abbrev pub taxonomyBytes : ℕ
 taxonomyBytes = atomLimit * atomLimit
 
--- "Rows go by the first name, one byte per name; the rest of the first 144 are zero"
+-- "With no query, for all pairs of names in record order, write one byte to a second lent buffer". "Rows go by the first name,
+-- one byte per name; the rest of the first 144 are zero".
 abbrev pub entryByte : List ℕ → ℕ → ℕ
 entryByte v n =
     cond (ltb n (nameCount v * nameCount v)) (entry v (nameAt v (n / nameCount v)) (nameAt v (n % nameCount v))) 0
@@ -63,7 +64,7 @@ taxonomy v = table taxonomyBytes (entryByte v)
 abbrev pub tableCheck : ℕ → Check
 tableCheck lent = require (leb taxonomyBytes lent) 26 0
 
--- "Turned away: 26, after 12"; there is no query, so no row 10. "both counts are as in the comparison".
+-- "Turned away: 26, after 12"; with no query there is no row 10. "both counts are as in the comparison".
 unfoldable pub classification : List ℕ → ℕ → ℕ → Outcome Counts
 classification v lent room =
     vocabularyCheck v then sizeCheck (atoms v) lent then tableCheck room then accepted (counts v)

@@ -26,14 +26,14 @@ ghost use Rattle.taxonomy.specs.Taxonomy.{taxonomyBytes, taxonomy, table
 ghost use Rattle.taxonomy.specs.Answers.{classified};
 
 // Rows 11, 12 and 26, where the vocabulary has k atoms.
-fn check_lent(k: usize, lent: usize, room: usize) -> Checked
+fn check_sizes(k: usize, lent: usize, room: usize) -> Checked
     ensures { λ r. ⌜ checked r ≡ (sizeCheck k lent then tableCheck room) ⌝ }
 {
     let size = check_size(k, lent);
     let Checked::Fine = size else {
         return size;
     };
-    pass_if(Names::PAIRS <= room, 26, 0)
+    pass_if(Names::TABLE_BYTES <= room, 26, 0)
 }
 
 // The answer for an accepted vocabulary of few enough atoms; both buffers are written.
@@ -68,7 +68,7 @@ pub fn classify(v: &[u8], lent: &mut [u8], room: &mut [u8]) -> Classified
         return classify_after_count(vocabulary);
     };
     let k = count_atoms(v);
-    let check = check_lent(k, lent.len(), room.len());
+    let check = check_sizes(k, lent.len(), room.len());
     let Checked::Fine = check else {
         return classify_after(check);
     };

@@ -8,22 +8,23 @@ ghost use Rattle.types.specs.Survivors.{survivors};
 ghost use Rattle.types.specs.Comparison.{atomLimit, typeLimit};
 ghost use Rattle.types.specs.Code.Words.{SameSet};
 ghost use Rattle.types.specs.Code.Settling.{Settleable};
-ghost use Rattle.taxonomy.specs.Code.Meets.{halfBits, halves, Small, NamesListed, Meets, low, high, jointly, jointlyBy};
-ghost use Rattle.taxonomy.specs.Code.Meets.{MeetsListed, Above};
+ghost use Rattle.taxonomy.specs.Code.Meets.{halfBits, halves, AtomNumbers, NamesListed, Meets, low};
+ghost use Rattle.taxonomy.specs.Code.Meets.{high, jointly, jointlyBy, MeetsListed, Above};
 
-// Half of the bits of a type; the meets of the types by these, and by the other half.
+// The meets of a set of types, for each value of the low half of their bits and of the high half.
 pub struct Halves {
     pub low: [u16; Halves::COUNT],
     pub high: [u16; Halves::COUNT],
 }
 
 impl Halves {
-    pub const BITS: u16 = 6;
+    // The bits of the low half, and how many values they have.
+    pub const BITS: u16 = TypeData::ATOMS as u16 / 2;
 
-    pub const COUNT: usize = 64;
+    pub const COUNT: usize = 1 << (TypeData::ATOMS / 2);
 
-    // The meet of no type.
-    pub const ALL: u16 = 4095;
+    // The meet of no type: all bits.
+    pub const ALL: u16 = (TypeData::TYPES - 1) as u16;
 }
 
 // The meets of the types below `size` that are in a set.
@@ -82,7 +83,7 @@ fn meet_names(
     highs: &[u16; Halves::COUNT],
 ) -> [u16; TypeData::ATOMS]
     requires { ⌜ names .count ≤ atomLimit ⌝ }
-    requires { ⌜ Small (names .atoms) ⌝ }
+    requires { ⌜ AtomNumbers (names .atoms) ⌝ }
     ensures { λ r. ⌜ MeetsListed (now (lows .entry)) (now (highs .entry)) (names .atoms) (names .count) r ⌝ }
 {
     let atoms = names.atoms;

@@ -20,8 +20,8 @@ pub struct Names {
 }
 
 impl Names {
-    // The bytes of a table with an entry for each pair of names.
-    pub const PAIRS: usize = TypeData::ATOMS * TypeData::ATOMS;
+    // The bytes of the largest table, with an entry for each pair of names.
+    pub const TABLE_BYTES: usize = TypeData::ATOMS * TypeData::ATOMS;
 }
 
 // 1 for an atom, else 0.
@@ -31,6 +31,7 @@ fn atoms_in(kind: u8) -> u16
     if is_atom(kind) { 1 } else { 0 }
 }
 
+// Lists the names of a vocabulary of few enough atoms.
 pub fn list_names(v: &[u8]) -> Names
     requires { ⌜ IsAccepted (now v) ⌝ }
     requires { ⌜ atoms (now v) ≤ atomLimit ⌝ }

@@ -8,7 +8,7 @@ ghost use lib.ListN.{length, drop};
 ghost use Rattle.records.specs.Finite.{table, bit};
 ghost use Rattle.types.specs.Comparison.{atomLimit};
 ghost use Rattle.taxonomy.specs.Taxonomy.{taxonomyBytes};
-ghost use Rattle.taxonomy.specs.Code.Meets.{Small, strictlyAbove, amid, entryOf, byteAt};
+ghost use Rattle.taxonomy.specs.Code.Meets.{AtomNumbers, strictlyAbove, amid, entryOf, byteAt};
 
 // Bit j of a word.
 fn has_bit(word: u16, j: u16) -> bool
@@ -25,7 +25,7 @@ fn is_strictly_broader(
     i: usize,
     j: usize,
 ) -> bool
-    requires { ⌜ Small (now atoms) ⌝ }
+    requires { ⌜ AtomNumbers (now atoms) ⌝ }
     requires { ⌜ i < atomLimit ⌝ }
     requires { ⌜ j < atomLimit ⌝ }
     ensures { λ r. ⌜ r ≡ strictlyAbove (now (atoms .entry)) (now (meets .entry)) i j ⌝ }
@@ -44,7 +44,7 @@ fn is_between(
     i: usize,
     j: usize,
 ) -> bool
-    requires { ⌜ Small (now atoms) ⌝ }
+    requires { ⌜ AtomNumbers (now atoms) ⌝ }
     requires { ⌜ n ≤ atomLimit ⌝ }
     requires { ⌜ i < atomLimit ⌝ }
     requires { ⌜ j < atomLimit ⌝ }
@@ -70,7 +70,7 @@ fn entry(
     i: usize,
     j: usize,
 ) -> u8
-    requires { ⌜ Small (now atoms) ⌝ }
+    requires { ⌜ AtomNumbers (now atoms) ⌝ }
     requires { ⌜ n ≤ atomLimit ⌝ }
     requires { ⌜ i < atomLimit ⌝ }
     requires { ⌜ j < atomLimit ⌝ }
@@ -90,7 +90,7 @@ fn entry(
 
 // Byte e of the table: rows of n entries, one after the other, then zeros.
 fn byte_at(atoms: &[u16; TypeData::ATOMS], meets: &[u16; TypeData::ATOMS], n: usize, e: usize) -> u8
-    requires { ⌜ Small (now atoms) ⌝ }
+    requires { ⌜ AtomNumbers (now atoms) ⌝ }
     requires { ⌜ n ≤ atomLimit ⌝ }
     ensures { λ r. ⌜ r ≡ byteAt (now (atoms .entry)) (now (meets .entry)) n e ⌝ }
 {
@@ -104,7 +104,7 @@ fn byte_at(atoms: &[u16; TypeData::ATOMS], meets: &[u16; TypeData::ATOMS], n: us
 
 // Writes the table over the first bytes of what is lent.
 pub fn write_table(names: Names, meets: &[u16; TypeData::ATOMS], lent: &mut [u8])
-    requires { ⌜ Small (names .atoms) ⌝ }
+    requires { ⌜ AtomNumbers (names .atoms) ⌝ }
     requires { ⌜ names .count ≤ atomLimit ⌝ }
     requires { ⌜ taxonomyBytes ≤ length (now lent) ⌝ }
     ensures { λ _. ⌜ now (lent .exit)
@@ -114,7 +114,7 @@ pub fn write_table(names: Names, meets: &[u16; TypeData::ATOMS], lent: &mut [u8]
     let atoms = names.atoms;
     let n = names.count;
     let mut e = 0;
-    while e < Names::PAIRS {
+    while e < Names::TABLE_BYTES {
         lent[e] = byte_at(&atoms, meets, n, e);
         e += 1;
     }

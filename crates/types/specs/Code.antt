@@ -1,4 +1,4 @@
--- What only the code computes with. No promise of the four calls speaks of it.
+-- What only the code computes with. No promise of a call speaks of it.
 pub mod Rules
 pub mod Words
 pub mod Settling

@@ -29,7 +29,7 @@ use Rattle.types.specs.declared.answers.Counts.{Counts}
 use Rattle.types.specs.Comparison.{Verdict, equal, different, typeLimit, comparison}
 use Rattle.types.proofs.Theorems.Survivors.{types-bound, rounds-bound, survivors-serving, survivors-few}
 use Rattle.types.proofs.Theorems.Verdicts as verdicts
-use Rattle.types.proofs.Theorems.Comparison.{counts, different-first}
+use Rattle.types.proofs.Theorems.Comparison.{verdict-tally, different-first}
 use Rattle.taxonomy.specs.Taxonomy.{classification}
 use Rattle.taxonomy.proofs.Theorems.Answers.{answered}
 use Rattle.scripts.specs.Format.{entryLimit, entries, queryOf, firstStep, chain}
@@ -189,11 +189,11 @@ module _ (v : List ℕ) (a b lent : ℕ) where
   answer-small : (x : Verdict) → comparison v a b lent ≡ accepted x → SmallVerdict most (accepted x)
   answer-small (equal s n) e =
       let few = types-bound v (verdicts.answered v a b lent (equal s n) e .few) in
-      let c = counts v a b lent (equal s n) e in
+      let c = verdict-tally v a b lent (equal s n) e in
       (omega (arith, c .0, survivors-few v), omega (arith, c .2))
   answer-small (different t s n) e =
       let few = types-bound v (verdicts.answered v a b lent (different t s n) e .few) in
-      let c = counts v a b lent (different t s n) e in
+      let c = verdict-tally v a b lent (different t s n) e in
       let first = different-first v a b lent t s n e in (
         omega (arith, survivors-serving v .small t (first .0)),
         omega (arith, c .0, survivors-few v),

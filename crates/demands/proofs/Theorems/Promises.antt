@@ -11,16 +11,18 @@ use lib.Seq.{drop-at}
 use Rattle.records.specs.Format.{count}
 use Rattle.records.specs.Atoms.{atoms}
 use Rattle.records.proofs.Theorems.Accepted.{AcceptedFacts, accepted-vocabulary}
+use Rattle.types.specs.Comparison.{atomLimit}
 use Rattle.types.specs.Meaning.{AlwaysEqual}
-use Rattle.taxonomy.specs.Taxonomy.{nameAt, entry, taxonomy}
+use Rattle.types.proofs.Theorems.Verdicts as verdicts
+use Rattle.taxonomy.specs.Taxonomy.{nameAt, entry, taxonomy, taxonomyBytes}
 use Rattle.taxonomy.proofs.Theorems.Names.{name-is, name-found, names-rise}
 use Rattle.taxonomy.proofs.Theorems.Entries.{entry-equal, equal-entry, entry-nearest, nearest-entry, entry-else}
 use Rattle.taxonomy.proofs.Theorems.Entries.{taxonomy-entry, taxonomy-rest, length-taxonomy}
 use Rattle.taxonomy.proofs.Theorems.Answers.{answers-always}
 use Rattle.demands.specs.Promises.{RightEntry, RightTable, NearestNames}
-use Rattle.demands.proofs.Theorems.Tables.{vocabulary-follows}
+use Rattle.demands.proofs.Theorems.Tables.{vocabulary-follows, term-passed}
 
-module _ (v : List ℕ) (good : AcceptedFacts v) (few : atoms v ≤ 12) where
+module _ (v : List ℕ) (good : AcceptedFacts v) (few : atoms v ≤ atomLimit) where
   right-entry : (a b : ℕ) → RightEntry v a b (entry v a b)
   right-entry a b =
       record {
@@ -31,10 +33,11 @@ module _ (v : List ℕ) (good : AcceptedFacts v) (few : atoms v ≤ 12) where
         zero-else = entry-else v good few a b;
       }
 
-  pub right-table : (room after : List ℕ) → 144 ≤ length room → after ≡ taxonomy v ++ drop 144 room → RightTable v room after
+  pub right-table : (room after : List ℕ) → taxonomyBytes ≤ length room → after ≡ taxonomy v ++ drop taxonomyBytes room
+      → RightTable v room after
   right-table room after h e =
       let long = length-taxonomy v in
-      let rest = drop 144 room in
+      let rest = drop taxonomyBytes room in
       rw e record {
         order = record { each = name-is v; rising = names-rise v; every = name-found v };
         entries = λ i j k l. rw (taxonomy-entry v rest few i j k l) (right-entry (nameAt v i) (nameAt v j));
@@ -42,8 +45,8 @@ module _ (v : List ℕ) (good : AcceptedFacts v) (few : atoms v ≤ 12) where
             let same : AlwaysEqual v (nameAt v i) (nameAt v j) = λ I model. absurd (none I model) in
             taxonomy-entry v rest few i j k l ∙ equal-entry v good few (nameAt v i) (nameAt v j) same;
         rest = taxonomy-rest v rest;
-        later = drop-at (taxonomy v) rest 144 long;
-        size = length-append (taxonomy v) rest ∙ omega (arith, length-drop 144 room);
+        later = drop-at (taxonomy v) rest taxonomyBytes long;
+        size = length-append (taxonomy v) rest ∙ omega (arith, length-drop taxonomyBytes room);
       }
 
 pub nearest-names : NearestNames
@@ -53,5 +56,10 @@ nearest-names v lent room good few first second =
     record {
       answers = answers;
       first = rw answers;
+      same = λ a b t u. rw (
+        answers,
+        verdicts.answers-always v a b (length lent) (count v) accepts (term-passed v a t)
+            (term-passed v b u) few first,
+      );
       second = right-table v (accepted-vocabulary v (count v) accepts) few room _ second (rw answers);
     }

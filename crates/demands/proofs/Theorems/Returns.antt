@@ -1,7 +1,7 @@
 -- What the calls return, from the equations of their contracts.
 --   vocabulary-returns, offset-returns, record-returns,
 --   comparison-returns, classification-returns, script-returns   of each call
---   settled, tally                                               what goes with the survivors
+--   survivors-told                                               what goes with the survivors
 -- Assumes nothing.
 use Prim.Native.Nat.{ℕ, _+_, _≤_}
 use native.Mathlib.Omega.{arith}
@@ -17,18 +17,15 @@ use Rattle.records.specs.declared.answers.Counted.the-variants as counted
 use Rattle.records.specs.declared.answers.Located.{Located}
 use Rattle.records.specs.declared.answers.Located.the-variants as located
 use Rattle.records.proofs.Theorems.Bounds.{record-within}
-use Rattle.records.specs.Finite.{members}
-use Rattle.types.specs.Survivors.{survivors, rounds}
 use Rattle.types.specs.declared.answers.Counts.{Counts}
 use Rattle.types.specs.Comparison.{equal, different, countsOf, comparison}
 use Rattle.types.specs.Bitmap.{written}
 use Rattle.types.specs.Answers as types
 use Rattle.types.specs.declared.answers.Compared.{Compared}
 use Rattle.types.specs.declared.answers.Compared.the-variants as compared
-use Rattle.types.proofs.Theorems.Comparison.{different-first, counts}
+use Rattle.types.proofs.Theorems.Comparison.{Tally, tally, verdict-tally, different-first}
 use Rattle.types.specs.Types.{types}
-use Rattle.types.proofs.Theorems.Survivors.{rounds-bound}
-use Rattle.taxonomy.specs.Taxonomy.{taxonomy, classification, tabulated}
+use Rattle.taxonomy.specs.Taxonomy.{taxonomyBytes, taxonomy, classification, tabulated}
 use Rattle.taxonomy.specs.Answers as answers
 use Rattle.taxonomy.specs.declared.answers.Classified.{Classified}
 use Rattle.taxonomy.specs.declared.answers.Classified.the-variants as classified
@@ -41,7 +38,7 @@ use Rattle.scripts.specs.declared.answers.Judged.{Judged}
 use Rattle.scripts.specs.declared.answers.Judged.the-variants as judged
 use Rattle.scripts.proofs.Theorems.Scripts.{checked-parts, accepted-derives, accepted-within}
 use Rattle.demands.specs.Table.{Row, Follows}
-use Rattle.demands.specs.Returns.{VocabularyReturns, OffsetReturns, RecordReturns, handed, empty, Settled, Smallest}
+use Rattle.demands.specs.Returns.{VocabularyReturns, OffsetReturns, RecordReturns, handed, empty, SurvivorsTold, Smallest}
 use Rattle.demands.specs.Returns.{ComparisonReturns, ClassificationReturns, ScriptReturns}
 use Rattle.demands.proofs.Theorems.Demands.{demand-2}
 use Rattle.demands.proofs.Theorems.Promises.{right-table}
@@ -67,18 +64,11 @@ record-returns v number part e = at (recordCall v number) refl e
         handed (w .0) (h ∙ rw (w .1)) (ap length h ∙ simp (length-take, length-drop) (omega arith))
     at (refused n p) q h = empty n p (record-follows v number .refused-only n p q) h
 
--- The numbers of survivors and of rounds.
-abbrev Tally : List ℕ → ℕ → ℕ → Type 0
-Tally v alive done = (alive ≡ members (survivors v)) × (done ≡ rounds v) × (done ≤ types v)
-
-tally : (v : List ℕ) (c : Counts) → c ≡ countsOf (members (survivors v)) (rounds v) → Tally v (c .survivors) (c .rounds)
-tally v c e = rw e (refl, refl, rounds-bound v)
-
 -- The answer of a call that follows its table and writes the survivors.
-settled : {A : Type 0} {rows : List Row} {value : A} {o : Outcome A} (v before after : List ℕ) (x : A) (alive done : ℕ)
+survivors-told : {A : Type 0} {rows : List Row} {value : A} {o : Outcome A} (v before after : List ℕ) (x : A) (alive done : ℕ)
     → Follows rows value o → o ≡ accepted x → after ≡ written o v before → Tally v alive done
-    → Settled rows v before after alive done
-settled v before after x alive done f e w c =
+    → SurvivorsTold rows v before after alive done
+survivors-told v before after x alive done f e w c =
     record { none = f .accepted-only x e .0; counted = c .0; elapsed = c .1; few = c .2; wrote = w ∙ rw e }
 
 module _ (v : List ℕ) (a b : ℕ) (before after : List ℕ) where
@@ -90,13 +80,13 @@ module _ (v : List ℕ) (a b : ℕ) (before after : List ℕ) where
       → after ≡ written (comparison v a b (length before)) v before → ComparisonReturns v a b before after r
   comparison-returns (compared.Equal s n) e w =
       let f = comparison-follows v a b (length before) in
-      let c = counts v a b (length before) (equal s n) (sym e) in
-      (right-verdict v a b before (equal s n) (sym e), settled v before after (equal s n) s n f (sym e) w c)
+      let c = verdict-tally v a b (length before) (equal s n) (sym e) in
+      (right-verdict v a b before (equal s n) (sym e), survivors-told v before after (equal s n) s n f (sym e) w c)
   comparison-returns (compared.Different t s n) e w =
       let f = comparison-follows v a b (length before) in
-      let c = counts v a b (length before) (different t s n) (sym e) in
+      let c = verdict-tally v a b (length before) (different t s n) (sym e) in
       let apart = right-verdict v a b before (different t s n) (sym e) in
-      (apart .0, rw w (apart .1), smallest t s n (sym e), settled v before after (different t s n) s n f (sym e) w c)
+      (apart .0, rw w (apart .1), smallest t s n (sym e), survivors-told v before after (different t s n) s n f (sym e) w c)
   comparison-returns (compared.Refused n p) e w =
       (comparison-follows v a b (length before) .refused-only n p (sym e), w ∙ rw (← e))
 
@@ -109,8 +99,8 @@ module _ (v before after room filled : List ℕ) where
   classification-returns (classified.Counts s n) e w k =
       let f = classification-follows v (length before) (length room) in
       let c = answered v (length before) (length room) (countsOf s n) (sym e) in
-      let wrote : filled ≡ taxonomy v ++ drop 144 room = k ∙ rw (← e) in (
-        settled v before after (countsOf s n) s n f (sym e) w (tally v (countsOf s n) (c .answer)),
+      let wrote : filled ≡ taxonomy v ++ drop taxonomyBytes room = k ∙ rw (← e) in (
+        survivors-told v before after (countsOf s n) s n f (sym e) w (tally v (countsOf s n) (c .answer)),
         wrote,
         right-table v (c .good) (c .few) room filled (c .second) wrote,
       )

@@ -17,8 +17,9 @@ use Rattle.records.specs.Check.{lengthFits, lengthCheck, headerFits, kindFits, 
 use Rattle.records.specs.Check.{linkCheck, recordsCheck, vocabularyCheck}
 use Rattle.records.specs.Call.{recordCall}
 use Rattle.records.specs.Atoms.{atoms}
-use Rattle.types.specs.Comparison.{verdict, counts, termCheck, atomsCheck, lentCheck, sizeCheck, queryCheck, comparison}
-use Rattle.taxonomy.specs.Taxonomy.{tableCheck, classification}
+use Rattle.types.specs.Comparison.{verdict, counts, termCheck, atomsCheck, lentCheck, sizeCheck, queryCheck}
+use Rattle.types.specs.Comparison.{atomLimit, bitmapBytes, comparison}
+use Rattle.taxonomy.specs.Taxonomy.{taxonomyBytes, tableCheck, classification}
 use Rattle.scripts.specs.Format.{entryAt, entries, queryOf, firstStep, lineOf, chain}
 use Rattle.scripts.specs.Form as script
 use Rattle.records.specs.Finite.{isNil}
@@ -71,7 +72,8 @@ module _ (v : List ℕ) where
   pub comparison-follows : (a b lent : ℕ) → Follows (comparisonTable v a b lent) (verdict v a b) (comparison v a b lent)
   unfolding comparison
   comparison-follows a b lent =
-      let query = tries-term a (tries-term b (tries-row (leb (atoms v) 12) 11 (atoms v) (tries-last (leb 512 lent) 12 0))) in
+      let sizes = tries-row (leb (atoms v) atomLimit) 11 (atoms v) (tries-last (leb bitmapBytes lent) 12 0) in
+      let query = tries-term a (tries-term b sizes) in
       follows (tries-append tries-vocabulary query) (vocabulary-then v (queryCheck v a b lent) (accepted (verdict v a b)))
 
   pub classification-follows : (lent room : ℕ)
@@ -79,7 +81,8 @@ module _ (v : List ℕ) where
   unfolding classification
   classification-follows lent room =
       let size = sizeCheck (atoms v) lent in
-      let rows = tries-row (leb (atoms v) 12) 11 (atoms v) (tries-row (leb 512 lent) 12 0 (tries-last (leb 144 room) 26 0)) in
+      let buffers = tries-row (leb bitmapBytes lent) 12 0 (tries-last (leb taxonomyBytes room) 26 0) in
+      let rows = tries-row (leb (atoms v) atomLimit) 11 (atoms v) buffers in
       follows (tries-append tries-vocabulary rows)
       (vocabulary-then v size (tableCheck room then accepted (counts v))
       ∙ regroup (recordsCheck v) (atomsCheck (atoms v)) (lentCheck lent) (tableCheck room))

@@ -1,4 +1,5 @@
 -- Tables filled one entry after the other, and words built bit by bit: one turn of a loop, over plain values.
+--   set-each                                        what holds of each entry after one was set
 --   Filled, fill-start, fill-turn                   a table filled in order
 --   RightAt, right-turn, right-kept                 a part of a table filled in order
 --   tableOver, over-start, over-turn, over-length   a table written over the front of a list
@@ -20,6 +21,15 @@ use lib.Seq.{getD-set-same, getD-set-other}
 use Rattle.records.specs.Finite.{digit, allBelow, table, number}
 use Rattle.records.proofs.Laws.Bits.{number-step, number-small, number-cong}
 use Rattle.records.proofs.Laws.Sets.{length-table}
+
+-- What holds of the new entry at its place, and of every other at its own, holds of each.
+pub set-each : {A : Type 0} (P : ℕ → A → Type 0) (l : List A) (i : ℕ) (x d : A) → i < length l → P i x
+    → ((j : ℕ) → (j ≡ i → ⊥) → P j (getD l j d)) → (j : ℕ) → P j (getD (set l i x) j d)
+set-each P l i x d h new old j = at (ℕ-discrete j i)
+  where
+    at : Dec (j ≡ i) → P j (getD (set l i x) j d)
+    at (yes e) = rw (e, getD-set-same l i x d h) new
+    at (no n) = rw (getD-set-other l i j x d n) (old j n)
 
 -- The entries below i are right.
 abbrev pub Right : {A : Type 0} → A → List A → (ℕ → A) → ℕ → Type 0

@@ -2,7 +2,7 @@
 --   rank-turn                         atoms counted, one record further
 --   rank-mono, rank-next, rank-same   a later atom has a greater number
 --   rank-below, rank-bound            an atom's number is below their count, and no more than its record's
---   class-few                         records of a class of atoms are no more than the atoms
+--   class-few, names-few              records of a class of atoms, as names are, are no more than the atoms
 --   name-atom                         a name is an atom
 -- Assumes nothing.
 use Prim.Native.Nat.{ℕ, zero, suc, _+_, _≤_, _<_}
@@ -74,6 +74,16 @@ class-few test each v (suc n) =
       entries-length (λ i. test (kindOf (recordAt v i .kind) .class)) n,
       each (kindOf (recordAt v n .kind) .class),
     )
+
+names-atoms : (c : Class) → digit (areNames c) ≤ digit (areAtoms c)
+names-atoms Silent = omega arith
+names-atoms Connective = omega arith
+names-atoms Name = omega arith
+names-atoms Restriction = omega arith
+names-atoms Statement = omega arith
+
+pub names-few : (v : List ℕ) (n : ℕ) → entries (λ i. isName (recordAt v i .kind)) n ≤ rank v n
+names-few = class-few areNames names-atoms
 
 pub name-atom : (k : ℕ) → isName k ≡ true → isAtom k ≡ true
 name-atom k = at (kindOf k .class)

@@ -1,4 +1,4 @@
--- What the code computes with: rows 4 to 7 at a record, field by field. No promise of the four calls speaks of it.
+-- What the code computes with: rows 4 to 7 at a record, field by field. No promise of a call speaks of it.
 use Prim.Native.Nat.{ℕ, _*_, _≤_, min}
 use mathlib.Core.Path.{_≡_}
 use mathlib.Core.Bool.{Bool, cond, _&&_, _||_}

@@ -1,7 +1,6 @@
 -- That the meets say which names are broader.
 --   joint-meet                 the meet of the types that have a bit, from the meets by a part of the bits that has it
 --   atom-meet                  the same by the half that has it
---   NameFacts, name-facts      a name is an atom, whose number is below the limit
 --   meets-above                the words of the names say which names are broader
 -- Assumes nothing.
 use Prim.Native.Nat.{ℕ, _+_, _-_, _≤_, _<_}
@@ -18,11 +17,9 @@ use Rattle.records.specs.Kinds.{isAtom}
 use Rattle.records.specs.Atoms.{rank, atoms}
 use Rattle.records.specs.Finite.{allBelow, has, bit}
 use Rattle.records.proofs.Laws.Below.{all-intro, all-at, all-cong}
-use Rattle.records.proofs.Laws.Listing.{entry-sound}
 use Rattle.records.proofs.Laws.Tests.{both-left, both-right, both-true, implies-true, implies-rest, same-truth}
 use Rattle.records.proofs.Laws.Width.{bit-low, bit-high}
 use Rattle.records.proofs.Theorems.Accepted.{accepted-vocabulary}
-use Rattle.records.proofs.Theorems.Ranks.{rank-below, name-atom}
 use Rattle.types.specs.Types.{types}
 use Rattle.types.specs.Survivors.{survivors}
 use Rattle.types.specs.Comparison.{atomLimit, typeLimit}
@@ -30,11 +27,11 @@ use Rattle.types.specs.Code.Words.{SameSet}
 use Rattle.types.specs.Code.Settling.{Settleable}
 use Rattle.types.proofs.Theorems.Survivors.{types-bound}
 use Rattle.types.proofs.Theorems.Truth.{truth-atom}
-use Rattle.taxonomy.specs.Taxonomy.{nameCount, nameAt, broader}
+use Rattle.taxonomy.specs.Taxonomy.{nameAt, broader}
 use Rattle.taxonomy.specs.Code.Meets.{halfBits, halves, always, Meets, low, high, jointly, jointlyBy}
 use Rattle.taxonomy.specs.Code.Meets.{NamesListed, MeetsListed, Above}
 use Rattle.taxonomy.specs.declared.names.Names.{Names}
-use Rattle.taxonomy.proofs.Theorems.Names.{named}
+use Rattle.taxonomy.proofs.Theorems.Names.{name-facts}
 
 -- Bit p of a type is bit j of its part.
 module _ (part : ℕ → ℕ) (S : List Bool) (n : ℕ) (table : List ℕ) (m : Meets part S n table)
@@ -85,17 +82,6 @@ module _ (S : List Bool) (n : ℕ) (few : n ≤ typeLimit) (lows highs : List �
           rw (le-ltb p halfBits (omega arith))
           (joint-meet high S n highs h (λ t b. omega arith) (p - halfBits) p
           (λ t. bit-high halfBits t (p - halfBits) ∙ ap (bit t) sum) q less)
-
--- What is known of name m.
-pub record NameFacts (v : List ℕ) (m : ℕ) : Type 0 where
-  pub atom : isAtom (recordAt v (nameAt v m) .kind) ≡ true
-  pub below : rank v (nameAt v m) < atoms v
-
-pub name-facts : (v : List ℕ) (m : ℕ) → m < nameCount v → NameFacts v m
-name-facts v m h =
-    let e = entry-sound (named v) (count v) m h in
-    let atom = name-atom (recordAt v (nameAt v m) .kind) (e .passes) in
-    record { atom = atom; below = rank-below v (nameAt v m) (e .before) atom }
 
 module _ (v : List ℕ) (k : ℕ) (s : Settleable v k) (names : Names) (listed : NamesListed v names) (alive : List Bool)
     (same : SameSet alive (survivors v)) where

@@ -4,20 +4,18 @@
 -- Assumes nothing.
 use Prim.Native.Nat.{ℕ, _+_, _^_, _-_, _<_}
 use native.Mathlib.Omega.{arith}
-use native.Mathlib.Decide.{ℕ-discrete}
 use mathlib.Core.Path.{_≡_, refl, sym, _∙_}
 use mathlib.Core.Bool.{Bool, true, false, not, _&&_, _||_, and-false}
 use mathlib.Core.List.{List}
 use lib.Bits.{bitAnd}
 use lib.Dec.{eqb}
 use lib.ListN.{length, getD, set, length-set}
-use lib.Seq.{getD-set-same, getD-set-other}
 use borrow.Author.Tests.{eq-eqb, ne-eqb}
 use Rattle.records.specs.Finite.{allBelow, has, bit}
 use Rattle.records.proofs.Laws.Tests.{both-true}
 use Rattle.records.proofs.Laws.Bits.{bit-and}
 use Rattle.records.proofs.Laws.Width.{bit-ones}
-use Rattle.records.proofs.Laws.Filling.{all-start, all-turn, all-holds-turn}
+use Rattle.records.proofs.Laws.Filling.{set-each, all-start, all-turn, all-holds-turn}
 use Rattle.types.specs.Comparison.{atomLimit}
 use Rattle.taxonomy.specs.Code.Meets.{halves, Meets}
 
@@ -49,16 +47,21 @@ module _ (part : ℕ → ℕ) (S : List Bool) (table : List ℕ) where
     pub meets-more : has S t ≡ true → part t < halves
         → Meets part S (t + 1) (set table (part t) (bitAnd (getD table (part t) 0) t))
     meets-more inside small =
-        record { size = length-set table (part t) _ ∙ m .size; meet-at = λ x h q less. at x h q less (ℕ-discrete x (part t)) }
+        record {
+          size = length-set table (part t) _ ∙ m .size;
+          meet-at = λ x h q less. set-each (λ x w. x < halves → bit w q ≡ allBelow (λ u. not (valued x u) || bit u q) (t + 1))
+              table (part t) (bitAnd (getD table (part t) 0) t) 0 (omega (arith, m .size)) (λ h. here q less)
+              (λ x n h. there x h q less n) x h;
+        }
       where
-        at : (x : ℕ) → x < halves → (q : ℕ) → q < atomLimit → Dec (x ≡ part t)
-            → bit (getD (set table (part t) (bitAnd (getD table (part t) 0) t)) x 0) q
-            ≡ allBelow (λ u. not (valued x u) || bit u q) (t + 1)
-        at x h q less (yes e) =
-            rw (e, getD-set-same table (part t) (bitAnd (getD table (part t) 0) t) 0 (omega (arith, m .size)))
-            (meet-turn (valued (part t)) (λ t. t) t q (getD table (part t) 0) (m .meet-at (part t) small q less) t
-            (both-true _ _ inside (eq-eqb (part t) (part t) refl)) refl)
-        at x h q less (no n) =
-            rw (getD-set-other table (part t) x (bitAnd (getD table (part t) 0) t) 0 n)
-            (keep-turn (valued x) (λ t. t) t q (getD table x 0) (m .meet-at x h q less)
-            (rw (ne-eqb (part t) x (λ e. n (sym e))) (and-false (has S t))))
+        here : (q : ℕ) → q < atomLimit
+            → bit (bitAnd (getD table (part t) 0) t) q ≡ allBelow (λ u. not (valued (part t) u) || bit u q) (t + 1)
+        here q less =
+            meet-turn (valued (part t)) (λ t. t) t q (getD table (part t) 0) (m .meet-at (part t) small q less) t
+            (both-true _ _ inside (eq-eqb (part t) (part t) refl)) refl
+
+        there : (x : ℕ) → x < halves → (q : ℕ) → q < atomLimit → (x ≡ part t → ⊥)
+            → bit (getD table x 0) q ≡ allBelow (λ u. not (valued x u) || bit u q) (t + 1)
+        there x h q less n =
+            keep-turn (valued x) (λ t. t) t q (getD table x 0) (m .meet-at x h q less)
+            (rw (ne-eqb (part t) x (λ e. n (sym e))) (and-false (has S t)))

@@ -1,8 +1,9 @@
 -- What the call answers and leaves, by the check that decides.
---   Called                             the answer and the lent bytes are those of the classification
---   refused-vocabulary, refused-lent   a check refuses: nothing is written
---   lent-passed, lent-settleable       what the checks tell where all pass
---   tabulated-call                     then
+--   sizeRows                             rows 11, 12 and 26
+--   Called                               the answer and the lent bytes are those of the classification
+--   refused-vocabulary, refused-sizes    a check refuses: nothing is written
+--   sizes-passed, sizes-settleable       what the checks tell where all pass
+--   tabulated-call                       the answer and the bytes then
 -- Assumes nothing.
 use Prim.Native.Nat.{ℕ}
 use mathlib.Core.Path.{_≡_, sym, ap, _∙_}
@@ -32,10 +33,10 @@ module _ (v lent room : List ℕ) where
   outcome = classification v (length lent) (length room)
 
   -- Rows 11, 12 and 26.
-  abbrev pub lentRows : Check
-  lentRows = sizeCheck (atoms v) (length lent) then tableCheck (length room)
+  abbrev pub sizeRows : Check
+  sizeRows = sizeCheck (atoms v) (length lent) then tableCheck (length room)
 
-  in-order : outcome ≡ (vocabularyCheck v then lentRows then accepted (counts v))
+  in-order : outcome ≡ (vocabularyCheck v then sizeRows then accepted (counts v))
   unfolding classification
   in-order =
       ap (λ (o : Outcome Counts). vocabularyCheck v then o)
@@ -57,27 +58,27 @@ module _ (v lent room : List ℕ) where
     accepted-vocabulary-at : vocabularyCheck v ≡ accepted m
     accepted-vocabulary-at = sym counting ∙ ap counted records
 
-    pub refused-lent : (answer : Classified) (q : Checked) (x : Outcome Counts) (n p : ℕ) → checked q ≡ lentRows
+    pub refused-sizes : (answer : Classified) (q : Checked) (x : Outcome Counts) (n p : ℕ) → checked q ≡ sizeRows
         → q ≡ check.Refused n p → classified answer ≡ (checked q then x) → Called answer lent room
-    refused-lent answer q x n p e told h =
-        let no : lentRows ≡ refused n p = sym e ∙ ap checked told in
+    refused-sizes answer q x n p e told h =
+        let no : sizeRows ≡ refused n p = sym e ∙ ap checked told in
         let refuses : outcome ≡ refused n p = in-order ∙ rw (accepted-vocabulary-at, no) in
         (h ∙ rw (told, refuses), (rw refuses, rw refuses))
 
-    module _ (q : Checked) (asks : checked q ≡ lentRows) (fine : q ≡ check.Fine) where
+    module _ (q : Checked) (asks : checked q ≡ sizeRows) (fine : q ≡ check.Fine) where
       answers : outcome ≡ accepted (counts v)
       answers =
-          let yes : lentRows ≡ pass = sym asks ∙ ap checked fine in
+          let yes : sizeRows ≡ pass = sym asks ∙ ap checked fine in
           in-order ∙ rw (accepted-vocabulary-at, yes)
 
-      pub lent-passed : Answered v (length lent) (length room) (counts v)
-      lent-passed = answered v (length lent) (length room) (counts v) answers
+      pub sizes-passed : Answered v (length lent) (length room) (counts v)
+      sizes-passed = answered v (length lent) (length room) (counts v) answers
 
-      pub lent-settleable : (k : ℕ) → k ≡ atoms v → Settleable v k
-      lent-settleable k e =
+      pub sizes-settleable : (k : ℕ) → k ≡ atoms v → Settleable v k
+      sizes-settleable k e =
           record {
             accepts = accepted-vocabulary-at ∙ ap (λ (n : ℕ). accepted n) (vocabulary-count v m accepted-vocabulary-at);
-            few = lent-passed .few;
+            few = sizes-passed .few;
             counts = e;
           }
 

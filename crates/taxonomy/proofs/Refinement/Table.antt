@@ -1,10 +1,9 @@
 -- The table of nearest names as the code makes it.
---   square-few        there are few pairs of few names
 --   OfPair, pair-at   the row and the column of a byte
 --   table-right       from words that say which names are broader, the table is the paper's
 -- Assumes nothing.
-use Prim.Native.Nat.{ℕ, zero, suc, _*_, _/_, _%_, _≤_, _<_}
-use native.Mathlib.Nat.{le-trans, mul-le-mul-right, mul-le-mul-left, mod-lt, div-lt-iff-lt-mul, zero-lt-suc}
+use Prim.Native.Nat.{ℕ, zero, suc, _*_, _/_, _%_, _<_}
+use native.Mathlib.Nat.{mod-lt, div-lt-iff-lt-mul, zero-lt-suc}
 use native.Mathlib.Omega.{arith}
 use native.Mathlib.Decide.{decLt}
 use mathlib.Core.Path.{_≡_, ap, _∙_}
@@ -18,9 +17,6 @@ use Rattle.taxonomy.specs.Taxonomy.{nameCount, nameAt, broader, strictly
 use Rattle.taxonomy.specs.Taxonomy.{taxonomy}
 use Rattle.taxonomy.specs.Code.Meets.{NamesListed, Above, isAbove, strictlyAbove, amid, entryOf, byteAt}
 use Rattle.taxonomy.specs.declared.names.Names.{Names}
-
-pub square-few : (n limit : ℕ) → n ≤ limit → n * n ≤ limit * limit
-square-few n limit h = le-trans (mul-le-mul-right n h) (mul-le-mul-left limit h)
 
 pub record OfPair (n e : ℕ) : Type 0 where
   pub some : 0 < n

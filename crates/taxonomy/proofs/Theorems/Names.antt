@@ -2,22 +2,22 @@
 --   named                     whether a record is a name
 --   name-is, name-found       each name listed is one, and each one is listed
 --   names-rise                later names have greater records
---   names-few, names-within   there are no more of them than atoms, so their pairs have a byte each
+--   names-within              there are no more of them than atoms, so their pairs have a byte each
+--   NameFacts, name-facts     a name is an atom, whose number is below their count
 -- Assumes nothing.
 use Prim.Native.Nat.{ℕ, _*_, _≤_, _<_}
 use native.Mathlib.Omega.{arith}
 use native.Mathlib.Nat.{mul-le-mul}
 use mathlib.Core.Path.{_≡_, sym, _∙_}
-use mathlib.Core.Bool.{Bool}
+use mathlib.Core.Bool.{Bool, true}
 use mathlib.Core.List.{List}
 use borrow.Author.Tests.{eqb-true, eq-eqb}
 use Rattle.records.specs.Format.{recordAt, count}
-use Rattle.records.specs.Kinds.{Class, Silent, Connective, Name, Restriction, Statement, areAtoms, areNames, isName}
+use Rattle.records.specs.Kinds.{isAtom, isName}
 use Rattle.records.specs.Atoms.{rank, atoms}
-use Rattle.records.specs.Finite.{digit}
-use Rattle.records.proofs.Laws.Listing.{entries, entry-sound, entry-found, entry-rises}
+use Rattle.records.proofs.Laws.Listing.{entry-sound, entry-found, entry-rises}
 use Rattle.records.proofs.Laws.Ranges.{name-range}
-use Rattle.records.proofs.Theorems.Ranks.{class-few}
+use Rattle.records.proofs.Theorems.Ranks.{names-few, name-atom, rank-below}
 use Rattle.types.specs.Comparison.{atomLimit}
 use Rattle.taxonomy.specs.Nearest.{NameOf}
 use Rattle.taxonomy.specs.Taxonomy.{nameCount, nameAt, taxonomyBytes}
@@ -25,16 +25,6 @@ use Rattle.taxonomy.specs.Taxonomy.{nameCount, nameAt, taxonomyBytes}
 -- Whether record i is a name.
 abbrev pub named : List ℕ → ℕ → Bool
 named v i = isName (recordAt v i .kind)
-
-names-atoms : (c : Class) → digit (areNames c) ≤ digit (areAtoms c)
-names-atoms Silent = omega arith
-names-atoms Connective = omega arith
-names-atoms Name = omega arith
-names-atoms Restriction = omega arith
-names-atoms Statement = omega arith
-
-pub names-few : (v : List ℕ) (n : ℕ) → entries (named v) n ≤ rank v n
-names-few v n = class-few areNames names-atoms v n
 
 module _ (v : List ℕ) where
   pub name-is : (m : ℕ) → m < nameCount v → NameOf v (nameAt v m)
@@ -56,3 +46,14 @@ module _ (v : List ℕ) where
     names-within =
         let n : nameCount v ≤ atomLimit = omega (arith, names-few v (count v)) in
         mul-le-mul n n
+
+-- What is known of name m.
+pub record NameFacts (v : List ℕ) (m : ℕ) : Type 0 where
+  pub atom : isAtom (recordAt v (nameAt v m) .kind) ≡ true
+  pub below : rank v (nameAt v m) < atoms v
+
+pub name-facts : (v : List ℕ) (m : ℕ) → m < nameCount v → NameFacts v m
+name-facts v m h =
+    let e = entry-sound (named v) (count v) m h in
+    let atom = name-atom (recordAt v (nameAt v m) .kind) (e .passes) in
+    record { atom = atom; below = rank-below v (nameAt v m) (e .before) atom }

@@ -1,6 +1,6 @@
--- Broader names as the code finds them. The meet of a set of types, their bitwise and, has bit q where atom q is true at all of them:
--- of the survivors at which name p is true it tells which names are broader. The code keeps the meets of the survivors that
--- share the low half of their bits, and of those that share the high half; each atom's meet is a meet of these.
+-- Broader names as the code finds them. The meet of a set of types, their bitwise and, has bit q where atom q is true at all of
+-- them: of the survivors at which a name is true it tells which names are broader. The code keeps the meets of the survivors
+-- that share the low half of their bits, and of those that share the high half; each atom's meet is a meet of these.
 use Prim.Native.Nat.{ℕ, _-_, _*_, _/_, _%_, _^_, _<_}
 use mathlib.Core.Path.{_≡_}
 use mathlib.Core.Bool.{Bool, cond, not, _&&_, _||_}
@@ -21,14 +21,14 @@ abbrev pub halves : ℕ
 halves = 2 ^ halfBits
 
 -- All entries of a list number atoms.
-abbrev pub Small : List ℕ → Type 0
-Small atoms = (m : ℕ) → getD atoms m 0 < atomLimit
+abbrev pub AtomNumbers : List ℕ → Type 0
+AtomNumbers atoms = (m : ℕ) → getD atoms m 0 < atomLimit
 
--- The names, each by its number among the atoms; past them there are zeros.
+-- The names, each by its number among the atoms; all entries are such numbers.
 pub record NamesListed (v : List ℕ) (names : Names) : Type 0 where
   pub all : names .count ≡ nameCount v
   pub atom-at : (m : ℕ) → m < nameCount v → getD (names .atoms) m 0 ≡ rank v (nameAt v m)
-  pub small : Small (names .atoms)
+  pub small : AtomNumbers (names .atoms)
 
 -- A word has bit q where atom q is true at every type below n that passes a test: it is their meet.
 abbrev pub always : (ℕ → Bool) → ℕ → ℕ → Bool
@@ -48,7 +48,7 @@ low t = t % halves
 abbrev pub high : ℕ → ℕ
 high t = t / halves
 
--- Bit q of the meet of those words of a table, below x, whose place has bit p.
+-- Bit q of the meet of those words of a table, below n, whose place has bit p.
 abbrev pub jointly : List ℕ → ℕ → ℕ → ℕ → Bool
 jointly table p n q = allBelow (λ x. not (bit x p) || bit (getD table x 0) q) n
 

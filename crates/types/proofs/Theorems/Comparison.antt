@@ -3,7 +3,8 @@
 --   written-survivors   the survivors are the elements of the interpretation written, a model if there is one
 --   different-shown     with Different, it is a model in which the element named belongs to one of the two terms alone
 --   different-first     that element is the smallest survivor at which they differ
---   counts              the numbers of survivors and of rounds
+--   Tally, tally        the numbers of survivors and of rounds
+--   verdict-tally       those of a verdict
 --   none-equal          with no survivor everything is Equal
 -- Assumes nothing.
 use Prim.Native.Nat.{ℕ, _≤_, _<_}
@@ -18,6 +19,8 @@ use Rattle.types.specs.Meaning.{Element, belongs, Model, AlwaysEqual}
 use Rattle.types.specs.Types.{types, truth}
 use Rattle.types.specs.Survivors.{rounds, survivors}
 use Rattle.types.specs.Comparison.{Verdict, equal, different, distinguishes, firstDistinguishing, bitmapBytes, comparison}
+use Rattle.types.specs.Comparison.{counts}
+use Rattle.types.specs.declared.answers.Counts.{Counts}
 use Rattle.types.specs.Bitmap.{written, readBack}
 use Rattle.records.proofs.Laws.Below.{least-holds}
 use Rattle.records.proofs.Laws.Sets.{members-zero}
@@ -27,10 +30,16 @@ use Rattle.types.proofs.Theorems.Verdicts.{Answered, answered, Decided,
 use Rattle.types.proofs.Theorems.Verdicts.{distinguishes-survivor, distinguishes-differ, indistinct-same}
 use Rattle.types.proofs.Theorems.Verdicts.{indistinct-equal, distinguishes-shown, distinguishes-unequal}
 
--- The counts that go with either answer.
-abbrev pub Counts : List ℕ → Verdict → Type 0
-Counts v (equal s n) = (s ≡ members (survivors v)) × (n ≡ rounds v) × (n ≤ types v)
-Counts v (different t s n) = (s ≡ members (survivors v)) × (n ≡ rounds v) × (n ≤ types v)
+-- The counts: the numbers of survivors and of rounds; those that go with either answer.
+abbrev pub Tally : List ℕ → ℕ → ℕ → Type 0
+Tally v s n = (s ≡ members (survivors v)) × (n ≡ rounds v) × (n ≤ types v)
+
+abbrev pub VerdictTally : List ℕ → Verdict → Type 0
+VerdictTally v (equal s n) = Tally v s n
+VerdictTally v (different t s n) = Tally v s n
+
+pub tally : (v : List ℕ) (c : Counts) → c ≡ counts v → Tally v (c .survivors) (c .rounds)
+tally v c e = rw e (refl, refl, rounds-bound v)
 
 module _ (v : List ℕ) (a b lent : ℕ) where
   -- "The answer is Equal or Different": Equal exactly where the two terms are equal in every finite interpretation that satisfies
@@ -80,10 +89,10 @@ module _ (v : List ℕ) (a b lent : ℕ) where
       )
 
   -- "with either go the number of survivors and of rounds that removed something (never over 2^k)"
-  pub counts : (x : Verdict) → comparison v a b lent ≡ accepted x → Counts v x
-  counts x e = at (decided v a b lent x e)
+  pub verdict-tally : (x : Verdict) → comparison v a b lent ≡ accepted x → VerdictTally v x
+  verdict-tally x e = at (decided v a b lent x e)
     where
-      at : Decided v a b x → Counts v x
+      at : Decided v a b x → VerdictTally v x
       at (same none q) = rw q (refl, refl, rounds-bound v)
       at (apart l q) = rw q (refl, refl, rounds-bound v)
 

@@ -1,4 +1,4 @@
--- The truth rules as the code keeps them, and the tables it decodes a vocabulary into. No promise of the four calls
+-- The truth rules as the code keeps them, and the tables it decodes a vocabulary into. No promise of a call
 -- speaks of them: proofs/Refinement/TruthRules.antt shows that the rules are the paper's.
 use Prim.Native.Nat.{ℕ, _+_, _*_, _<_}
 use mathlib.Core.Path.{_≡_}

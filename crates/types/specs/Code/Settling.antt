@@ -1,5 +1,5 @@
--- What the comparison settles before its answer, as the code keeps it: lists, the data of each type, and the tables that
--- are lent from call to call. No promise of the four calls speaks of them.
+-- What the comparison and the classification settle before their answers, as the code keeps it: lists, the data of each type,
+-- and the tables that are lent from call to call. No promise of a call speaks of them.
 use Prim.Native.Nat.{ℕ, zero, suc, _+_, _≤_, _<_}
 use mathlib.Core.Path.{_≡_}
 use mathlib.Core.Bool.{Bool, true, false, Bool·beq, not}

@@ -1,4 +1,4 @@
--- The words by which the code tests `served`, and the table it keeps of them. No promise of the four calls speaks of
+-- The words by which the code tests `served`, and the table it keeps of them. No promise of a call speaks of
 -- them: proofs/Refinement/Served.antt shows that the test is the paper's.
 use Prim.Native.Nat.{ℕ, zero, suc, _-_, _^_, _≤_, _<_}
 use mathlib.Core.Path.{_≡_}

@@ -10,8 +10,8 @@ use Rattle.records.specs.Answers.{checked}
 use Rattle.records.specs.Outcome.{_then_}
 use Rattle.types.specs.Comparison.{sizeCheck}
 use Rattle.taxonomy.specs.Taxonomy.{tableCheck}
-use Rattle.taxonomy.proofs.Refinement.Outcomes.{lentRows, refused-vocabulary, refused-lent, lent-passed}
-use Rattle.taxonomy.proofs.Refinement.Outcomes.{lent-settleable, tabulated-call}
+use Rattle.taxonomy.proofs.Refinement.Outcomes.{sizeRows, refused-vocabulary, refused-sizes, sizes-passed}
+use Rattle.taxonomy.proofs.Refinement.Outcomes.{sizes-settleable, tabulated-call}
 use Rattle.taxonomy.proofs.call.classify.Statement.{statement}
 use Rattle.taxonomy.proofs.call.classify.Tie as tie
 
@@ -19,7 +19,7 @@ use Rattle.taxonomy.proofs.call.classify.Tie as tie
 abbrev start : tie.After-check-vocabulary → tie.Start
 start c = c .before .before .before .before
 
-abbrev accepted-at : tie.After-check-lent → tie.After-enum-told
+abbrev accepted-at : tie.After-check-sizes → tie.After-enum-told
 accepted-at c = c .before .before
 
 returns : tie.Need-returns
@@ -30,20 +30,21 @@ returns c =
     (first .check-vocabulary .ensures) (c .before .enum-told2 .given .1) (c .classify-after-count .ensures)
 
 -- the check of the buffers is of the vocabulary's atoms
-asked : (c : tie.After-check-lent)
+asked : (c : tie.After-check-sizes)
     → let a = start (accepted-at c .before .before) .args in
-    checked (c .check-lent .result) ≡ lentRows (now (a .v)) (now (a .lent)) (now (a .room))
+    checked (c .check-sizes .result) ≡ sizeRows (now (a .v)) (now (a .lent)) (now (a .room))
 asked c =
     let a = start (accepted-at c .before .before) .args in
-    c .check-lent .ensures
-    ∙ ap (λ (k : ℕ). sizeCheck k (length (now (a .lent))) then tableCheck (length (now (a .room)))) (c .before .count-atoms .ensures)
+    c .check-sizes .ensures
+    ∙ ap (λ (k : ℕ). sizeCheck k (length (now (a .lent))) then tableCheck (length (now (a .room))))
+    (c .before .count-atoms .ensures)
 
 returns-2 : tie.Need-returns-2
 returns-2 c =
     let query = c .before .before .before in
     let first = accepted-at query .before .before in
     let a = start first .args in
-    refused-lent (now (a .v)) (now (a .lent)) (now (a .room)) _ _ (first .check-vocabulary .ensures)
+    refused-sizes (now (a .v)) (now (a .lent)) (now (a .room)) _ _ (first .check-vocabulary .ensures)
     (accepted-at query .enum-told .given .1) (c .classify-after .result) _ _ _ _ (asked query)
     (c .before .enum-told4 .given .1) (c .classify-after .ensures)
 
@@ -53,9 +54,9 @@ tabulate-requires c κs =
     let query = told .before .before in
     let first = accepted-at query .before .before in
     let a = start first .args in
-    let passed = lent-passed (now (a .v)) (now (a .lent)) (now (a .room)) _ _ (first .check-vocabulary .ensures)
+    let passed = sizes-passed (now (a .v)) (now (a .lent)) (now (a .room)) _ _ (first .check-vocabulary .ensures)
     (accepted-at query .enum-told .given .1) _ (asked query) (told .enum-told3 .given .1) in (
-      lent-settleable (now (a .v)) (now (a .lent)) (now (a .room)) _ _ (first .check-vocabulary .ensures)
+      sizes-settleable (now (a .v)) (now (a .lent)) (now (a .room)) _ _ (first .check-vocabulary .ensures)
           (accepted-at query .enum-told .given .1) _ (asked query) (told .enum-told3 .given .1) _
           (query .before .count-atoms .ensures),
       (passed .first, passed .second),

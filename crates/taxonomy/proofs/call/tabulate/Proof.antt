@@ -8,12 +8,12 @@ use lib.ListN.{drop}
 use borrow.Author.Needs.{needs}
 use denote.Ref.{now}
 use Rattle.records.proofs.Laws.Filling.{ends-empty}
+use Rattle.records.proofs.Theorems.Ranks.{names-few}
 use Rattle.records.specs.Format.{count}
 use Rattle.records.specs.Outcome.{accepted}
 use Rattle.types.specs.Comparison.{typeLimit}
 use Rattle.types.specs.declared.answers.Counts.{Counts}
 use Rattle.taxonomy.specs.Taxonomy.{taxonomyBytes}
-use Rattle.taxonomy.proofs.Theorems.Names.{names-few}
 use Rattle.taxonomy.proofs.Refinement.Table.{table-right}
 use Rattle.taxonomy.proofs.call.tabulate.Statement.{statement}
 use Rattle.taxonomy.proofs.call.tabulate.Tie as tie

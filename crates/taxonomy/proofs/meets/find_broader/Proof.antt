@@ -5,11 +5,11 @@ use native.Mathlib.Omega.{arith}
 use mathlib.Core.Path.{_≡_, subst}
 use denote.Ref.{now}
 use Rattle.records.specs.Format.{count}
+use Rattle.records.proofs.Theorems.Ranks.{names-few}
 use Rattle.types.specs.Types.{types}
 use Rattle.types.proofs.Theorems.Survivors.{types-bound, size-word}
 use Rattle.taxonomy.specs.Code.Meets.{Meets, low, high}
 use Rattle.taxonomy.proofs.Refinement.Broader.{meets-above}
-use Rattle.taxonomy.proofs.Theorems.Names.{names-few}
 use Rattle.taxonomy.proofs.meets.find_broader.Statement.{statement}
 use Rattle.taxonomy.proofs.meets.find_broader.Tie as tie
 

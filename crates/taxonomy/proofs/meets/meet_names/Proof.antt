@@ -2,13 +2,12 @@
 -- Assumes nothing.
 use Prim.Native.Nat.{ℕ, _+_, _-_, _≤_, _<_}
 use native.Mathlib.Omega.{arith}
-use native.Mathlib.Decide.{ℕ-discrete}
 use mathlib.Core.List.{List}
 use mathlib.Core.Path.{_≡_, refl, _∙_}
 use lib.ListN.{length, getD, set, length-set}
-use lib.Seq.{getD-set-same, getD-set-other}
 use denote.Ref.{now}
 use Rattle.types.specs.Comparison.{atomLimit}
+use Rattle.records.proofs.Laws.Filling.{set-each}
 use Rattle.records.specs.Finite.{bit}
 use Rattle.taxonomy.specs.Code.Meets.{MeetsListed, jointlyBy}
 use Rattle.taxonomy.proofs.meets.meet_names.Statement.{statement}
@@ -23,11 +22,9 @@ record Listing (lows highs atoms meets : List ℕ) (n i : ℕ) : Type 0 where
 listed-more : (lows highs atoms meets : List ℕ) (i word : ℕ) → MeetsListed lows highs atoms i meets → i < length meets
     → ((q : ℕ) → q < atomLimit → bit word q ≡ jointlyBy lows highs (getD atoms i 0) q)
     → MeetsListed lows highs atoms (i + 1) (set meets i word)
-listed-more lows highs atoms meets i word listed h right m q less small = at (ℕ-discrete m i)
-  where
-    at : Dec (m ≡ i) → bit (getD (set meets i word) m 0) q ≡ jointlyBy lows highs (getD atoms m 0) q
-    at (yes e) = rw (e, getD-set-same meets i word 0 h) (right q small)
-    at (no n) = rw (getD-set-other meets i m word 0 n) (listed m q (omega arith) small)
+listed-more lows highs atoms meets i word listed h right m q less small =
+    set-each (λ j w. j < i + 1 → bit w q ≡ jointlyBy lows highs (getD atoms j 0) q) meets i word 0 h (λ l. right q small)
+    (λ j n l. listed j q (omega arith) small) m less
 
 abbrev Inv-loop : tie.InvT-loop
 Inv-loop lows highs atoms n meets₀ i₀ meets i = Listing lows highs atoms meets n i
@@ -53,7 +50,8 @@ loop-again c =
     record {
       within = omega arith;
       size = length-set (l .meets) (l .i) (c .meet-atom .result) ∙ w .size;
-      listed = listed-more (now (a .lows)) (now (a .highs)) (a .names .atoms) (l .meets) (l .i) (c .meet-atom .result) (w .listed) (omega (arith, w .size, inside (c .before)))
+      listed = listed-more (now (a .lows)) (now (a .highs)) (a .names .atoms) (l .meets) (l .i) (c .meet-atom .result)
+          (w .listed) (omega (arith, w .size, inside (c .before)))
           (c .meet-atom .ensures);
     }
 

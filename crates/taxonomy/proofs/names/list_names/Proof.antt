@@ -13,7 +13,7 @@ use Rattle.records.proofs.Laws.Bits.{digit-small}
 use Rattle.records.proofs.Laws.Filling.{Filled, fill-start, zeros}
 use Rattle.records.proofs.Laws.Listing.{entries, entry, entries-none, total-turn, fill-entry-kept, fill-entry-more}
 use Rattle.records.proofs.Theorems.Accepted.{accepted-vocabulary}
-use Rattle.records.proofs.Theorems.Ranks.{rank-turn, rank-mono, rank-next, rank-bound, name-atom}
+use Rattle.records.proofs.Theorems.Ranks.{rank-turn, rank-mono, rank-next, rank-bound, names-few, name-atom}
 use Rattle.records.specs.Atoms.{atoms, rank}
 use Rattle.records.specs.Finite.{digit}
 use Rattle.records.specs.Format.{count, recordAt, recordLimit}
@@ -21,9 +21,9 @@ use Rattle.records.specs.Kinds.{isAtom, isName}
 use Rattle.records.specs.declared.fields.Record.{Record}
 use Rattle.types.specs.Comparison.{atomLimit}
 use Rattle.taxonomy.specs.Taxonomy.{nameCount}
-use Rattle.taxonomy.specs.Code.Meets.{Small}
-use Rattle.taxonomy.proofs.Theorems.Names.{named, names-few}
-use Rattle.taxonomy.proofs.Refinement.Names.{small-set}
+use Rattle.taxonomy.specs.Code.Meets.{AtomNumbers}
+use Rattle.taxonomy.proofs.Theorems.Names.{named}
+use Rattle.taxonomy.proofs.Refinement.Names.{numbers-set}
 use Rattle.taxonomy.proofs.names.list_names.Statement.{statement}
 use Rattle.taxonomy.proofs.names.list_names.Tie as tie
 
@@ -32,7 +32,7 @@ record Listing (v places : List ℕ) (n atom i : ℕ) : Type 0 where
   total : n ≡ entries (named v) i
   ranked : atom ≡ rank v i
   filled : Filled 0 atomLimit places (λ m. rank v (entry (named v) i m)) n
-  small : Small places
+  small : AtomNumbers places
 
 -- a name's number is below the limit, and there is room for it
 below : (v : List ℕ) (i : ℕ) → atoms v ≤ atomLimit → i < count v → named v i ≡ true → rank v i < atomLimit
@@ -130,7 +130,7 @@ loop-again c =
       total = total-turn (named v) (l .count) (l .i) (w .total) true e;
       ranked = ranked;
       filled = fill-entry-more (named v) _ (l .i) (w .total) 0 _ (rank v) _ (w .filled) _ room e (w .ranked);
-      small = small-set (l .atoms) (l .count) (l .atom) (w .small) (omega (arith, w .filled .size)) (omega (arith, w .ranked));
+      small = numbers-set (l .atoms) (l .count) (l .atom) (w .small) (omega (arith, w .filled .size)) (omega (arith, w .ranked));
     })
     (λ s. let e : named v (l .i) ≡ false = sym (tested (c .before .before)) ∙ s .0 .left in
     rw (s .1, s .2) record {

@@ -1,11 +1,11 @@
 -- `taxonomy::table::byte_at` meets its contract. A byte among the entries has a row and a column.
 -- Assumes nothing.
 use Prim.Native.Nat.{_*_}
+use native.Mathlib.Nat.{mul-le-mul}
 use native.Mathlib.Omega.{arith}
 use mathlib.Core.Path.{sym, _∙_}
 use borrow.Author.Tests.{lt-ltb, le-ltb}
-use Rattle.types.specs.Comparison.{atomLimit}
-use Rattle.taxonomy.proofs.Refinement.Table.{square-few, OfPair, pair-at}
+use Rattle.taxonomy.proofs.Refinement.Table.{OfPair, pair-at}
 use Rattle.taxonomy.proofs.table.byte_at.Statement.{statement}
 use Rattle.taxonomy.proofs.table.byte_at.Tie as tie
 
@@ -13,7 +13,7 @@ pair : (c : tie.Then1) → OfPair (c .before .args .n) (c .before .args .e)
 pair c = pair-at (c .before .args .n) (c .before .args .e) (c .if1 .taken)
 
 mul-if1 : tie.Need-mul-if1
-mul-if1 c = omega (arith, square-few (c .args .n) atomLimit (c .pre .1))
+mul-if1 c = omega (arith, mul-le-mul (c .pre .1) (c .pre .1))
 
 div-i : tie.Need-div-i
 div-i c = omega (arith, pair c .some)
