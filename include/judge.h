@@ -28,7 +28,8 @@
  * interpretation, and not the other way round) and no name is strictly between; otherwise 0. Over an accepted
  * vocabulary, a script is accepted exactly when it keeps the form and its chain of steps is a derivation of at most 64
  * open frames; then its first term lies within its second in every finite interpretation that satisfies the
- * statements. The packing of the answers is proved too. crates/demands/specs/Demands.antt states the demands.
+ * statements. The packing of the answers is proved too. In crates/demands/specs, Demands.antt states the demands, and
+ * Promises.antt what is promised of names.
  *
  * TRUSTED: the Rattle kit (its logic and its prover), and that its back end and the linker make of the source what it
  * says; this header, which is tested; the caller:
@@ -60,9 +61,8 @@ enum {
 };
 
 /* Stack that is enough for any call; measured, not proved (tests/stack.c, over the stored cases; the kit's compiler,
- * x86-64): the vocabulary check needs 104 bytes, the record call 8, the comparison 46,184, the classification
- * NOT-MEASURED-YET, the script check 2,440, and at most 3,100 more where the program binds memset or memcpy only at the
- * first call. */
+ * x86-64): the vocabulary check needs 104 bytes, the record call 8, the comparison 46,248, the classification 46,584,
+ * the script check 2,440, and at most 3,100 more where the program binds memset or memcpy only at the first call. */
 enum { JUDGE_STACK_BYTES = 131072 };
 
 /* ---- The calls ---- */
@@ -181,7 +181,8 @@ static inline uint32_t judge_names(const uint8_t *vocabulary, size_t vocabulary_
     return names;
 }
 
-/* The entry of names i and j, from 0 in record order, in the taxonomy of a vocabulary of so many names. */
+/* The entry of names i and j, from 0 in record order, in the taxonomy of a vocabulary of so many names. Where i or j is
+ * no name's number, JUDGE_NEITHER. */
 static inline int judge_entry(const uint8_t *taxonomy, uint32_t names, uint32_t i, uint32_t j)
 {
     if (names > JUDGE_ATOMS || i >= names || j >= names)
@@ -206,7 +207,7 @@ static inline const char *judge_sentence(unsigned refusal)
         "the first statement, or a statement's next, is not 0 and not a later statement",
         "the record number is past the end",
         "the number asked about is no term record",
-        "the vocabulary has over 12 atoms, too many to compare",
+        "the vocabulary has over 12 atoms, too many to compare or to classify",
         "under 512 bytes are lent for the survivors",
         "the script's length is under 16, over 32,768 or no multiple of 16",
         "the script's header has a wrong w0, or w4 to w7 are not zero",

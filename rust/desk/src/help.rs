@@ -59,8 +59,8 @@ const CHECK: &str = "\
 usage: desk check VOCABULARY .. [--json]
 
 Whether each vocabulary is accepted (refusals 1 to 8), with the number of its records, names, restrictions, statements
-and roles, and whether it can be compared (at most 12 atoms). If it can, and no finite interpretation satisfies its
-statements, that is said: they then contradict each other, and all terms are equal.
+and roles, and whether it can be compared and classified (at most 12 atoms). If it can, and no finite interpretation
+satisfies its statements, that is said: they then contradict each other, and all terms are equal.
 
 exit status: 0 accepted, 2 refused; of several the greatest
 ";

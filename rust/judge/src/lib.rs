@@ -188,7 +188,8 @@ pub fn classify(vocabulary: &[u8], survivors: &mut [u8], taxonomy: &mut [u8]) ->
     Ok(Classification { survivors, rounds })
 }
 
-/// What the taxonomy of a vocabulary of so many names says of two of them, numbered from 0 in record order.
+/// What the taxonomy of a vocabulary of so many names says of two of them, numbered from 0 in record order. Of a number
+/// that is no name's it says [`Relation::Neither`].
 pub fn relation(taxonomy: &[u8], names: usize, first: usize, second: usize) -> Relation {
     let place = (names <= ATOMS && first < names && second < names).then(|| first * names + second);
     match place.and_then(|place| taxonomy.get(place)) {

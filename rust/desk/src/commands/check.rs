@@ -55,7 +55,7 @@ impl Tally {
         let compared = if self.is_comparable() {
             "can be compared"
         } else {
-            "too many to compare"
+            "too many to compare or to classify"
         };
         format!(
             "{} and {} ({}, {compared}), {} of {} on the chain, {}",
