@@ -206,7 +206,7 @@ static inline const char *judge_sentence(unsigned refusal)
         "the first statement, or a statement's next, is not 0 and not a later statement",
         "the record number is past the end",
         "the number asked about is no term record",
-        "the vocabulary has over 12 atoms, too many to compare",
+        "the vocabulary has over 12 atoms, too many to compare or to classify",
         "under 512 bytes are lent for the survivors",
         "the script's length is under 16, over 32,768 or no multiple of 16",
         "the script's header has a wrong w0, or w4 to w7 are not zero",

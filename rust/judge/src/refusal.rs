@@ -130,7 +130,7 @@ const TABLE: [Row; 26] = [
     row(Rule::Query, Asked, "no term record",
         "the number asked about is no term record"),
     row(Rule::Atoms, Place::Atoms, "k over 12",
-        "the vocabulary has over 12 atoms, too many to compare"),
+        "the vocabulary has over 12 atoms, too many to compare or to classify"),
     row(Rule::Lent, Whole, "under 512 bytes lent",
         "under 512 bytes are lent for the survivors"),
     row(Rule::ScriptLength, Whole, "under 16, over 32,768 or no multiple of 16",

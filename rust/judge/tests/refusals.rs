@@ -16,7 +16,7 @@ const PRINTED: [&str; 26] = [
     "refused, 8, at record 2: the first statement, or a statement's next, is not 0 and not a later statement",
     "refused, 9, number 70000: the record number is past the end",
     "refused, 10, number 70000: the number asked about is no term record",
-    "refused, 11, 13 atoms: the vocabulary has over 12 atoms, too many to compare",
+    "refused, 11, 13 atoms: the vocabulary has over 12 atoms, too many to compare or to classify",
     "refused, 12: under 512 bytes are lent for the survivors",
     "refused, 13: the script's length is under 16, over 32,768 or no multiple of 16",
     "refused, 14: the script's header has a wrong w0, or w4 to w7 are not zero",
