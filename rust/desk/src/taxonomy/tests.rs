@@ -110,21 +110,27 @@ fn equal_and_nearest_broader_names_are_what_comparisons_say() {
     );
 }
 
-/// The entries that a taxonomy is of, row by row, in hexadecimal as far as the last that is not 0, or `-`.
+/// The entries that a taxonomy is of, row by row, in hexadecimal; `-` where there are none. The last, of the last name with
+/// itself, is never 0, so that none is left out in a stored line.
 fn entries(taxonomy: &Taxonomy) -> String {
     let names = taxonomy.names();
-    let entry = |class: &Class, other: u16| match () {
-        () if class.names.contains(&other) => "02",
-        () if taxonomy.broader_names(class).contains(&other) => "01",
-        () => "00",
-    };
-    let row = |(_, class): &(u16, &Class)| names.iter().map(|(other, _)| entry(class, *other)).collect::<String>();
-    // The last entry is of the last name with itself.
-    let rows: String = names.iter().map(row).collect();
-    if rows.is_empty() {
-        return "-".to_string();
+    let mut text = String::new();
+    for (_, class) in &names {
+        let broader = taxonomy.broader_names(class);
+        text.extend(names.iter().map(|(other, _)| {
+            if class.names.contains(other) {
+                "02"
+            } else if broader.contains(other) {
+                "01"
+            } else {
+                "00"
+            }
+        }));
     }
-    rows
+    if text.is_empty() {
+        text.push('-');
+    }
+    text
 }
 
 #[test]
