@@ -124,14 +124,15 @@ usage: desk classify VOCABULARY .. [--words TEXT] [--dot FILE] [--json]
 The names of each vocabulary, of at most 12 atoms, as a tree from the broadest down: below a name are those of which it is
 a nearest broader one, so that they lie within it, but not the other way round, and no name is strictly between, in every
 finite interpretation that satisfies the statements. Names that are equal in every such interpretation are on one line. A
-name that has several nearest broader ones is below each, with all that is below it. Names to which nothing can belong are
-told apart, as empty: they lie within every name. It is said where no finite interpretation satisfies the statements.
+name that has several nearest broader ones is below each, with all that is below it. Names to which everything belongs are
+beside owl:Thing. Names to which nothing can belong are told apart, as empty: they lie within every name. It is said where
+no finite interpretation satisfies the statements.
 
 Of several vocabularies each is answered in order, in one run, and a last line counts them; one that is refused or cannot
 be read does not keep the others from being answered.
 
   --words TEXT   the text of the vocabulary, whose comments say what each record is called; of several vocabularies, for
-                 those that have its bytes
+                 those that have its bytes; it is said where none has
   --dot FILE     writes a drawing for Graphviz, as ontology editors show it: a node for each name, or names that are
                  equal, an arrow to each nearest broader one, owl:Thing on top; of several vocabularies each in a frame of
                  its own. Nothing is written unless all are classified

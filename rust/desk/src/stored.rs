@@ -4,9 +4,14 @@
 use std::collections::BTreeSet;
 
 /// A file of a crate of the library.
-fn bytes(crate_name: &str) -> Vec<u8> {
+fn file(crate_name: &str, name: &str) -> Vec<u8> {
     let root = concat!(env!("CARGO_MANIFEST_DIR"), "/../../crates");
-    std::fs::read(format!("{root}/{crate_name}/stdin")).expect("the cases")
+    std::fs::read(format!("{root}/{crate_name}/{name}")).expect("the cases")
+}
+
+/// The cases of a crate.
+fn bytes(crate_name: &str) -> Vec<u8> {
+    file(crate_name, "stdin")
 }
 
 /// Takes the first bytes.
@@ -50,6 +55,28 @@ pub fn comparison_cases() -> Vec<(Vec<u8>, u32, u32)> {
     }
     assert_eq!(cases.len(), 4996);
     cases
+}
+
+/// The vocabulary of each case of crates/classification_cases/stdin, with its line of stdout.
+pub fn classification_cases() -> Vec<(Vec<u8>, String)> {
+    let bytes = bytes("classification_cases");
+    let lines = String::from_utf8(file("classification_cases", "stdout")).unwrap();
+    let (mut rest, mut cases) = (bytes.as_slice(), Vec::new());
+    for line in lines.lines() {
+        let length = word(&mut rest);
+        take(&mut rest, 5);
+        cases.push((take(&mut rest, length).to_vec(), line.to_string()));
+    }
+    assert!(rest.is_empty());
+    assert_eq!(cases.len(), 3428);
+    cases
+}
+
+/// The vocabularies of the comparison cases and of the classification cases, each once.
+pub fn compared() -> BTreeSet<Vec<u8>> {
+    let of_comparisons = comparison_cases().into_iter().map(|(vocabulary, _, _)| vocabulary);
+    let of_classifications = classification_cases().into_iter().map(|(vocabulary, _)| vocabulary);
+    of_comparisons.chain(of_classifications).collect()
 }
 
 /// The vocabulary and the script of each case of crates/script_cases/stdin.

@@ -290,6 +290,18 @@ fn a_drawing_is_whole_or_the_old_file_stays() {
 }
 
 #[test]
+fn many_vocabularies_take_little_memory_where_no_drawing_is_asked_for() {
+    let place = Place::new("many");
+    let words = "x".repeat(190);
+    let lines: Vec<String> = (1..4).map(|label| format!("c{label} -- {words}\n")).collect();
+    place.put("v", format!("vocabulary roles 0\n{}", lines.concat()));
+    // A drawing of all has some 16 MB.
+    let words = [&["classify", "-q"][..], &["v"; 20_000]].concat();
+    let said = run(&mut place.shell("ulimit -d 8192; exec \"$@\"", &words));
+    assert_eq!((said.status, said.err.as_str()), (Some(0), ""));
+}
+
+#[test]
 fn a_drawing_is_made_though_the_reader_of_the_answers_has_gone_away() {
     let place = Place::new("gone-drawing");
     let names: Vec<String> = (0..50).map(|number| format!("v{number}")).collect();

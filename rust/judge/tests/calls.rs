@@ -247,9 +247,9 @@ fn the_stored_scripts_are_answered_as_expected() {
     assert!(cases.0.is_empty() && expected.lines().count() > 4_000);
 }
 
-/// The first 512 bytes in hexadecimal as far as the last that is not 0, or `-`.
-fn written(buffer: &[u8]) -> String {
-    let front = &buffer[..SURVIVOR_BYTES];
+/// The first so many bytes in hexadecimal as far as the last that is not 0, or `-`.
+fn written(buffer: &[u8], length: usize) -> String {
+    let front = &buffer[..length];
     let end = front.iter().rposition(|byte| *byte != 0).map_or(0, |last| last + 1);
     let mut text = String::new();
     for byte in &front[..end] {
@@ -259,6 +259,11 @@ fn written(buffer: &[u8]) -> String {
         text.push('-');
     }
     text
+}
+
+/// So many lent bytes, as the stored cases have them before a call.
+fn lent(length: u32, seed: u32) -> Vec<u8> {
+    (0..length).map(|i| (7 * i + seed) as u8).collect()
 }
 
 /// The sum of the bytes, and the sum of the first sum after each.
@@ -276,10 +281,9 @@ fn the_stored_comparisons_are_answered_as_expected() {
     let mut cases = Cases(include_bytes!("../../../crates/comparison_cases/stdin"));
     let expected = include_str!("../../../crates/comparison_cases/stdout");
     for line in expected.lines() {
-        let (length, a, b, lent) = (cases.number(2), cases.number(4), cases.number(4), cases.number(2));
-        let seed = cases.number(1);
+        let (length, a, b) = (cases.number(2), cases.number(4), cases.number(4));
+        let mut buffer = lent(cases.number(2), cases.number(1));
         let vocabulary = cases.take(length as usize);
-        let mut buffer: Vec<u8> = (0..lent).map(|i| (7 * i + seed) as u8).collect();
         let answer = match judge::compare(vocabulary, a, b, &mut buffer) {
             Err(refusal) => format!("refused {}", refused(refusal)),
             Ok(answer) => {
@@ -287,10 +291,35 @@ fn the_stored_comparisons_are_answered_as_expected() {
                     Verdict::Equal => "equal".to_string(),
                     Verdict::Different { element } => format!("different {element}"),
                 };
-                format!("{verdict} {} {} {}", answer.survivors, answer.rounds, written(&buffer))
+                let counts = format!("{} {}", answer.survivors, answer.rounds);
+                format!("{verdict} {counts} {}", written(&buffer, SURVIVOR_BYTES))
             }
         };
         assert_eq!(format!("{answer} {}", sums(&buffer)), line);
     }
     assert!(cases.0.is_empty() && expected.lines().count() > 4_000);
+}
+
+#[test]
+fn the_stored_classifications_are_answered_as_expected() {
+    let mut cases = Cases(include_bytes!("../../../crates/classification_cases/stdin"));
+    let expected = include_str!("../../../crates/classification_cases/stdout");
+    for line in expected.lines() {
+        let [length, survivors_len, taxonomy_len] = [(); 3].map(|()| cases.number(2));
+        let seed = cases.number(1);
+        let vocabulary = cases.take(length as usize);
+        let (mut survivors, mut taxonomy) = (lent(survivors_len, seed), lent(taxonomy_len, seed));
+        let answer = match judge::classify(vocabulary, &mut survivors, &mut taxonomy) {
+            Err(refusal) => format!("refused {}", refused(refusal)),
+            Ok(Classification {
+                survivors: count,
+                rounds,
+            }) => {
+                let [first, second] = [written(&survivors, SURVIVOR_BYTES), written(&taxonomy, TAXONOMY_BYTES)];
+                format!("counts {count} {rounds} {first} {second}")
+            }
+        };
+        assert_eq!(format!("{answer} {} {}", sums(&survivors), sums(&taxonomy)), line);
+    }
+    assert!(cases.0.is_empty() && expected.lines().count() > 3_000);
 }

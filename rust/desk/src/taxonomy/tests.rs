@@ -1,10 +1,11 @@
-//! Taxonomies beside comparisons of the same names, on the vocabularies of the stored comparisons and on random ones.
+//! Taxonomies beside comparisons of the same names, on stored vocabularies and on random ones; and beside the stored
+//! classifications, which are the second program's.
 
 #![allow(clippy::unwrap_used, clippy::indexing_slicing, clippy::panic)]
 
 use super::{belonging, Class, Taxonomy};
 use crate::question::{Questions, Within};
-use crate::stored::comparison_cases;
+use crate::stored::{classification_cases, compared};
 use base::vocabulary::{Saying, Vocabulary};
 use judge::{Classification, Verdict};
 use std::collections::BTreeSet;
@@ -62,10 +63,10 @@ fn random(seed: u64) -> Vec<u8> {
     bytes
 }
 
-/// Random vocabularies, and those of the stored comparisons that can be classified, have room for a record more and few
-/// survivors.
+/// Random vocabularies, and those of the stored comparisons and classifications that can be classified, have room for a
+/// record more and few survivors.
 fn vocabularies() -> Vec<(Vec<u8>, Taxonomy)> {
-    let mut all: BTreeSet<Vec<u8>> = comparison_cases().into_iter().map(|(bytes, _, _)| bytes).collect();
+    let mut all = compared();
     all.extend((0..300).map(random));
     let asked = all
         .into_iter()
@@ -107,6 +108,55 @@ fn equal_and_nearest_broader_names_are_what_comparisons_say() {
         found.iter().zip([1000, 1000, 300]).all(|(found, least)| *found > least),
         "{found:?}"
     );
+}
+
+/// The entries that a taxonomy is of, row by row, in hexadecimal; `-` where there are none. The last, of the last name with
+/// itself, is never 0, so that none is left out in a stored line.
+fn entries(taxonomy: &Taxonomy) -> String {
+    let names = taxonomy.names();
+    let mut text = String::new();
+    for (_, class) in &names {
+        let broader = taxonomy.broader_names(class);
+        text.extend(names.iter().map(|(other, _)| {
+            if class.names.contains(other) {
+                "02"
+            } else if broader.contains(other) {
+                "01"
+            } else {
+                "00"
+            }
+        }));
+    }
+    if text.is_empty() {
+        text.push('-');
+    }
+    text
+}
+
+#[test]
+fn the_stored_classifications_have_the_counts_and_entries_of_the_taxonomy() {
+    let (mut classified, mut refused) = (0, 0);
+    for (bytes, line) in classification_cases() {
+        let taxonomy = Taxonomy::ask(&bytes);
+        let words: Vec<&str> = line.split(' ').collect();
+        match (words[0], words[1], taxonomy) {
+            ("counts", _, Ok(taxonomy)) => {
+                let Classification { survivors, rounds } = taxonomy.answer;
+                let told = [survivors.to_string(), rounds.to_string(), entries(&taxonomy)];
+                assert_eq!(told.each_ref(), [words[1], words[2], words[4]], "{line}");
+                classified += 1;
+            }
+            // The taxonomy lends enough for both.
+            ("refused", "12" | "26", Ok(_)) => {}
+            ("refused", number, Err(refusal)) => {
+                let told = [refusal.rule.number().to_string(), refusal.place.to_string()];
+                assert_eq!(told.each_ref(), [number, words[2]], "{line}");
+                refused += 1;
+            }
+            (_, _, taxonomy) => panic!("{line}: {:?}", taxonomy.err()),
+        }
+    }
+    assert!(classified > 2000 && refused > 700, "{classified}, {refused}");
 }
 
 #[test]

@@ -15,6 +15,13 @@ digraph taxonomy {
   node [shape=box];
 ";
 
+/// What marks the box of names to which nothing can belong, as editors do.
+const EMPTY: &str = ", color=red, fontcolor=red";
+
+/// The most characters of a line of a label. Graphviz refuses a label of over 16,384 bytes; a box has at most 14 lines, and
+/// no character takes over 5 bytes.
+const LINE: usize = 200;
+
 /// A drawing of taxonomies.
 pub struct Drawing {
     text: String,
@@ -35,8 +42,9 @@ impl Drawing {
     }
 
     /// All of it.
-    pub fn text(&self) -> String {
-        format!("{}}}\n", self.text)
+    pub fn text(mut self) -> String {
+        self.text.push_str("}\n");
+        self.text
     }
 
     /// Adds the taxonomy of a file.
@@ -56,7 +64,7 @@ impl Drawing {
             self.text.extend(lines.iter().map(|line| format!("  {line}\n")));
             return;
         }
-        let label = quoted(&[file.to_string()]);
+        let label = quoted(&[ending(file.as_str())]);
         self.text
             .push_str(&format!("  subgraph cluster_{} {{\n    label={label};\n", self.count));
         self.text.extend(lines.iter().map(|line| format!("    {line}\n")));
@@ -86,24 +94,25 @@ impl Nodes<'_> {
 
     /// owl:Thing, with the names that are equal to it; with owl:Nothing, where nothing satisfies the statements.
     fn top(&self) -> String {
-        let mut names = vec!["owl:Thing".to_string()];
+        let (mut names, mut mark) = (vec!["owl:Thing".to_string()], "");
         if self.taxonomy.is_contradictory() {
             names.push("owl:Nothing".to_string());
+            mark = EMPTY;
         }
         let full = self.taxonomy.classes.iter().filter(|class| class.full);
         names.extend(full.flat_map(|class| self.called(class)));
-        format!("{}thing [label={}];", self.prefix, quoted(&names))
+        format!("{}thing [label={}{mark}];", self.prefix, quoted(&names))
     }
 
-    /// The node of a class; an empty one is marked, as editors do.
+    /// The node of a class.
     fn node(&self, class: &Class) -> String {
-        let (mut names, mut colour) = (Vec::new(), "");
+        let (mut names, mut mark) = (Vec::new(), "");
         if class.empty {
             names.push("owl:Nothing".to_string());
-            colour = ", color=red, fontcolor=red";
+            mark = EMPTY;
         }
         names.extend(self.called(class));
-        format!("{} [label={}{colour}];", self.name(class), quoted(&names))
+        format!("{} [label={}{mark}];", self.name(class), quoted(&names))
     }
 
     /// The arrows from a class to the nearest broader ones, or to owl:Thing.
@@ -128,7 +137,25 @@ impl Nodes<'_> {
     }
 
     fn called<'a>(&'a self, class: &'a Class) -> impl Iterator<Item = String> + 'a {
-        class.names.iter().map(|name| self.written.called(*name))
+        class.names.iter().map(|name| beginning(&self.written.called(*name)))
+    }
+}
+
+/// The beginning of what may be too long for a line.
+fn beginning(text: &str) -> String {
+    match text.char_indices().nth(LINE) {
+        Some((end, _)) => format!("{} ..", text.get(..end).unwrap_or_default()),
+        None => text.to_string(),
+    }
+}
+
+/// The end of a path that may be too long for a line: there its files differ.
+fn ending(path: &str) -> String {
+    let over = path.chars().count().saturating_sub(LINE);
+    let end: String = path.chars().skip(over).collect();
+    match over {
+        0 => end,
+        _ => format!(".. {end}"),
     }
 }
 

@@ -27,7 +27,9 @@ pub fn run(arguments: &Arguments, console: &mut Console) -> Result<Status, Stop>
         return Err(Failure::usage("--dot takes a file, and '-' is none").into());
     }
     let words = read_words(arguments, console.style)?;
-    let mut classifier = Classifier::new(words, paths.len() > 1);
+    let several = paths.len() > 1;
+    let drawing = output.map(|_| Drawing::new(several));
+    let mut classifier = Classifier::new(words, several, drawing);
     let mut tally = Tally::new(paths.len());
     for path in paths {
         let answered = classifier.classify(path, console.style);
@@ -38,11 +40,17 @@ pub fn run(arguments: &Arguments, console: &mut Console) -> Result<Status, Stop>
             break;
         }
     }
-    if let Some(path) = output.filter(|_| tally.is_whole()) {
-        files::write(path, classifier.drawing.text().as_bytes(), &classifier.inputs)?;
+    let remarks = [
+        output
+            .filter(|_| !tally.is_whole())
+            .map(|path| format!("{} is not written", Name::new(path))),
+        classifier.unused().map(|words| format!("{words} is the text of none")),
+    ];
+    if let Some((path, drawing)) = output.zip(classifier.drawing).filter(|_| tally.is_whole()) {
+        files::write(path, drawing.text().as_bytes(), &classifier.inputs)?;
     }
-    if classifier.several {
-        console.answer(tally.report(console.style, output.map(Name::new)))?;
+    if several {
+        console.answer(tally.report(console.style, remarks.into_iter().flatten()))?;
     }
     Ok(tally.status)
 }
@@ -51,21 +59,30 @@ pub fn run(arguments: &Arguments, console: &mut Console) -> Result<Status, Stop>
 struct Classifier {
     /// The text that --words names.
     words: Option<Input>,
+    /// Whether it is the text of some vocabulary so far.
+    used: bool,
     /// Whether there are several vocabularies.
     several: bool,
-    drawing: Drawing,
-    /// The files that a drawing may not replace.
+    /// A drawing, where one is wanted: it grows with each vocabulary.
+    drawing: Option<Drawing>,
+    /// The files that it may not replace.
     inputs: Vec<Option<FileId>>,
 }
 
 impl Classifier {
-    fn new(words: Option<Input>, several: bool) -> Classifier {
+    fn new(words: Option<Input>, several: bool, drawing: Option<Drawing>) -> Classifier {
         Classifier {
             inputs: vec![words.as_ref().and_then(|words| words.id)],
             words,
+            used: false,
             several,
-            drawing: Drawing::new(several),
+            drawing,
         }
+    }
+
+    /// The name of the text that --words names, if it is that of no vocabulary so far.
+    fn unused(&self) -> Option<&Name> {
+        self.words.as_ref().filter(|_| !self.used).map(|words| &words.name)
     }
 
     fn classify(&mut self, path: &OsStr, style: Style) -> Result<Report, Stop> {
@@ -78,9 +95,13 @@ impl Classifier {
         }
         // Of several, the text is that of some.
         let is_text = |words: &&Input| !self.several || words.bytes == input.bytes;
-        let written = written(&input, self.words.as_ref().filter(is_text))?;
-        self.drawing.add(&input.name, &written, &taxonomy);
-        self.inputs.push(input.id);
+        let words = self.words.as_ref().filter(is_text);
+        let written = written(&input, words)?;
+        self.used |= words.is_some();
+        if let Some(drawing) = &mut self.drawing {
+            drawing.add(&input.name, &written, &taxonomy);
+            self.inputs.push(input.id);
+        }
         Ok(tree::report(style, &input.name, &written, &taxonomy))
     }
 }

@@ -1,7 +1,6 @@
 //! How many vocabularies came out how.
 
 use crate::display::grouped;
-use crate::files::Name;
 use crate::json::Json;
 use crate::report::{Report, Stop, Style};
 use base::Status;
@@ -46,8 +45,8 @@ impl Tally {
         self.classified == self.wanted
     }
 
-    /// The answer about all; `drawing` is the file that was to be written.
-    pub fn report(&self, style: Style, drawing: Option<Name>) -> Report {
+    /// The answer about all, with remarks at its end.
+    pub fn report(&self, style: Style, remarks: impl Iterator<Item = String>) -> Report {
         let [classified, refused, not_readable] =
             [self.classified, self.refused, self.not_readable].map(|count| grouped(count as u64));
         let (colour, verdict) = match self.is_whole() {
@@ -55,10 +54,9 @@ impl Tally {
             false => (Status::DoesNotHold, "not all classified"),
         };
         let classified = style.paint(colour, &format!("{classified} classified"));
-        let unwritten = drawing.filter(|_| !self.is_whole());
-        let unwritten = unwritten.map_or_else(String::new, |name| format!("; {name} is not written"));
+        let remarks: String = remarks.map(|remark| format!("; {remark}")).collect();
         let text = format!(
-            "{} vocabularies: {classified}, {refused} refused, {not_readable} not readable{unwritten}\n",
+            "{} vocabularies: {classified}, {refused} refused, {not_readable} not readable{remarks}\n",
             grouped(self.wanted as u64)
         );
         let json = vec![

@@ -4,18 +4,19 @@
 
 use super::{Drawing, BEGINNING};
 use crate::files::Name;
-use crate::stored::comparison_cases;
+use crate::stored::compared;
 use crate::taxonomy::Taxonomy;
 use crate::text::vocabulary::Written;
 use base::vocabulary::Vocabulary;
 use std::collections::{BTreeMap, BTreeSet};
 use std::ffi::OsStr;
 
-/// A frame, or a drawing without frames: the label of each node, line by line, and the arrows.
+/// A frame, or a drawing without frames: the label of each node, line by line, those that are marked, and the arrows.
 #[derive(Debug, Default)]
 struct Frame {
     label: Option<String>,
     nodes: BTreeMap<String, Vec<String>>,
+    marked: BTreeSet<String>,
     arrows: BTreeSet<(String, String)>,
 }
 
@@ -27,6 +28,9 @@ fn is_plain(name: &str) -> bool {
         && !["node", "edge", "graph", "digraph", "subgraph", "strict"].contains(&name)
 }
 
+/// The most bytes between the quotes of a label, beyond which Graphviz takes the end of it for missing.
+const LABEL_BYTES: usize = 16_384;
+
 /// Takes a label in quotes, and answers it as Graphviz shows it, with what comes after.
 fn label(text: &str) -> (String, &str) {
     let (mut shown, mut rest) = (String::new(), text.strip_prefix('"').unwrap());
@@ -36,7 +40,10 @@ fn label(text: &str) -> (String, &str) {
             .find_map(|(written, meant)| Some((meant, rest.strip_prefix(written)?)))
             .unwrap_or_else(|| rest.split_at(rest.chars().next().unwrap().len_utf8()));
         match front {
-            "\"" if rest.starts_with('"') => return (shown, after),
+            "\"" if rest.starts_with('"') => {
+                assert!(text.len() - after.len() <= LABEL_BYTES + 2);
+                return (shown, after);
+            }
             // An escape or a reference that is not known.
             "\\" if !rest.starts_with("\\\\") => panic!("{rest}"),
             "&" if !rest.starts_with("&amp;") => panic!("{rest}"),
@@ -70,7 +77,11 @@ fn read(drawing: &str) -> Vec<Frame> {
         } else if let Some((name, quoted)) = line.split_once(" [label=") {
             let (text, rest) = label(quoted);
             assert!(is_plain(name), "{name}");
-            assert!(["];", ", color=red, fontcolor=red];"].contains(&rest), "{rest}");
+            match rest {
+                "];" => {}
+                ", color=red, fontcolor=red];" => assert!(frame.marked.insert(name.to_string())),
+                _ => panic!("{rest}"),
+            }
             let lines = text.split("\n= ").map(str::to_string).collect();
             assert!(frame.nodes.insert(name.to_string(), lines).is_none(), "{name}");
         } else {
@@ -90,7 +101,8 @@ fn written(bytes: &[u8], words: &str) -> Written {
     Written::new(vocabulary).with_words(words)
 }
 
-/// That a frame has the classes of a taxonomy and an arrow to each nearest broader one, or to owl:Thing.
+/// That a frame has the classes of a taxonomy, an arrow to each nearest broader one, or to owl:Thing, and a mark where
+/// nothing can belong.
 fn assert_drawn(frame: &Frame, written: &Written, taxonomy: &Taxonomy) {
     let called = |names: &[u16]| names.iter().map(|name| written.called(*name)).collect::<Vec<String>>();
     let thing = "owl:Thing".to_string();
@@ -123,6 +135,11 @@ fn assert_drawn(frame: &Frame, written: &Written, taxonomy: &Taxonomy) {
         .map(|(from, to)| (label(from), label(to)))
         .collect();
     assert_eq!((arrows.len(), arrows), (frame.arrows.len(), wanted));
+    let is_empty = |name: &&String| frame.nodes[*name].contains(&"owl:Nothing".to_string());
+    assert_eq!(
+        frame.nodes.keys().filter(is_empty).collect::<Vec<_>>(),
+        frame.marked.iter().collect::<Vec<_>>()
+    );
 }
 
 #[test]
@@ -135,7 +152,7 @@ fn a_drawing_read_back_is_the_taxonomy_whatever_the_names_are_called() {
         "<b>] ; } -> {",
         "é\t\u{202e}",
     ];
-    let vocabularies: BTreeSet<Vec<u8>> = comparison_cases().into_iter().map(|(bytes, _, _)| bytes).collect();
+    let vocabularies = compared();
     let (mut drawn, mut arrows) = (0, 0);
     for (bytes, words) in vocabularies.iter().zip(words.iter().cycle()) {
         let Ok(taxonomy) = Taxonomy::ask(bytes) else { continue };
@@ -153,7 +170,7 @@ fn a_drawing_read_back_is_the_taxonomy_whatever_the_names_are_called() {
 
 #[test]
 fn each_of_several_has_a_frame_with_its_name() {
-    let vocabularies: BTreeSet<Vec<u8>> = comparison_cases().into_iter().map(|(bytes, _, _)| bytes).collect();
+    let vocabularies = compared();
     let mut drawing = Drawing::new(true);
     let mut all = Vec::new();
     for (number, bytes) in vocabularies.iter().enumerate().take(300) {
@@ -171,5 +188,43 @@ fn each_of_several_has_a_frame_with_its_name() {
         assert_drawn(frame, written, taxonomy);
         // No two share a node.
         assert!(frame.nodes.keys().all(|node| names.insert(node)));
+    }
+}
+
+/// The header, 12 names, top and bottom, and these statements, each with the next.
+fn twelve(statements: &[[u16; 2]]) -> Vec<u8> {
+    let mut records = vec![[16, 15, 0, 0]];
+    records.extend((1..=12).map(|label| [3, label, 0, 0]));
+    records.extend([[1, 0, 0, 0], [2, 0, 0, 0]]);
+    records.extend((16..).zip(statements).map(|(next, [a, b])| [9, *a, *b, next]));
+    records.last_mut().unwrap()[3] = 0;
+    let bytes = |[kind, a, b, next]: &[u16; 4]| [*kind, *a, *b, *next].map(u16::to_le_bytes).concat();
+    let mut bytes: Vec<u8> = records.iter().flat_map(bytes).collect();
+    bytes[1] = 1;
+    bytes
+}
+
+#[test]
+fn no_label_is_too_long_for_graphviz() {
+    // Top within bottom; the names one after the other within the next, and the last within the first.
+    let circle: Vec<[u16; 2]> = (1..=12).map(|name| [name, name % 12 + 1]).collect();
+    for statements in [&[[13, 14]][..], &circle] {
+        let bytes = twelve(statements);
+        let taxonomy = Taxonomy::ask(&bytes).unwrap();
+        assert_eq!(taxonomy.classes.len(), 1);
+        for character in ["&", "\\", "x", "漢", "\u{1b}"] {
+            let written = written(&bytes, &character.repeat(5000));
+            let path = format!("{}/v.text", character.repeat(5000));
+            let mut drawing = Drawing::new(true);
+            drawing.add(&Name::new(OsStr::new(&path)), &written, &taxonomy);
+            let frames = read(&drawing.text());
+            let label = frames[1].label.as_deref().unwrap();
+            assert!(label.starts_with(".. ") && label.ends_with("/v.text"), "{label}");
+            assert_eq!(label.chars().count(), 203);
+            let names: Vec<&String> = frames[1].nodes.values().flatten().collect();
+            let names = names.iter().filter(|name| name.starts_with('c'));
+            let shown = names.filter(|name| name.chars().count() == 203 && name.ends_with(" .."));
+            assert_eq!(shown.count(), 12);
+        }
     }
 }
