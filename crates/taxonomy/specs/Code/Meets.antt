@@ -1,5 +1,5 @@
--- Broader names as the code finds them. The meet of a set of types, their bitwise and, has bit q where atom q is true at all of them:
--- of the survivors at which name p is true it tells which names are broader. The code keeps the meets of the survivors that
+-- Broader names as the code finds them. The meet of a set of types, their bitwise and, has bit q where atom q is true at all of
+-- them: of the survivors at which name p is true it tells which names are broader. The code keeps the meets of the survivors that
 -- share the low half of their bits, and of those that share the high half; each atom's meet is a meet of these.
 use Prim.Native.Nat.{ℕ, _-_, _*_, _/_, _%_, _^_, _<_}
 use mathlib.Core.Path.{_≡_}

@@ -36,7 +36,8 @@ asked : (c : tie.After-check-lent)
 asked c =
     let a = start (accepted-at c .before .before) .args in
     c .check-lent .ensures
-    ∙ ap (λ (k : ℕ). sizeCheck k (length (now (a .lent))) then tableCheck (length (now (a .room)))) (c .before .count-atoms .ensures)
+    ∙ ap (λ (k : ℕ). sizeCheck k (length (now (a .lent))) then tableCheck (length (now (a .room))))
+    (c .before .count-atoms .ensures)
 
 returns-2 : tie.Need-returns-2
 returns-2 c =

@@ -53,8 +53,8 @@ loop-again c =
     record {
       within = omega arith;
       size = length-set (l .meets) (l .i) (c .meet-atom .result) ∙ w .size;
-      listed = listed-more (now (a .lows)) (now (a .highs)) (a .names .atoms) (l .meets) (l .i) (c .meet-atom .result) (w .listed) (omega (arith, w .size, inside (c .before)))
-          (c .meet-atom .ensures);
+      listed = listed-more (now (a .lows)) (now (a .highs)) (a .names .atoms) (l .meets) (l .i) (c .meet-atom .result) (w .listed)
+          (omega (arith, w .size, inside (c .before))) (c .meet-atom .ensures);
     }
 
 returns : tie.Need-returns Inv-loop μ-loop
