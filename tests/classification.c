@@ -1,6 +1,7 @@
-/* Runs judge_classify over the classification cases and compares each answer, and every byte of both lent buffers, with
- * the expected output. Guards stand after the vocabulary and around the buffers (cases.h, lent.h); by turns the one
- * buffer and the other ends where an unreadable page begins.
+/* Runs judge_classify over the classification cases and compares each answer, what judge.h takes from it and from the
+ * taxonomy, and every byte of both lent buffers, with the expected output. Guards stand after the vocabulary and around
+ * the buffers (cases.h, lent.h); by turns the one buffer and the other ends where an unreadable page begins. Before the
+ * call the second holds other bytes than the first, so that bytes taken from the wrong one show.
  * usage: classification CASES EXPECTED */
 #define _DEFAULT_SOURCE
 #define SUBJECT "classification"
@@ -35,6 +36,53 @@ static int expect_answer(const char **text, uint64_t *packed)
     return expect_written(&survivors, SURVIVORS_WRITTEN, text) && expect_written(&taxonomy, TAXONOMY_WRITTEN, text);
 }
 
+/* How many names the line says: the last byte of the taxonomy that is not 0 is the 2 of the last name and itself. */
+static uint32_t expected_names(const uint8_t *wanted)
+{
+    size_t used = TAXONOMY_WRITTEN;
+    uint32_t names = 0;
+
+    while (used > 0 && wanted[used - 1] == 0)
+        used--;
+    while (names * names < used)
+        names++;
+    return names;
+}
+
+/* Whether judge_entry reads what is expected where there are two such names, and 0 where one is past the last: there
+ * stand other entries, later bytes or none at all. */
+static int entries_agree(const uint8_t *bytes, const uint8_t *wanted, uint32_t names)
+{
+    static const uint32_t far[] = {13, 64, 65535, UINT32_MAX};
+    int agree = 1;
+
+    for (uint32_t i = 0; i <= names; i++)
+        for (uint32_t j = 0; j <= names; j++)
+            agree &= judge_entry(bytes, names, i, j) == (i < names && j < names ? wanted[i * names + j] : 0);
+    for (size_t at = 0; at < sizeof far / sizeof *far; at++)
+        agree &= judge_entry(bytes, names, far[at], 0) == 0 && judge_entry(bytes, names, 0, far[at]) == 0 &&
+                 judge_entry(bytes, far[at], 0, 0) == 0;
+    return agree;
+}
+
+/* What is wrong with what judge.h takes from an answer that is no refusal and from the taxonomy, or a null pointer. */
+static const char *header_fault(uint64_t answer, const uint8_t *vocabulary, size_t length, const char *line)
+{
+    const uint8_t *wanted = taxonomy.wanted + taxonomy.start;
+    uint32_t names = expected_names(wanted);
+    uint32_t count, rounds;
+
+    if (sscanf(line, "counts %" SCNu32 " %" SCNu32, &count, &rounds) != 2)
+        return "the expected output has no counts";
+    if (judge_survivors(answer) != count || judge_rounds(answer) != rounds)
+        return "judge_survivors or judge_rounds says something else";
+    if (judge_names(vocabulary, length) != names)
+        return "judge_names says something else";
+    if (!entries_agree(lent_bytes(&taxonomy), wanted, names))
+        return "judge_entry says something else";
+    return NULL;
+}
+
 /* Compares one case with its line of the expected output. */
 static int check_case(const uint8_t *vocabulary, size_t length, const uint8_t *head, const char *line, size_t at)
 {
@@ -42,7 +90,7 @@ static int check_case(const uint8_t *vocabulary, size_t length, const uint8_t *h
     const char *text = line, *fault;
 
     lend(&survivors, number_at(head + 2, 2), head[6], at);
-    lend(&taxonomy, number_at(head + 4, 2), head[6], at + 1);
+    lend(&taxonomy, number_at(head + 4, 2), (uint8_t)(255 - head[6]), at + 1);
     if (!expect_answer(&text, &packed))
         return fail("the expected output has no answer", at);
     if (!sums_agree(&survivors, &text) || !sums_agree(&taxonomy, &text) || strcmp(text, "\n") != 0)
@@ -55,7 +103,8 @@ static int check_case(const uint8_t *vocabulary, size_t length, const uint8_t *h
     }
     if ((fault = lent_fault(&survivors)) != NULL || (fault = lent_fault(&taxonomy)) != NULL)
         return fail(fault, at);
-    return 0;
+    fault = judge_refusal(answer) == 0 ? header_fault(answer, vocabulary, length, line) : NULL;
+    return fault == NULL ? 0 : fail(fault, at);
 }
 
 int main(int count, char **arguments)

@@ -1,7 +1,8 @@
 // Runs the classification of `taxonomy` over the cases on standard input, and writes a line for each: the answer, the
 // survivors and the taxonomy as they stand in the lent bytes, and two sums over all bytes of each.
 // A case is the length of its vocabulary, the number of bytes lent for the survivors and the number lent for the taxonomy
-// (two bytes each, low byte first), the seed of what both hold (a byte), and the vocabulary.
+// (two bytes each, low byte first), the seed of what both hold (a byte), and the vocabulary. Where the bytes for the survivors
+// begin with the seed, those for the taxonomy begin with 255 less it, so that bytes taken from the wrong buffer show.
 use lent::fill;
 use lent::pair;
 use lent::print_number;
@@ -47,7 +48,7 @@ fn is_refused(answer: Classified) -> bool {
 // Fills the lent bytes, classifies, and writes the line of the case.
 fn print_case(v: &[u8], survivors: &mut [u8], taxonomy: &mut [u8], seed: u8) {
     fill(survivors, seed);
-    fill(taxonomy, seed);
+    fill(taxonomy, 255 - seed);
     let answer = taxonomy::classify(v, survivors, taxonomy);
     print_answer(answer);
     if !is_refused(answer) {

@@ -1,6 +1,7 @@
 //! The file of classification cases, one after the other. A case is the length of its vocabulary, the number of bytes
 //! lent for the survivors and the number lent for the taxonomy (16 bits each, low byte first), the seed of what both
-//! hold (8 bits), and the vocabulary.
+//! hold (8 bits), and the vocabulary. No byte of the one buffer is that of the other at the same place, so that a byte
+//! taken from the wrong one shows.
 
 use crate::cases;
 use crate::lent::filled;
@@ -12,7 +13,7 @@ pub struct Case {
     pub vocabulary: Vec<u8>,
     /// How many bytes are lent for the survivors, and for the taxonomy.
     pub lent: [u16; 2],
-    /// The first byte of either before the call.
+    /// The first byte lent for the survivors before the call; the first one lent for the taxonomy is 255 - seed.
     pub seed: u8,
 }
 
@@ -22,7 +23,8 @@ const HEAD_BYTES: usize = 7;
 impl Case {
     /// The lent bytes before the call.
     pub fn buffers(&self) -> [Vec<u8>; 2] {
-        self.lent.map(|length| filled(length, self.seed))
+        let [survivors, taxonomy] = self.lent;
+        [filled(survivors, self.seed), filled(taxonomy, u8::MAX - self.seed)]
     }
 
     /// The case that bytes begin with, and what is left.

@@ -5,6 +5,7 @@ mod checks;
 mod elimination;
 mod errors;
 mod file;
+mod halves;
 mod large;
 mod plan;
 mod print;

@@ -41,6 +41,7 @@ pub fn all(seed: Seed) -> Vec<Planned> {
         plan.random_vocabularies(seed);
         plan.large();
         plan.refusals(seed);
+        plan.halves();
     })
 }
 

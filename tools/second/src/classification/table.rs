@@ -1,7 +1,7 @@
 //! How many cases of the classification there are of each sort, and how many tell each error.
 
 use crate::classification::checks::fault;
-use crate::classification::errors::{CALLS, TABLES};
+use crate::classification::errors::{WrongTable, CALLS, TABLES, WIDE};
 use crate::classification::plan::Planned;
 use crate::classification::print::{run, Outcome};
 use crate::classification::taxonomy::{names, EQUAL, NEAREST};
@@ -9,8 +9,9 @@ use crate::comparison::Types;
 use crate::table::Table;
 use crate::vocabulary::records::records;
 
-/// Vocabularies with more types do not have the wrong tables tried on them, for their time.
-const MOST_TYPES: usize = 256;
+/// Tables that are wrong only where there are more than six atoms are tried where there are more types than these, so
+/// that no error from the ninth atom on is told by smaller vocabularies alone.
+const FEW_TYPES: usize = 256;
 
 /// The refusals that cases have to meet, and how many cases have to.
 const REFUSALS: [(u8, usize); 11] = [
@@ -90,14 +91,24 @@ fn seen(planned: &Planned, outcome: &Outcome) -> Option<Seen> {
     })
 }
 
-/// For each wrong table whether it is another than the right one of a case.
-pub fn told_by_table(planned: &Planned, outcome: &Outcome) -> [bool; TABLES.len()] {
+/// For each of some wrong tables whether it is another than the right one of a case; false where there are only few
+/// types.
+fn told<const N: usize>(planned: &Planned, outcome: &Outcome, wrong: [WrongTable; N], few: usize) -> [bool; N] {
     let Ok(right) = &outcome.answer else {
-        return [false; TABLES.len()];
+        return [false; N];
     };
     let types = Types::of(records(&planned.case.vocabulary));
-    let few = types.count() <= MOST_TYPES;
-    TABLES.map(|(_, wrong)| few && wrong(&types, &right.survivors) != right.table)
+    wrong.map(|(_, wrong)| types.count() > few && wrong(&types, &right.survivors) != right.table)
+}
+
+/// For each wrong table whether a case tells it.
+pub fn told_by_table(planned: &Planned, outcome: &Outcome) -> [bool; TABLES.len()] {
+    told(planned, outcome, TABLES, 0)
+}
+
+/// For each table that is wrong only where there are more than six atoms, whether a case of more than eight tells it.
+pub fn told_by_wide(planned: &Planned, outcome: &Outcome) -> [bool; WIDE.len()] {
+    told(planned, outcome, WIDE, FEW_TYPES)
 }
 
 /// For each wrong call whether it does something else than the right one with a case.
@@ -132,6 +143,11 @@ pub fn table(cases: &[Planned]) -> Table {
         &mut table,
         TABLES.map(|(name, _)| name),
         pairs().map(|(p, o)| told_by_table(p, o)),
+    );
+    count_told(
+        &mut table,
+        WIDE.map(|(name, _)| name),
+        pairs().map(|(p, o)| told_by_wide(p, o)),
     );
     count_told(
         &mut table,

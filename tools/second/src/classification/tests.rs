@@ -5,12 +5,12 @@
 use crate::classification::call::{classify, Classified};
 use crate::classification::checks::fault;
 use crate::classification::elimination::rows;
-use crate::classification::errors::{CALLS, TABLES};
+use crate::classification::errors::{CALLS, TABLES, WIDE};
 use crate::classification::plan::{Meant, Plan, Planned};
 use crate::classification::print::run;
 use crate::classification::small::all_within;
 use crate::classification::stated::{Node, Stated};
-use crate::classification::table::{told_by_call, told_by_table};
+use crate::classification::table::{told_by_call, told_by_table, told_by_wide};
 use crate::classification::taxonomy::TABLE_BYTES;
 use crate::classification::{decode, encode, lines, Case};
 use crate::comparison::{Terms, WRITTEN};
@@ -18,6 +18,7 @@ use crate::random::Random;
 use crate::tests::paper::{header, names, refusal, vocabularies};
 use crate::tests::stored;
 use crate::vocabulary::records::records;
+use std::collections::BTreeSet;
 
 /// What the lent bytes hold before a call.
 const FILLING: u8 = 0xA5;
@@ -177,6 +178,28 @@ fn planned_cases() {
     }
 }
 
+/// Of the twelve names of each of these cases six are everything or nothing. With the last six so, the survivors stand
+/// among 64 types in a row, with the first six at one place of each 64; every such row and every such place comes up.
+#[test]
+fn halves_decide() {
+    let cases = Plan::made(1, Plan::halves);
+    assert_eq!(cases.len(), 144);
+    let (rows, places) = cases.split_at(72);
+    let alone = |cases: &[Planned], by: fn(usize) -> usize| {
+        let only = |planned: &Planned| {
+            let outcome = run(&planned.case);
+            assert_eq!(fault(planned, &outcome), None);
+            let survivors = outcome.answer.unwrap().survivors;
+            let all: BTreeSet<usize> = survivors.into_iter().map(by).collect();
+            assert_eq!(all.len(), 1);
+            all
+        };
+        cases.iter().flat_map(only).collect::<BTreeSet<usize>>()
+    };
+    assert_eq!(alone(rows, |t| t / 64), (0..64).collect());
+    assert_eq!(alone(places, |t| t % 64), (0..64).collect());
+}
+
 /// A case whose answer, table or written bytes are not what they have to be is found out.
 #[test]
 fn faults_are_found() {
@@ -227,11 +250,17 @@ fn errors_are_told() {
     let by_table: Vec<_> = pairs()
         .map(|(planned, outcome)| told_by_table(planned, outcome))
         .collect();
+    let by_wide: Vec<_> = pairs()
+        .map(|(planned, outcome)| told_by_wide(planned, outcome))
+        .collect();
     let by_call: Vec<_> = pairs()
         .map(|(planned, outcome)| told_by_call(planned, outcome))
         .collect();
     for (i, (name, _)) in TABLES.iter().enumerate() {
         assert!(by_table.iter().any(|told| told[i]), "{name}");
+    }
+    for (i, (name, _)) in WIDE.iter().enumerate() {
+        assert!(by_wide.iter().any(|told| told[i]), "{name}");
     }
     for (i, (name, _)) in CALLS.iter().enumerate() {
         assert!(by_call.iter().any(|told| told[i]), "{name}");
@@ -262,10 +291,10 @@ fn written_cases() {
     assert_eq!(file[63..70], [56, 0, 1, 2, 2, 1, 255]);
     assert_eq!(decode(&file).unwrap(), cases);
     assert_eq!(decode(&file[..70]).unwrap_err(), "the file ends inside case 1");
-    assert_eq!(case([2, 4], 250).buffers(), [vec![250, 1], vec![250, 1, 8, 15]]);
+    assert_eq!(case([2, 4], 250).buffers(), [vec![250, 1], vec![5, 12, 19, 26]]);
     // Byte 0 of the survivors is 135, and byte 512 is 9. The table has 2, 0, 0, 0, 2, 0, 1, 1, 2; byte 144 is
-    // 7 * 144 + 9, modulo 256, which is 249.
-    let line = "counts 4 0 87 020000000200010102 144 69264 257 1372\n";
+    // 7 * 144 + 255 - 9, modulo 256, which is 230.
+    let line = "counts 4 0 87 020000000200010102 144 69264 238 1353\n";
     assert_eq!(lines(&cases[2..]), line);
-    assert_eq!(lines(&[case([2, 3], 3)]), "refused 12 0 13 16 30 46\n");
+    assert_eq!(lines(&[case([2, 3], 3)]), "refused 12 0 13 16 265 772\n");
 }

@@ -12,13 +12,15 @@ use crate::vocabulary::Refusal;
 type WrongCall = (&'static str, fn(&Case, &Outcome) -> Outcome);
 
 /// The wrong calls.
-pub const CALLS: [WrongCall; 14] = [
+pub const CALLS: [WrongCall; 16] = [
     ("survivors written on 26", survivors_on_26),
     ("table written on 12", table_on_12),
     ("rest of the 144 bytes kept", rest_kept),
     ("rest kept with no name", rest_kept_without_names),
     ("bytes from 144 on cleared", later_cleared),
     ("bytes from 512 on cleared", later_survivors_cleared),
+    ("bytes from 144 on taken from the other buffer", later_taken),
+    ("bytes from 512 on taken from the other buffer", later_survivors_taken),
     ("12 after 26", order_26_12),
     ("12 before 11", order_12_11),
     ("26 before 11", order_26_11),
@@ -125,6 +127,30 @@ fn later_cleared(_: &Case, right: &Outcome) -> Outcome {
 /// All that is lent for the survivors is cleared.
 fn later_survivors_cleared(_: &Case, right: &Outcome) -> Outcome {
     cleared(right, [WRITTEN, usize::MAX])
+}
+
+/// The right outcome with a buffer's bytes from one on as the other had them before, where the call is not refused.
+fn taken(case: &Case, right: &Outcome, from: [usize; 2]) -> Outcome {
+    let mut wrong = right.clone();
+    let [survivors, taxonomy] = case.buffers();
+    let others = [taxonomy, survivors];
+    for ((buffer, other), from) in wrong.buffers.iter_mut().zip(others).zip(from) {
+        if right.answer.is_ok() {
+            let later = buffer.iter_mut().zip(other).skip(from);
+            later.for_each(|(byte, taken)| *byte = taken);
+        }
+    }
+    wrong
+}
+
+/// Later bytes of the taxonomy are those that were lent for the survivors.
+fn later_taken(case: &Case, right: &Outcome) -> Outcome {
+    taken(case, right, [usize::MAX, TABLE_BYTES])
+}
+
+/// Later bytes of the survivors are those that were lent for the taxonomy.
+fn later_survivors_taken(case: &Case, right: &Outcome) -> Outcome {
+    taken(case, right, [WRITTEN, usize::MAX])
 }
 
 /// 26 is asked before 12.

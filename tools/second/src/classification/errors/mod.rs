@@ -2,6 +2,8 @@
 
 mod calls;
 mod tables;
+mod wide;
 
 pub use calls::CALLS;
-pub use tables::TABLES;
+pub use tables::{WrongTable, TABLES};
+pub use wide::WIDE;

@@ -5,7 +5,7 @@ use crate::comparison::{atoms, chained, Set, Types, MOST_ATOMS};
 use crate::vocabulary::records::{at, terms, Record, A};
 
 /// A wrong table: its name, and the table that is written, by the types and the survivors.
-type WrongTable = (&'static str, fn(&Types, &Set) -> Table);
+pub type WrongTable = (&'static str, fn(&Types, &Set) -> Table);
 
 /// The wrong tables.
 pub const TABLES: [WrongTable; 20] = [
@@ -32,7 +32,7 @@ pub const TABLES: [WrongTable; 20] = [
 ];
 
 /// The order of the names at a set.
-fn order_at(types: &Types, set: &Set) -> Order {
+pub fn order_at(types: &Types, set: &Set) -> Order {
     Order::at(types, &names(&types.records), set)
 }
 
