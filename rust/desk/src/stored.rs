@@ -68,7 +68,7 @@ pub fn classification_cases() -> Vec<(Vec<u8>, String)> {
         cases.push((take(&mut rest, length).to_vec(), line.to_string()));
     }
     assert!(rest.is_empty());
-    assert_eq!(cases.len(), 3428);
+    assert_eq!(cases.len(), 3572);
     cases
 }
 

@@ -308,7 +308,7 @@ fn the_stored_classifications_are_answered_as_expected() {
         let [length, survivors_len, taxonomy_len] = [(); 3].map(|()| cases.number(2));
         let seed = cases.number(1);
         let vocabulary = cases.take(length as usize);
-        let (mut survivors, mut taxonomy) = (lent(survivors_len, seed), lent(taxonomy_len, seed));
+        let (mut survivors, mut taxonomy) = (lent(survivors_len, seed), lent(taxonomy_len, 255 - seed));
         let answer = match judge::classify(vocabulary, &mut survivors, &mut taxonomy) {
             Err(refusal) => format!("refused {}", refused(refusal)),
             Ok(Classification {
