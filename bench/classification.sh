@@ -15,11 +15,4 @@ set -eu
 compile classification classification_vocabularies classification_plain classification_literal classification_answer \
     comparison_questions comparison_fast comparison_literal comparison_answer vocabulary_plain support
 
-case $mode in
-time) "$program" "$bench/data"; exit ;;
-agree) "$program" "$bench/data" --agree; exit ;;
-esac
-
-"$program" "$bench/data" --agree
-count_calls "$program" "$bench/data" --count
-awk -F '|' -f "$bench/counts.awk" -f "$bench/classification.awk" "$build/counts"
+measure classification "$bench/data"

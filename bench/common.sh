@@ -71,3 +71,19 @@ count_calls() {
         printf '%s|%s\n' "$line" "$(total "$build/dump.$number")"
     done <"$build/calls" >"$build/counts"
 }
+
+# measure NAME ARGUMENT..: runs the program as the mode asks: the time of each call; the comparison of the answers alone; or
+# that, and the instructions of each call, which bench/NAME.awk prints beside the figures to reach.
+measure() {
+    figures=$bench/$1.awk
+    shift
+    case $mode in
+    time) "$program" "$@" ;;
+    agree) "$program" "$@" --agree ;;
+    instructions)
+        "$program" "$@" --agree
+        count_calls "$program" "$@" --count
+        awk -F '|' -f "$bench/counts.awk" -f "$figures" "$build/counts"
+        ;;
+    esac
+}

@@ -14,11 +14,4 @@ set -eu
 
 compile comparison comparison_questions comparison_fast comparison_literal comparison_answer vocabulary_plain support
 
-case $mode in
-time) "$program" "$bench/data"; exit ;;
-agree) "$program" "$bench/data" --agree; exit ;;
-esac
-
-"$program" "$bench/data" --agree
-count_calls "$program" "$bench/data" --count
-awk -F '|' -f "$bench/counts.awk" -f "$bench/comparison.awk" "$build/counts"
+measure comparison "$bench/data"

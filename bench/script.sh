@@ -14,11 +14,4 @@ set -eu
 
 compile script script_shapes script_proofs script_plain vocabulary_plain support
 
-case $mode in
-time) "$program"; exit ;;
-agree) "$program" --agree; exit ;;
-esac
-
-"$program" --agree
-count_calls "$program" --count
-awk -F '|' -f "$bench/counts.awk" -f "$bench/script.awk" "$build/counts"
+measure script
