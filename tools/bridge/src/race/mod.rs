@@ -13,16 +13,16 @@ pub use worst::worst;
 use std::ffi::OsStr;
 use std::path::{Path, PathBuf};
 use std::process::Command;
-use std::time::Instant;
+use std::time::{Duration, Instant};
 
 use base::arguments::{digits, Arguments};
 use base::{Failure, Status};
 use judge::SURVIVOR_BYTES;
 
-use crate::commands::OURS;
+use crate::commands::{OURS, REPEATS};
 use crate::files::{read, read_vocabulary};
 use crate::output::complain;
-use crate::process::Run;
+use crate::process::{self, Run};
 use crate::question::Question;
 use crate::reasoner::{Reasoner, Reply};
 use crate::report::{median, milliseconds};
@@ -74,6 +74,36 @@ fn entries(directory: &Path) -> Result<Vec<Entry>, Failure> {
         entries.push(Entry { stem, question });
     }
     Ok(entries)
+}
+
+/// What each side took on each vocabulary, the library first.
+struct Contest {
+    entries: Vec<Entry>,
+    reasoners: Vec<Reasoner>,
+    sides: Vec<Vec<Times>>,
+}
+
+/// Runs the library's program and each reasoner once on a vocabulary, within a time limit.
+type RunAll = fn(&Entry, &[Reasoner], &OsStr, Duration, &mut [Times]) -> Result<(), Failure>;
+
+/// Runs all sides on each vocabulary of a directory, by turns, as often as asked.
+fn contest(arguments: &Arguments, run_all: RunAll) -> Result<Contest, Failure> {
+    let [directory] = arguments.words(["DIRECTORY"])?;
+    let (program, limit) = (our_program(arguments)?, process::limit(arguments, 60)?);
+    let repeats = arguments.number(REPEATS.name, 11)?;
+    let reasoners = Reasoner::both(arguments)?;
+    let entries = entries(Path::new(directory))?;
+    let mut sides = vec![vec![Times::default(); 1 + reasoners.len()]; entries.len()];
+    for _ in 0..repeats {
+        for (entry, sides) in entries.iter().zip(&mut sides) {
+            run_all(entry, &reasoners, program, limit, sides)?;
+        }
+    }
+    Ok(Contest {
+        entries,
+        reasoners,
+        sides,
+    })
 }
 
 /// Two term numbers with a space between.

@@ -2,15 +2,13 @@
 
 use std::ffi::OsStr;
 use std::fmt::Write;
-use std::path::Path;
 use std::process::Command;
 use std::time::Duration;
 
 use base::arguments::Arguments;
 use base::{Failure, Status};
 
-use super::{entries, failures, medians, our_program, ratio, say_difference, spread, Entry, Times};
-use crate::commands::REPEATS;
+use super::{contest, failures, medians, ratio, say_difference, spread, Contest, Entry, Times};
 use crate::customs::{beside, FEWEST_ATOMS};
 use crate::output::say_line;
 use crate::process;
@@ -27,17 +25,11 @@ const TO_REACH: f64 = 1.0;
 /// The classification of all names, a process each: the table by numbers of atoms, and the whole beside what is to be
 /// reached.
 pub fn names(arguments: &Arguments) -> Result<Status, Failure> {
-    let [directory] = arguments.words(["DIRECTORY"])?;
-    let (program, limit) = (our_program(arguments)?, process::limit(arguments, 60)?);
-    let repeats = arguments.number(REPEATS.name, 11)?;
-    let reasoners = Reasoner::both(arguments)?;
-    let entries = entries(Path::new(directory))?;
-    let mut sides = vec![vec![Times::default(); 1 + reasoners.len()]; entries.len()];
-    for _ in 0..repeats {
-        for (entry, sides) in entries.iter().zip(&mut sides) {
-            run_all(entry, &reasoners, program, limit, sides)?;
-        }
-    }
+    let Contest {
+        entries,
+        reasoners,
+        sides,
+    } = contest(arguments, run_all)?;
     say_line(&by_atoms(&entries, &sides))?;
     say_line(&whole(&entries, &reasoners, &sides))?;
     Ok(Status::Holds)

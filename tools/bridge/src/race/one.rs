@@ -2,16 +2,14 @@
 
 use std::ffi::OsStr;
 use std::fmt::Write;
-use std::path::Path;
 use std::time::Duration;
 
 use base::arguments::Arguments;
 use base::{Failure, Status};
 
 use super::{
-    call_alone, entries, expected, failures, judged, medians, our_program, ours, ratio, reply, spread, Entry, Times,
+    call_alone, contest, expected, failures, judged, medians, ours, ratio, reply, spread, Contest, Entry, Times,
 };
-use crate::commands::REPEATS;
 use crate::customs::{beside, FEWEST_ATOMS};
 use crate::output::say_line;
 use crate::process;
@@ -23,17 +21,11 @@ const TO_REACH: (f64, f64) = (2.0, 20.0);
 
 /// One question a process: the table by numbers of atoms, and the whole beside what is to be reached.
 pub fn one(arguments: &Arguments) -> Result<Status, Failure> {
-    let [directory] = arguments.words(["DIRECTORY"])?;
-    let (program, limit) = (our_program(arguments)?, process::limit(arguments, 60)?);
-    let repeats = arguments.number(REPEATS.name, 11)?;
-    let reasoners = Reasoner::both(arguments)?;
-    let entries = entries(Path::new(directory))?;
-    let mut sides = vec![vec![Times::default(); 1 + reasoners.len()]; entries.len()];
-    for _ in 0..repeats {
-        for (entry, sides) in entries.iter().zip(&mut sides) {
-            run_all(entry, &reasoners, program, limit, sides)?;
-        }
-    }
+    let Contest {
+        entries,
+        reasoners,
+        sides,
+    } = contest(arguments, run_all)?;
     let calls: Vec<f64> = entries.iter().map(|entry| call_alone(&entry.question)).collect();
     say_line(&by_atoms(&entries, &sides, &calls))?;
     say_line(&whole(&reasoners, &sides, &calls))?;
