@@ -5,7 +5,6 @@ pub mod Search
 pub mod Lists
 pub mod Below
 pub mod Sets
-pub mod Counting
 pub mod Bits
 pub mod Width
 pub mod Filling

@@ -1,9 +1,9 @@
 -- Generic definitions: searches, tables, lists, and numbers by their bits. No sentence of the paper speaks of them alone.
---   anyBelow, allBelow, least, countBelow, listBelow   a test over the numbers below n
---   table, has, members                                values at the numbers below n; sets as tables
---   digit, bit, number                                 truths as digits, numbers by their bits
---   occurs, without, isNil, allZero                    lists
---   inRecordOrder                                      a value for each record, from those before it
+--   anyBelow, allBelow, least, listBelow   a test over the numbers below n
+--   table, has, members                    values at the numbers below n; sets as tables
+--   digit, bit, number                     truths as digits, numbers by their bits
+--   occurs, without, isNil, allZero        lists
+--   inRecordOrder                          a value for each record, from those before it
 use Prim.Native.Nat.{ℕ, zero, suc, _+_, _*_, _/_, _%_, _^_}
 use mathlib.Core.Bool.{Bool, true, false, cond, _&&_, _||_}
 use mathlib.Core.List.{List, [], _∷_, _++_}
@@ -29,11 +29,6 @@ allBelow test (suc n) = allBelow test n && test n
 unfoldable pub least : (ℕ → Bool) → ℕ → ℕ
 least test zero = 0
 least test (suc n) = cond (test 0) 0 (suc (least (λ i. test (suc i)) n))
-
--- How many numbers below n pass a test.
-unfoldable pub countBelow : (ℕ → Bool) → ℕ → ℕ
-countBelow test zero = 0
-countBelow test (suc n) = countBelow test n + digit (test n)
 
 -- The numbers below n that pass a test, in rising order.
 abbrev pub appendIf : Bool → List ℕ → ℕ → List ℕ

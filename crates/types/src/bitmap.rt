@@ -1,4 +1,4 @@
-// What a set of types shows: how many there are, the first at which the terms differ, and the bytes that hold it.
+// What a set of types shows: the first at which the terms differ, and the bytes that hold it.
 use crate::truth::push_bit;
 use crate::type_data::TypeData;
 ghost use mathlib.Core.Path.{_≡_};
@@ -6,26 +6,10 @@ ghost use mathlib.Core.Bool.{false, _&&_};
 ghost use mathlib.Core.List.{_++_};
 ghost use Prim.Native.Nat.{ℕ, _-_, _≤_, _<_};
 ghost use lib.ListN.{length, getD, drop};
-ghost use Rattle.records.specs.Finite.{has, least, table, countBelow};
+ghost use Rattle.records.specs.Finite.{has, least, table};
 ghost use Rattle.types.specs.Bitmap.{byteOf};
 ghost use Rattle.types.specs.Code.Settling.{cleared};
 ghost use Rattle.types.specs.Comparison.{typeLimit, bitmapBytes};
-
-// How many are below `size`.
-pub fn count_alive(alive: &[bool; TypeData::TYPES], size: usize) -> usize
-    requires { ⌜ size ≤ typeLimit ⌝ }
-    ensures { λ r. ⌜ r ≡ countBelow (has (now (alive .entry))) size ⌝ }
-{
-    let mut found = 0;
-    let mut t = 0;
-    while t < size {
-        if alive[t] {
-            found += 1;
-        }
-        t += 1;
-    }
-    found
-}
 
 // The smallest that is in both tables, or `size`.
 pub fn find_first(

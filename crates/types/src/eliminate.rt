@@ -1,4 +1,5 @@
 // Type elimination: rounds over a table of the types that are left.
+use crate::answers::Counts;
 use crate::restrict::other_roles;
 use crate::type_data::TypeData;
 use crate::zeta::clear_words;
@@ -6,19 +7,19 @@ use crate::zeta::zeta_transform;
 use records::fields::Record;
 use records::fields::read_at;
 ghost use mathlib.Core.Path.{_≡_};
-ghost use mathlib.Core.Bool.{true, false, _||_};
-ghost use Prim.Native.Nat.{ℕ, _≤_, _<_};
+ghost use mathlib.Core.Bool.{true, false};
+ghost use Prim.Native.Nat.{ℕ, suc, _≤_, _<_};
 ghost use lib.ListN.{length, getD};
 ghost use lib.Bits.{bitOr};
 ghost use Rattle.records.specs.Check.{IsAccepted};
 ghost use Rattle.records.specs.Atoms.{atoms};
-ghost use Rattle.records.specs.Finite.{has};
+ghost use Rattle.records.specs.Finite.{has, members};
 ghost use Rattle.types.specs.Types.{types};
-ghost use Rattle.types.specs.Survivors.{stage, rounds, survivors};
+ghost use Rattle.types.specs.Survivors.{stage, survivors};
 ghost use Rattle.types.specs.Code.Words.{width, Roles, RestrictionWords, FillerWords, SameSet};
-ghost use Rattle.types.specs.Code.Elimination.{Masks, Enumerates, Joins, Enters, Eliminating, AfterRound, Keeps, metBy};
-ghost use Rattle.types.specs.Code.Elimination.{metAt};
-ghost use Rattle.types.specs.Comparison.{atomLimit, typeLimit};
+ghost use Rattle.types.specs.Code.Elimination.{Masks, Enumerates, Joins, Enters, Eliminating, metBy, metAt};
+ghost use Rattle.types.specs.Code.Elimination.{Keeps, AfterRound, AtStage};
+ghost use Rattle.types.specs.Comparison.{atomLimit, typeLimit, counts};
 
 // The words of the other roles, for each role: no round works them out again.
 fn list_masks(
@@ -52,17 +53,18 @@ fn list_candidates(
     requires { ⌜ ((t : ℕ) → size ≤ t → has (now alive) t ≡ false) ⌝ }
     requires { ⌜ length (now candidates) ≡ typeLimit ⌝ }
     ensures { λ r. ⌜ Enumerates (now (candidates .exit)) r (now (alive .entry)) ⌝ }
+    ensures { λ r. ⌜ r ≡ members (now (alive .entry)) ⌝ }
 {
-    let mut left = 0;
+    let mut total = 0;
     let mut t = 0;
     while t < size {
         if alive[t] {
-            candidates[left] = t as u16;
-            left += 1;
+            candidates[total] = t as u16;
+            total += 1;
         }
         t += 1;
     }
-    left
+    total
 }
 
 // Enters the word of the fillers at each type of the set at its own place, in a table whose words below `size` are cleared first.
@@ -70,21 +72,21 @@ fn enter_words(
     filling: &[u16; TypeData::TYPES],
     alive: &[bool; TypeData::TYPES],
     candidates: &[u16; TypeData::TYPES],
-    left: usize,
+    total: usize,
     size: usize,
     joins: &mut [u16; TypeData::TYPES],
 )
-    requires { ⌜ Enumerates (now candidates) left (now alive) ⌝ }
+    requires { ⌜ Enumerates (now candidates) total (now alive) ⌝ }
     requires { ⌜ ((t : ℕ) → has (now alive) t ≡ true → getD (now filling) t 0 < typeLimit) ⌝ }
     requires { ⌜ size ≤ typeLimit ⌝ }
     requires { ⌜ length (now joins) ≡ typeLimit ⌝ }
     ensures { λ _. ⌜ length (now (joins .exit)) ≡ typeLimit ⌝ }
-    ensures { λ _. ⌜ Enters (now (filling .entry)) (now (candidates .entry)) (now (alive .entry)) left size
+    ensures { λ _. ⌜ Enters (now (filling .entry)) (now (candidates .entry)) (now (alive .entry)) total size
         (now (joins .exit)) ⌝ }
 {
     clear_words(joins, size);
     let mut j = 0;
-    while j < left {
+    while j < total {
         let t = candidates[j] as usize;
         if alive[t] {
             let word = filling[t];
@@ -103,39 +105,35 @@ fn is_met(joins: &[u16; TypeData::TYPES], mask: u16, held: u16) -> bool
     (joins[reached as usize] | mask) == reached
 }
 
-// Removes the types whose needs by restrictions of one role are not met; whether there were any.
+// Removes the types whose needs by restrictions of one role are not met, of a set of `left`; how many are left then.
 fn remove_unmet(
     held: &[u16; TypeData::TYPES],
     joins: &[u16; TypeData::TYPES],
     mask: u16,
     candidates: &[u16; TypeData::TYPES],
+    total: usize,
     left: usize,
     alive: &mut [bool; TypeData::TYPES],
-) -> bool
-    requires { ⌜ Enumerates (now candidates) left (now alive) ⌝ }
+) -> usize
+    requires { ⌜ Enumerates (now candidates) total (now alive) ⌝ }
     requires { ⌜ ((t : ℕ) → has (now alive) t ≡ true → bitOr (getD (now held) t 0) mask < typeLimit) ⌝ }
     requires { ⌜ length (now alive) ≡ typeLimit ⌝ }
+    requires { ⌜ left ≡ members (now alive) ⌝ }
     ensures { λ r. ⌜ Keeps (metAt (now (joins .entry)) mask (now (held .entry))) (now (alive .entry)) (now (alive .exit)) r ⌝ }
 {
-    let mut removed = false;
+    let mut rest = left;
     let mut j = 0;
-    while j < left {
+    while j < total {
         let t = candidates[j] as usize;
         if alive[t] {
             if !is_met(joins, mask, held[t]) {
                 alive[t] = false;
-                removed = true;
+                rest -= 1;
             }
         }
         j += 1;
     }
-    removed
-}
-
-fn either(a: bool, b: bool) -> bool
-    ensures { λ r. ⌜ r ≡ (a || b) ⌝ }
-{
-    if a { true } else { b }
+    rest
 }
 
 // The same for the restrictions of all roles, one after the other; a role with no restriction asks for nothing.
@@ -146,30 +144,31 @@ fn remove_by_roles(
     held: &[u16; TypeData::TYPES],
     joins: &[u16; TypeData::TYPES],
     candidates: &[u16; TypeData::TYPES],
+    total: usize,
     left: usize,
     alive: &mut [bool; TypeData::TYPES],
-) -> bool
-    requires { ⌜ Eliminating (now v) bits (now masks) (now held) (now candidates) left (now alive) ⌝ }
+) -> usize
+    requires { ⌜ Eliminating (now v) bits (now masks) (now held) (now candidates) total (now alive) ⌝ }
     requires { ⌜ Joins (now v) (now alive) (now joins) ⌝ }
+    requires { ⌜ left ≡ members (now alive) ⌝ }
     ensures { λ r. ⌜ AfterRound (now (v .entry)) (now (alive .entry)) (now (alive .exit)) r ⌝ }
 {
     let count = read_at(v, 0).b;
     let full = (1 << bits) - 1;
-    let mut removed = false;
+    let mut rest = left;
     let mut role = 0;
     while role < count {
         let mask = masks[role as usize];
         if mask != full {
-            let found = remove_unmet(held, joins, mask, candidates, left, alive);
-            removed = either(removed, found);
+            rest = remove_unmet(held, joins, mask, candidates, total, rest, alive);
         }
         role += 1;
     }
-    removed
+    rest
 }
 
-// One round: removes together all types not served by the set as the round began; whether there were any. The table of
-// joins is lent: what it held is of no matter.
+// One round: removes together all types not served by the set as the round began, of which there are `left`; how many are
+// left at its end. The table of joins is lent: what it held is of no matter.
 fn remove_unserved(
     v: &[u8],
     bits: usize,
@@ -177,22 +176,27 @@ fn remove_unserved(
     held: &[u16; TypeData::TYPES],
     filling: &[u16; TypeData::TYPES],
     candidates: &[u16; TypeData::TYPES],
+    total: usize,
     left: usize,
     joins: &mut [u16; TypeData::TYPES],
     alive: &mut [bool; TypeData::TYPES],
-) -> bool
-    requires { ⌜ Eliminating (now v) bits (now masks) (now held) (now candidates) left (now alive) ⌝ }
+) -> usize
+    requires { ⌜ Eliminating (now v) bits (now masks) (now held) (now candidates) total (now alive) ⌝ }
     requires { ⌜ FillerWords (now v) (now filling) ⌝ }
     requires { ⌜ length (now joins) ≡ typeLimit ⌝ }
+    requires { ⌜ left ≡ members (now alive) ⌝ }
     ensures { λ _. ⌜ length (now (joins .exit)) ≡ typeLimit ⌝ }
     ensures { λ r. ⌜ AfterRound (now (v .entry)) (now (alive .entry)) (now (alive .exit)) r ⌝ }
+    ensures { λ r. ⌜ ((n : ℕ) → SameSet (now (alive .entry)) (stage (now (v .entry)) n)
+        → AtStage (now (v .entry)) (suc n) (now (alive .exit)) r) ⌝ }
 {
-    enter_words(filling, alive, candidates, left, 1 << bits, joins);
+    enter_words(filling, alive, candidates, total, 1 << bits, joins);
     zeta_transform(joins, bits);
-    remove_by_roles(v, bits, masks, held, joins, candidates, left, alive)
+    remove_by_roles(v, bits, masks, held, joins, candidates, total, left, alive)
 }
 
-// Rounds until one removes nothing, so that the survivors are left; how many removed something.
+// Rounds until one removes nothing, so that the survivors are left; how many they are, and how many rounds removed something.
+// The count begins with the types at which every statement holds, and each removal lowers it: no round counts the table.
 pub fn eliminate(
     v: &[u8],
     roles: &[u16; TypeData::ATOMS],
@@ -201,7 +205,7 @@ pub fn eliminate(
     filling: &[u16; TypeData::TYPES],
     size: usize,
     alive: &mut [bool; TypeData::TYPES],
-) -> usize
+) -> Counts
     requires { ⌜ IsAccepted (now v) ⌝ }
     requires { ⌜ atoms (now v) ≤ atomLimit ⌝ }
     requires { ⌜ bits ≡ width (now v) ⌝ }
@@ -212,28 +216,34 @@ pub fn eliminate(
     requires { ⌜ SameSet (now alive) (stage (now v) 0) ⌝ }
     requires { ⌜ length (now alive) ≡ typeLimit ⌝ }
     ensures { λ _. ⌜ SameSet (now (alive .exit)) (survivors (now (v .entry))) ⌝ }
-    ensures { λ r. ⌜ r ≡ rounds (now (v .entry)) ⌝ }
+    ensures { λ r. ⌜ r ≡ counts (now (v .entry)) ⌝ }
 {
     let masks = list_masks(v, roles, bits);
     let mut candidates = [0; TypeData::TYPES];
-    let left = list_candidates(alive, size, &mut candidates);
+    let total = list_candidates(alive, size, &mut candidates);
     let mut joins = [0; TypeData::TYPES];
+    let mut left = total;
     let mut done = 0;
     loop {
-        let removed = remove_unserved(
+        let rest = remove_unserved(
             v,
             bits,
             &masks,
             held,
             filling,
             &candidates,
+            total,
             left,
             &mut joins,
             alive,
         );
-        if !removed {
-            return done;
+        if rest == left {
+            return Counts {
+                survivors: rest,
+                rounds: done,
+            };
         }
+        left = rest;
         done += 1;
     }
 }

@@ -1,7 +1,6 @@
-// The comparison up to its answer: which types survive, at which of them the two terms differ, and after how many rounds. The
-// survivors are counted and written here, for other calls too.
+// The comparison up to its answer: which types survive and how many, at which of them the two terms differ, and after how many
+// rounds. The survivors are written here, for other calls too.
 use crate::answers::Counts;
-use crate::bitmap::count_alive;
 use crate::bitmap::write_bitmap;
 use crate::decode::decode;
 use crate::eliminate::eliminate;
@@ -22,7 +21,8 @@ ghost use Rattle.types.specs.Bitmap.{bitmap};
 ghost use Rattle.types.specs.Code.Words.{SameSet};
 ghost use Rattle.types.specs.Code.Settling.{Settleable, Comparable, Empty, Vacant, Settled};
 
-// Settles the terms a and b of a vocabulary of k atoms, in empty tables; how many rounds removed something.
+// Settles the terms a and b of a vocabulary of k atoms, in empty tables; how many types survive, and how many rounds removed
+// something.
 fn settle(
     v: &[u8],
     a: usize,
@@ -30,10 +30,11 @@ fn settle(
     k: usize,
     alive: &mut [bool; TypeData::TYPES],
     differs: &mut [bool; TypeData::TYPES],
-) -> usize
+) -> Counts
     requires { ⌜ Comparable (now v) a b k ⌝ }
     requires { ⌜ Vacant (now alive) (now differs) ⌝ }
-    ensures { λ r. ⌜ Settled (now (v .entry)) a b (now (alive .exit)) (now (differs .exit)) r ⌝ }
+    ensures { λ r. ⌜ r ≡ counts (now (v .entry)) ⌝ }
+    ensures { λ _. ⌜ Settled (now (v .entry)) a b (now (alive .exit)) (now (differs .exit)) ⌝ }
 {
     let mut code = [0; TypeData::CODE];
     let mut statements = [0; Record::LIMIT];
@@ -68,7 +69,7 @@ fn settle(
     eliminate(v, &roles, bits, &held, &filling, 1 << k, alive)
 }
 
-// The same; the survivors are counted and written too.
+// The same; the survivors are written too.
 pub fn settle_query(
     v: &[u8],
     a: usize,
@@ -82,14 +83,12 @@ pub fn settle_query(
     requires { ⌜ Vacant (now alive) (now differs) ⌝ }
     requires { ⌜ bitmapBytes ≤ length (now lent) ⌝ }
     ensures { λ r. ⌜ r ≡ counts (now (v .entry)) ⌝ }
-    ensures { λ r. ⌜ Settled (now (v .entry)) a b (now (alive .exit)) (now (differs .exit)) (r .rounds) ⌝ }
+    ensures { λ _. ⌜ Settled (now (v .entry)) a b (now (alive .exit)) (now (differs .exit)) ⌝ }
     ensures { λ _. ⌜ now (lent .exit) ≡ bitmap (now (v .entry)) ++ drop bitmapBytes (now (lent .entry)) ⌝ }
 {
-    let rounds = settle(v, a, b, k, alive, differs);
-    let size = 1 << k;
-    let survivors = count_alive(alive, size);
-    write_bitmap(alive, size, lent);
-    Counts { survivors, rounds }
+    let counts = settle(v, a, b, k, alive, differs);
+    write_bitmap(alive, 1 << k, lent);
+    counts
 }
 
 // The same with no query: the header, which differs from itself at no type, stands for both terms.

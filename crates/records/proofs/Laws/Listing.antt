@@ -1,11 +1,12 @@
--- Lists in rising order, one turn after the other: of the members of a set, and of the numbers that pass a test.
---   ListedBelow                                            the members below t, in a list that has room
---   list-start, list-more, list-same                       none; one more; none here
+-- Lists in rising order, one turn after the other: of the numbers that pass a test, and of the members of a set.
 --   entries-none, entries-length, entry-kept, entry-last   numbers that pass, one further
 --   entry-sound, entry-found                               the entries are those that pass
 --   entry-rises                                            they rise
 --   entry-number, entry-at                                 an entry's number is how many there are before it
 --   total-turn, fill-entry-kept, fill-entry-more           a table of what each entry is to hold
+--   entries-members                                        how many there are, of a set
+--   ListedBelow                                            the members below t, in a list that has room
+--   list-start, list-more, list-same                       none; one more; none here
 -- Assumes nothing.
 use Prim.Native.Nat.{ℕ, zero, suc, _+_, _≤_, _<_}
 use native.Mathlib.Omega.{arith}
@@ -17,74 +18,10 @@ use mathlib.Core.List.{List, [], _∷_}
 use mathlib.Core.Logic.{_⊎_, inl, inr}
 use lib.ListN.{length, getD, set, length-set, length-append, List·getD-append}
 use lib.Seq.{getD-set-same, getD-set-other, getD-append-seam}
-use Rattle.records.specs.Finite.{digit, has, appendIf, listBelow}
+use Rattle.records.specs.Finite.{digit, has, members, appendIf, listBelow}
 use Rattle.records.proofs.Laws.Tests.{clash}
-use Rattle.records.proofs.Laws.Filling.{Filled, fill-turn, fill-same}
-
--- The members of a set below t, listed.
-pub record ListedBelow (room : ℕ) (S : List Bool) (list : List ℕ) (left t : ℕ) : Type 0 where
-  pub size : length list ≡ room
-  pub few : left ≤ t
-  pub inside : (j : ℕ) → j < left → getD list j 0 < t
-  pub members : (j : ℕ) → j < left → has S (getD list j 0) ≡ true
-  pub finds : (u : ℕ) → u < t → has S u ≡ true → (j : ℕ) × (j < left) × (getD list j 0 ≡ u)
-
-module _ (room : ℕ) (S : List Bool) (list : List ℕ) where
-  pub list-start : length list ≡ room → ListedBelow room S list 0 0
-  list-start e =
-      record {
-        size = e;
-        few = omega arith;
-        inside = λ j h. absurd (omega arith);
-        members = λ j h. absurd (omega arith);
-        finds = λ u h m. absurd (omega arith);
-      }
-
-  module _ (left t : ℕ) (l : ListedBelow room S list left t) where
-    pub list-more : t < room → has S t ≡ true → ListedBelow room S (set list left t) (left + 1) (t + 1)
-    list-more h e =
-        record {
-          size = length-set list left t ∙ l .size;
-          few = omega (arith, l .few);
-          inside = λ j k. inside-at j k (ℕ-discrete j left);
-          members = λ j k. members-at j k (ℕ-discrete j left);
-          finds = λ u k m. finds-at u k m (ℕ-discrete u t);
-        }
-      where
-        last : getD (set list left t) left 0 ≡ t
-        last = getD-set-same list left t 0 (omega (arith, l .size, l .few))
-
-        inside-at : (j : ℕ) → j < left + 1 → Dec (j ≡ left) → getD (set list left t) j 0 < t + 1
-        inside-at j k (yes q) = rw (q, last) (omega arith)
-        inside-at j k (no q) = rw (getD-set-other list left j t 0 q) (omega (arith, l .inside j (omega arith)))
-
-        members-at : (j : ℕ) → j < left + 1 → Dec (j ≡ left) → has S (getD (set list left t) j 0) ≡ true
-        members-at j k (yes q) = rw (q, last) e
-        members-at j k (no q) = rw (getD-set-other list left j t 0 q) (l .members j (omega arith))
-
-        Place : ℕ → Type 0
-        Place u = (j : ℕ) × (j < left + 1) × (getD (set list left t) j 0 ≡ u)
-
-        kept : (u : ℕ) → (j : ℕ) × (j < left) × (getD list j 0 ≡ u) → Place u
-        kept u f = (f .0, omega (arith, f .1), getD-set-other list left (f .0) t 0 (λ e. omega (arith, f .1)) ∙ f .2)
-
-        finds-at : (u : ℕ) → u < t + 1 → has S u ≡ true → Dec (u ≡ t) → Place u
-        finds-at u k m (yes q) = (left, omega arith, last ∙ sym q)
-        finds-at u k m (no q) = kept u (l .finds u (omega arith) m)
-
-    pub list-same : has S t ≡ false → ListedBelow room S list left (t + 1)
-    list-same e =
-        record {
-          size = l .size;
-          few = omega (arith, l .few);
-          inside = λ j k. omega (arith, l .inside j k);
-          members = l .members;
-          finds = λ u k m. at u k m (ℕ-discrete u t);
-        }
-      where
-        at : (u : ℕ) → u < t + 1 → has S u ≡ true → Dec (u ≡ t) → (j : ℕ) × (j < left) × (getD list j 0 ≡ u)
-        at u k m (yes q) = absurd (clash (cc))
-        at u k m (no q) = l .finds u (omega arith) m
+use Rattle.records.proofs.Laws.Sets.{members-none}
+use Rattle.records.proofs.Laws.Filling.{Ends, Filled, fill-turn, fill-same}
 
 -- How many numbers below n pass a test; the m-th of them.
 abbrev pub entries : (ℕ → Bool) → ℕ → ℕ
@@ -212,3 +149,88 @@ module _ (test : ℕ → Bool) where
       fill-entry-more x free e q =
           fill-turn d room l (λ m. ask (entry test (i + 1) m)) n x free fill-entry-kept
           (q ∙ ap ask (sym (rw (add-one i) (newest i n (sym total) e))))
+
+-- the entries, counted from the front
+entries-front : (test : ℕ → Bool) (n : ℕ) → entries test (suc n) ≡ digit (test 0) + entries (λ i. test (suc i)) n
+entries-front test zero =
+    omega (arith, entries-length test 0, entries-none test, entries-none (λ i. test (suc i)))
+entries-front test (suc n) =
+    omega (arith, entries-length test (suc n), entries-front test n, entries-length (λ i. test (suc i)) n)
+
+-- In a set that has none from n on, the entries below n are its members.
+pub entries-members : (n : ℕ) (S : List Bool) → Ends S n → entries (has S) n ≡ members S
+unfolding members
+entries-members zero S ends = entries-none (has S) ∙ sym (members-none S (λ t. ends t (omega arith)))
+entries-members (suc n) [] ends = omega (arith, entries-length (has []) n, entries-members n [] (λ t h. refl))
+entries-members (suc n) (b ∷ S) ends =
+    entries-front (has (b ∷ S)) n
+    ∙ ap (λ (x : ℕ). digit b + x) (entries-members n S (λ t h. ends (suc t) (omega arith)))
+
+-- The members of a set below t, listed.
+pub record ListedBelow (room : ℕ) (S : List Bool) (list : List ℕ) (left t : ℕ) : Type 0 where
+  pub size : length list ≡ room
+  pub few : left ≤ t
+  pub inside : (j : ℕ) → j < left → getD list j 0 < t
+  pub members : (j : ℕ) → j < left → has S (getD list j 0) ≡ true
+  pub finds : (u : ℕ) → u < t → has S u ≡ true → (j : ℕ) × (j < left) × (getD list j 0 ≡ u)
+  pub counted : left ≡ entries (has S) t
+
+module _ (room : ℕ) (S : List Bool) (list : List ℕ) where
+  pub list-start : length list ≡ room → ListedBelow room S list 0 0
+  list-start e =
+      record {
+        size = e;
+        few = omega arith;
+        inside = λ j h. absurd (omega arith);
+        members = λ j h. absurd (omega arith);
+        finds = λ u h m. absurd (omega arith);
+        counted = sym (entries-none (has S));
+      }
+
+  module _ (left t : ℕ) (l : ListedBelow room S list left t) where
+    pub list-more : t < room → has S t ≡ true → ListedBelow room S (set list left t) (left + 1) (t + 1)
+    list-more h e =
+        record {
+          size = length-set list left t ∙ l .size;
+          few = omega (arith, l .few);
+          inside = λ j k. inside-at j k (ℕ-discrete j left);
+          members = λ j k. members-at j k (ℕ-discrete j left);
+          finds = λ u k m. finds-at u k m (ℕ-discrete u t);
+          counted = total-turn (has S) left t (l .counted) true e;
+        }
+      where
+        last : getD (set list left t) left 0 ≡ t
+        last = getD-set-same list left t 0 (omega (arith, l .size, l .few))
+
+        inside-at : (j : ℕ) → j < left + 1 → Dec (j ≡ left) → getD (set list left t) j 0 < t + 1
+        inside-at j k (yes q) = rw (q, last) (omega arith)
+        inside-at j k (no q) = rw (getD-set-other list left j t 0 q) (omega (arith, l .inside j (omega arith)))
+
+        members-at : (j : ℕ) → j < left + 1 → Dec (j ≡ left) → has S (getD (set list left t) j 0) ≡ true
+        members-at j k (yes q) = rw (q, last) e
+        members-at j k (no q) = rw (getD-set-other list left j t 0 q) (l .members j (omega arith))
+
+        Place : ℕ → Type 0
+        Place u = (j : ℕ) × (j < left + 1) × (getD (set list left t) j 0 ≡ u)
+
+        kept : (u : ℕ) → (j : ℕ) × (j < left) × (getD list j 0 ≡ u) → Place u
+        kept u f = (f .0, omega (arith, f .1), getD-set-other list left (f .0) t 0 (λ e. omega (arith, f .1)) ∙ f .2)
+
+        finds-at : (u : ℕ) → u < t + 1 → has S u ≡ true → Dec (u ≡ t) → Place u
+        finds-at u k m (yes q) = (left, omega arith, last ∙ sym q)
+        finds-at u k m (no q) = kept u (l .finds u (omega arith) m)
+
+    pub list-same : has S t ≡ false → ListedBelow room S list left (t + 1)
+    list-same e =
+        record {
+          size = l .size;
+          few = omega (arith, l .few);
+          inside = λ j k. omega (arith, l .inside j k);
+          members = l .members;
+          finds = λ u k m. at u k m (ℕ-discrete u t);
+          counted = omega (arith, total-turn (has S) left t (l .counted) false e);
+        }
+      where
+        at : (u : ℕ) → u < t + 1 → has S u ≡ true → Dec (u ≡ t) → (j : ℕ) × (j < left) × (getD list j 0 ≡ u)
+        at u k m (yes q) = absurd (clash (cc))
+        at u k m (no q) = l .finds u (omega arith) m

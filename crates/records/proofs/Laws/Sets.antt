@@ -3,14 +3,16 @@
 --   table-cong                           tables of the same values
 --   members-bound, members-within        how many are in a set, and in one within it
 --   members-less                         a set within another that misses one
---   members-zero                         a set of none
+--   members-zero, members-none           a set of none
+--   members-same                         tables of the same set
+--   members-out                          one member taken out
 -- Assumes nothing.
-use Prim.Native.Nat.{ℕ, zero, suc, _≤_, _<_}
+use Prim.Native.Nat.{ℕ, zero, suc, _+_, _≤_, _<_}
 use native.Mathlib.Omega.{arith}
-use mathlib.Core.Path.{_≡_, refl, ap}
+use mathlib.Core.Path.{_≡_, refl, sym, ap}
 use mathlib.Core.Bool.{Bool, true, false}
 use mathlib.Core.List.{List, [], _∷_}
-use lib.ListN.{length, getD}
+use lib.ListN.{length, getD, set}
 use Rattle.records.proofs.Laws.Tests.{clash}
 use Rattle.records.specs.Finite.{digit, table, has, members}
 
@@ -89,3 +91,22 @@ members-zero [] e t = refl
 members-zero (true ∷ S) e t = absurd (omega arith)
 members-zero (false ∷ S) e zero = refl
 members-zero (false ∷ S) e (suc t) = members-zero S (omega arith) t
+
+pub members-none : (S : List Bool) → ((t : ℕ) → has S t ≡ false) → members S ≡ 0
+unfolding members
+members-none [] none = refl
+members-none (b ∷ S) none = rw (none 0) (omega (arith, members-none S (λ t. none (suc t))))
+
+-- the same numbers are in both, of whatever length the tables are
+pub members-same : (S R : List Bool) → ((t : ℕ) → has S t ≡ has R t) → members S ≡ members R
+unfolding members
+members-same [] R same = sym (members-none R (λ t. sym (same t)))
+members-same (a ∷ S) [] same = members-none (a ∷ S) same
+members-same (a ∷ S) (b ∷ R) same = rw (same 0, members-same S R (λ t. same (suc t)))
+
+-- a member taken out leaves one fewer
+pub members-out : (S : List Bool) (t : ℕ) → has S t ≡ true → members (set S t false) + 1 ≡ members S
+unfolding members
+members-out [] t h = absurd (clash (cc))
+members-out (b ∷ S) zero h = rw h (omega arith)
+members-out (b ∷ S) (suc t) h = let rest = members-out S t h in omega arith

@@ -1,6 +1,6 @@
--- What a set of types shows: how many there are, the first at which the terms differ, and the bitmap.
+-- What a set of types shows: the first at which the terms differ, and the bitmap.
 --   inBoth, first-..                              the first number in both of two sets, looked for in order
---   alive-counted, alive-first, alive-bitmap      what a table that holds the survivors shows of them
+--   alive-first, alive-bitmap                     what a table that holds the survivors shows of them
 --   verdict-same, byte-none                       the verdict and an empty byte as the code makes them
 --   cleared-start, cleared-length, cleared-turn   zeros written into a list, from a place on
 --   cleared-over                                  zeros after a table, where it has zeros itself
@@ -13,7 +13,7 @@ use mathlib.Core.List.{List}
 use lib.Dec.{ltb}
 use lib.ListN.{length, getD, set, length-set}
 use Rattle.records.specs.Outcome.{Outcome, accepted}
-use Rattle.records.specs.Finite.{least, table, has, members, countBelow, number}
+use Rattle.records.specs.Finite.{least, table, has, members, number}
 use Rattle.records.proofs.Laws.Bits.{number-cong}
 use Rattle.types.specs.Types.{types}
 use Rattle.types.specs.Survivors.{survivors, rounds}
@@ -25,9 +25,7 @@ use Rattle.types.specs.Code.Settling.{Differs, cleared}
 use Rattle.records.proofs.Laws.Tests.{both-true}
 use Rattle.records.proofs.Laws.Below.{least-is, least-end, least-cong, None, none-turn}
 use Rattle.records.proofs.Laws.Sets.{table-cong}
-use Rattle.records.proofs.Laws.Counting.{count-cong, members-counted}
 use Rattle.records.proofs.Laws.Filling.{tableOver, over-turn}
-use Rattle.types.proofs.Theorems.Survivors.{stage-length}
 
 -- Whether a number is in both of two sets.
 abbrev pub inBoth : List Bool → List Bool → ℕ → Bool
@@ -47,12 +45,6 @@ module _ (S R : List Bool) (t : ℕ) where
   first-none n l none = sym (least-end n (inBoth S R) (λ u h. none u (omega arith)))
 
 module _ (v : List ℕ) (alive : List Bool) (same : SameSet alive (survivors v)) where
-  pub alive-counted : countBelow (has alive) (types v) ≡ members (survivors v)
-  unfolding survivors
-  alive-counted =
-      count-cong (types v) (has alive) (has (survivors v)) (λ t l. same t)
-      ∙ sym (members-counted (survivors v) ∙ ap (countBelow (has (survivors v))) (stage-length v (rounds v)))
-
   pub alive-first : (a b : ℕ) (differs : List Bool) → Differs v a b differs
       → least (λ t. has alive t && getD differs t false) (types v) ≡ firstDistinguishing v a b
   alive-first a b differs d =

@@ -3,9 +3,9 @@
 --   Entered, enter-start, enter-more, enter-same   the words of the fillers at members, each at its own place
 --   keeps-all, keeps-both                          what tests keep of a set: one that all pass, two in a row
 --   keeps-within, keeps-cong                       it is within the set; a test that says the same
---   RemovedBelow, remove-start, .., remove-end     the members that fail a test, removed
+--   RemovedBelow, remove-start, .., remove-end     the members that fail a test, removed one by one and counted off
 -- Assumes nothing.
-use Prim.Native.Nat.{ℕ, _+_, _≤_, _<_}
+use Prim.Native.Nat.{ℕ, _+_, _-_, _≤_, _<_}
 use native.Mathlib.Omega.{arith}
 use native.Mathlib.Decide.{ℕ-discrete, decLt}
 use mathlib.Core.Path.{_≡_, refl, sym, ap, subst, _∙_}
@@ -15,31 +15,31 @@ use lib.ListN.{length, getD, set, length-set}
 use lib.Dec.{eqb}
 use lib.Seq.{getD-set-same, getD-set-other}
 use borrow.Author.Tests.{eq-eqb, ne-eqb}
-use Rattle.records.specs.Finite.{anyBelow, has}
+use Rattle.records.specs.Finite.{anyBelow, has, members}
 use Rattle.records.proofs.Laws.Search.{any-hit, any-miss, any-intro}
 use Rattle.records.proofs.Laws.Tests.{clash, both-left, both-true, same-truth}
 use Rattle.types.specs.Comparison.{typeLimit}
 use Rattle.types.specs.Code.Elimination.{Enumerates, Enters, Keeps}
 use Rattle.records.proofs.Laws.Listing.{ListedBelow}
-use Rattle.records.proofs.Laws.Sets.{Within}
+use Rattle.records.proofs.Laws.Sets.{Within, members-out}
 
 -- The members of a set, listed, enumerate it.
-pub list-enumerates : (S : List Bool) (types : List ℕ) (left t : ℕ) → ListedBelow typeLimit S types left t → t ≤ typeLimit
-    → ((u : ℕ) → t ≤ u → has S u ≡ false) → Enumerates types left S
-list-enumerates S types left t l h ends =
+pub list-enumerates : (S : List Bool) (types : List ℕ) (total t : ℕ) → ListedBelow typeLimit S types total t → t ≤ typeLimit
+    → ((u : ℕ) → t ≤ u → has S u ≡ false) → Enumerates types total S
+list-enumerates S types total t l h ends =
     record {
       few = omega (arith, l .few);
       inside = λ j k. omega (arith, l .inside j k);
       finds = λ u m. at u m (decLt u t);
     }
   where
-    at : (u : ℕ) → has S u ≡ true → Dec (u < t) → (j : ℕ) × (j < left) × (getD types j 0 ≡ u)
+    at : (u : ℕ) → has S u ≡ true → Dec (u < t) → (j : ℕ) × (j < total) × (getD types j 0 ≡ u)
     at u m (yes k) = l .finds u k m
     at u m (no k) = let none = ends u (omega arith) in absurd (clash (cc))
 
-pub enumerates-less : (candidates : List ℕ) (left : ℕ) (S R : List Bool) → Within R S → Enumerates candidates left S
-    → Enumerates candidates left R
-enumerates-less candidates left S R less c =
+pub enumerates-less : (candidates : List ℕ) (total : ℕ) (S R : List Bool) → Within R S → Enumerates candidates total S
+    → Enumerates candidates total R
+enumerates-less candidates total S R less c =
     record { few = c .few; inside = c .inside; finds = λ t h. c .finds t (less t h) }
 
 module _ (filling candidates : List ℕ) (S : List Bool) (room words : ℕ) where
@@ -82,56 +82,33 @@ module _ (filling candidates : List ℕ) (S : List Bool) (room words : ℕ) wher
             entered = λ x k. l .entered x k ∙ ap (λ (b : Bool). cond b x 0) (any-miss (hasWord x) j _ refl (rw m));
           }
 
-pub keeps-all : (f : ℕ → Bool) (S : List Bool) → ((t : ℕ) → f t ≡ true) → Keeps f S S false
-keeps-all f S all =
-    record {
-      size = refl;
-      kept = λ t. rw (all t) (sym (and-true (has S t)));
-      less = λ h. absurd (clash (cc));
-      same = λ h t m. all t;
-    }
+module _ (f : ℕ → Bool) (S : List Bool) (n : ℕ) where
+  pub keeps-all : n ≡ members S → ((t : ℕ) → f t ≡ true) → Keeps f S S n
+  keeps-all e all = record { size = refl; kept = λ t. rw (all t) (sym (and-true (has S t))); counted = e }
 
-pub keeps-within : (f : ℕ → Bool) (S R : List Bool) (a : Bool) → Keeps f S R a → Within R S
-keeps-within f S R a w t h = both-left (has S t) (f t) (sym (w .kept t) ∙ h)
+  module _ (R : List Bool) (w : Keeps f S R n) where
+    pub keeps-within : Within R S
+    keeps-within t h = both-left (has S t) (f t) (sym (w .kept t) ∙ h)
 
-module _ (f g : ℕ → Bool) (S R : List Bool) (a : Bool) (w : Keeps f S R a) where
-  pub keeps-cong : ((t : ℕ) → has S t ≡ true → f t ≡ g t) → Keeps g S R a
-  keeps-cong e =
-      record {
-        size = w .size;
-        kept = λ t. w .kept t ∙ at t (has S t) refl;
-        less = λ r. let h = w .less r in (h .0, h .1, sym (e (h .0) (h .1)) ∙ h .2);
-        same = λ r t m. sym (e t m) ∙ w .same r t m;
-      }
-    where
-      at : (t : ℕ) (b : Bool) → has S t ≡ b → (b && f t) ≡ (b && g t)
-      at t true q = e t q
-      at t false q = refl
+    module _ (g : ℕ → Bool) where
+      pub keeps-cong : ((t : ℕ) → has S t ≡ true → f t ≡ g t) → Keeps g S R n
+      keeps-cong e = record { size = w .size; kept = λ t. w .kept t ∙ at t (has S t) refl; counted = w .counted }
+        where
+          at : (t : ℕ) (b : Bool) → has S t ≡ b → (b && f t) ≡ (b && g t)
+          at t true q = e t q
+          at t false q = refl
 
-  pub keeps-both : (Q : List Bool) (b : Bool) → Keeps g R Q b → Keeps (λ t. f t && g t) S Q (a || b)
-  keeps-both Q b z =
-      record {
-        size = z .size ∙ w .size;
-        kept = λ t. z .kept t ∙ ap (λ (x : Bool). x && g t) (w .kept t) ∙ three (has S t) (f t) (g t);
-        less = λ r. less-at a refl r;
-        same = λ r t m. same-at a refl r t m;
-      }
-    where
-      three : (x y z : Bool) → ((x && y) && z) ≡ (x && (y && z))
-      three true y z = refl
-      three false y z = refl
-
-      less-at : (x : Bool) → a ≡ x → (x || b) ≡ true → (t : ℕ) × (has S t ≡ true) × ((f t && g t) ≡ false)
-      less-at true q r = let h = w .less q in (h .0, h .1, rw (h .2))
-      less-at false q r =
-          let h = z .less r in
-          (h .0, both-left (has S (h .0)) (f (h .0)) (sym (w .kept (h .0)) ∙ h .1), rw (h .2) (and-false (f (h .0))))
-
-      same-at : (x : Bool) → a ≡ x → (x || b) ≡ false → (t : ℕ) → has S t ≡ true → (f t && g t) ≡ true
-      same-at true q r t m = absurd (clash (cc))
-      same-at false q r t m =
-          let first = w .same q t m in
-          both-true (f t) (g t) first (z .same r t (w .kept t ∙ both-true (has S t) (f t) m first))
+      pub keeps-both : (Q : List Bool) (m : ℕ) → Keeps g R Q m → Keeps (λ t. f t && g t) S Q m
+      keeps-both Q m z =
+          record {
+            size = z .size ∙ w .size;
+            kept = λ t. z .kept t ∙ ap (λ (x : Bool). x && g t) (w .kept t) ∙ three (has S t) (f t) (g t);
+            counted = z .counted;
+          }
+        where
+          three : (x y z : Bool) → ((x && y) && z) ≡ (x && (y && z))
+          three true y z = refl
+          three false y z = refl
 
 -- The listed types tested so far were removed where they failed.
 module _ (met : ℕ → Bool) (candidates : List ℕ) (S : List Bool) where
@@ -141,16 +118,16 @@ module _ (met : ℕ → Bool) (candidates : List ℕ) (S : List Bool) where
   abbrev passes : ℕ → ℕ → Bool
   passes j t = not (anyBelow (listed t) j) || met t
 
-  -- What is left of a set after the first j listed types were tested.
-  pub record RemovedBelow (R : List Bool) (removed : Bool) (j : ℕ) : Type 0 where
-    pub keeps : Keeps (passes j) S R removed
+  -- What is left of a set after the first j listed types were tested, and how many.
+  pub record RemovedBelow (R : List Bool) (left j : ℕ) : Type 0 where
+    pub keeps : Keeps (passes j) S R left
 
-  pub remove-start : RemovedBelow S false 0
+  pub remove-start : (left : ℕ) → left ≡ members S → RemovedBelow S left 0
   unfolding anyBelow
-  remove-start = record { keeps = keeps-all (passes 0) S (λ t. refl) }
+  remove-start left e = record { keeps = keeps-all (passes 0) S left e (λ t. refl) }
 
-  module _ (R : List Bool) (removed : Bool) (j : ℕ) (s : RemovedBelow R removed j) where
-    w : Keeps (passes j) S R removed
+  module _ (R : List Bool) (left j : ℕ) (s : RemovedBelow R left j) where
+    w : Keeps (passes j) S R left
     w = s .keeps
 
     -- the type listed next; it counts from now on, and the others as before
@@ -163,14 +140,17 @@ module _ (met : ℕ → Bool) (candidates : List ℕ) (S : List Bool) where
     other : (t : ℕ) → (u ≡ t → ⊥) → passes j t ≡ passes (j + 1) t
     other t d = ap (λ (b : Bool). not b || met t) (any-miss (listed t) j _ refl (ne-eqb u t d))
 
-    pub remove-out : u < length S → has R u ≡ true → met u ≡ false → RemovedBelow (set R u false) true (j + 1)
+    -- one that is left is counted
+    pub remove-some : has R u ≡ true → 0 < left
+    remove-some m = omega (arith, w .counted, members-out R u m)
+
+    pub remove-out : u < length S → has R u ≡ true → met u ≡ false → RemovedBelow (set R u false) (left - 1) (j + 1)
     remove-out h m n =
         record {
           keeps = record {
             size = length-set R u false ∙ w .size;
             kept = λ t. at t (ℕ-discrete u t);
-            less = λ r. (u, keeps-within (passes j) S R removed w u m, counts u refl ∙ n);
-            same = λ r. absurd (clash (cc));
+            counted = omega (arith, w .counted, members-out R u m);
           };
         }
       where
@@ -181,9 +161,9 @@ module _ (met : ℕ → Bool) (candidates : List ℕ) (S : List Bool) where
         at t (no d) =
             getD-set-other R u t false false (λ q. d (sym q)) ∙ w .kept t ∙ ap (λ (b : Bool). has S t && b) (other t d)
 
-    pub remove-kept : (has R u ≡ true → met u ≡ true) → RemovedBelow R removed (j + 1)
+    pub remove-kept : (has R u ≡ true → met u ≡ true) → RemovedBelow R left (j + 1)
     remove-kept h =
-        record { keeps = keeps-cong (passes j) (passes (j + 1)) S R removed w (λ t m. at t m (ℕ-discrete u t)) }
+        record { keeps = keeps-cong (passes j) S left R w (passes (j + 1)) (λ t m. at t m (ℕ-discrete u t)) }
       where
         at : (t : ℕ) → has S t ≡ true → Dec (u ≡ t) → passes j t ≡ passes (j + 1) t
         at t m (yes e) =
@@ -192,8 +172,8 @@ module _ (met : ℕ → Bool) (candidates : List ℕ) (S : List Bool) where
             (λ q. rw q (or-true (not (anyBelow (listed t) j)))) ∙ sym (counts t e)
         at t m (no d) = other t d
 
-    pub remove-end : (left : ℕ) → Enumerates candidates left S → left ≤ j → Keeps met S R removed
-    remove-end left c e =
-        keeps-cong (passes j) met S R removed w
+    pub remove-end : (total : ℕ) → Enumerates candidates total S → total ≤ j → Keeps met S R left
+    remove-end total c e =
+        keeps-cong (passes j) S left R w met
         (λ t m. let f = c .finds t m in ap (λ (b : Bool). not b || met t)
         (any-intro (listed t) j (f .0) (omega (arith, f .1)) (eq-eqb (getD candidates (f .0) 0) t (f .2))))

@@ -1,12 +1,14 @@
 -- A round by removals, role after role, and the rounds one after the other.
 --   otherRoleWord-done, full-word                     the words of the other roles, and of all bits, as the code makes them
 --   AfterRoles, roles-start, roles-skip, roles-turn   what is left after the roles below r
---   round-same, removes-same                          a round goes by the set, not by its table
+--   round-same                                        a round goes by the set, not by its table
 --   stage-ends, survivors-end, round-rests            a set that has nothing past the types; a round that removes nothing
 --   bits-few, reached-in, met-role, role-skipped      in an elimination: the words lie in the table of joins; one role's test
 --   fillerWord-in, joins-done                         the table of joins
 --   round-done, eliminating-on                        after all roles it is the round; the state after it
---   AtStage, rests-survivors, stage-on, rounds-left   rounds one after the other
+--   round-stage, stage-on                             a round of a stage is the next one, and the count goes along
+--   count-rests, count-falls                          a round removes something exactly when the count falls
+--   rests-survivors, removing-on, rounds-left         rounds one after the other
 -- Assumes nothing.
 use Prim.Native.Nat.{ℕ, zero, suc, _+_, _-_, _*_, _%_, _^_, _≤_, _<_}
 use native.Mathlib.Omega.{arith}
@@ -19,21 +21,22 @@ use lib.ListN.{getD}
 use lib.Dec.{eqb}
 use lib.Bits.{bitOr}
 use lib.Pow.{pow-mono, shl-exact}
-use borrow.Author.Tests.{not-true, not-false}
+use borrow.Author.Tests.{not-false}
 use Rattle.records.specs.Format.{roleCount, count}
-use Rattle.records.specs.Finite.{anyBelow, allBelow, has, number}
-use Rattle.records.proofs.Laws.Tests.{clash, both-left, both-right, same-truth, both-true, unless-false}
-use Rattle.records.proofs.Laws.Search.{any-at, any-intro, any-elim, any-cong}
+use Rattle.records.specs.Finite.{anyBelow, allBelow, has, members, number}
+use Rattle.records.proofs.Laws.Tests.{clash, both-left, same-truth, unless-true, unless-false}
+use Rattle.records.proofs.Laws.Search.{any-at, any-intro, any-elim}
 use Rattle.records.proofs.Theorems.Accepted.{AcceptedFacts, accepted-vocabulary}
 use Rattle.types.specs.Types.{types, served}
 use Rattle.types.specs.Survivors.{satisfies, round, removes, stage, rounds, survivors}
-use Rattle.types.specs.Comparison.{atomLimit, typeLimit}
+use Rattle.types.specs.Comparison.{atomLimit, typeLimit, countsOf, counts}
 use Rattle.types.specs.Code.Words.{width, otherRoleWord, fillerWord, reached, presentWord, zeta, roleServed, Roles}
 use Rattle.types.specs.Code.Words.{FillerWords, SameSet}
 use Rattle.types.specs.Code.Elimination.{otherRole, Enters, ZetaTo, Joins, metAt, Keeps, Eliminating, AfterRound}
-use Rattle.records.proofs.Laws.Sets.{Within, table-at, table-past, table-cong}
+use Rattle.types.specs.Code.Elimination.{AtStage}
+use Rattle.records.proofs.Laws.Sets.{Within, table-at, table-past, table-cong, members-same}
 use Rattle.records.proofs.Laws.Bits.{number-cong}
-use Rattle.types.proofs.Theorems.Survivors.{has-table, Removing, stage-falls, rounds-is}
+use Rattle.types.proofs.Theorems.Survivors.{has-table, Removing, stage-length, round-less, stage-falls, rounds-is}
 use Rattle.types.proofs.Laws.Zeta.{zeta-cong}
 use Rattle.records.proofs.Laws.Filling.{Ends}
 use Rattle.types.proofs.Refinement.Restrictions.{width-bound}
@@ -54,40 +57,33 @@ module _ (v : List ℕ) (S : List Bool) where
   abbrev below : ℕ → ℕ → Bool
   below r t = allBelow (roleServed v S t) r
 
-  -- What the roles below r leave of S.
-  abbrev pub AfterRoles : ℕ → List Bool → Bool → Type 0
-  AfterRoles r R removed = Keeps (below r) S R removed
+  -- What the roles below r leave of S, and how many.
+  abbrev pub AfterRoles : ℕ → List Bool → ℕ → Type 0
+  AfterRoles r R left = Keeps (below r) S R left
 
-  pub roles-start : AfterRoles 0 S false
+  pub roles-start : (left : ℕ) → left ≡ members S → AfterRoles 0 S left
   unfolding allBelow
-  roles-start = keeps-all (below 0) S (λ t. refl)
+  roles-start left e = keeps-all (below 0) S left e (λ t. refl)
 
   -- one role further
   below-turn : (r t : ℕ) → below (r + 1) t ≡ (below r t && roleServed v S t r)
   unfolding allBelow
   below-turn r t = rw (add-one r)
 
-  module _ (r : ℕ) (R : List Bool) (removed : Bool) (w : AfterRoles r R removed) where
-    pub roles-skip : ((t : ℕ) → roleServed v S t r ≡ true) → AfterRoles (r + 1) R removed
+  module _ (r : ℕ) (R : List Bool) (left : ℕ) (w : AfterRoles r R left) where
+    pub roles-skip : ((t : ℕ) → roleServed v S t r ≡ true) → AfterRoles (r + 1) R left
     roles-skip all =
-        keeps-cong (below r) (below (r + 1)) S R removed w
-        (λ t m. sym (below-turn r t ∙ rw (all t) (and-true (below r t))))
+        keeps-cong (below r) S left R w (below (r + 1)) (λ t m. sym (below-turn r t ∙ rw (all t) (and-true (below r t))))
 
-    pub roles-turn : (after : List Bool) (found : Bool) (met : ℕ → Bool) → Keeps met R after found
-        → ((t : ℕ) → has S t ≡ true → met t ≡ roleServed v S t r) → AfterRoles (r + 1) after (removed || found)
-    roles-turn after found met z agrees =
-        keeps-cong (λ t. below r t && met t) (below (r + 1)) S after (removed || found)
-        (keeps-both (below r) met S R removed w after found z)
+    pub roles-turn : (after : List Bool) (rest : ℕ) (met : ℕ → Bool) → Keeps met R after rest
+        → ((t : ℕ) → has S t ≡ true → met t ≡ roleServed v S t r) → AfterRoles (r + 1) after rest
+    roles-turn after rest met z agrees =
+        keeps-cong (λ t. below r t && met t) S rest after (keeps-both (below r) S left R w met after rest z) (below (r + 1))
         (λ t m. ap (λ (x : Bool). below r t && x) (agrees t m) ∙ sym (below-turn r t))
 
 module _ (v : List ℕ) (S R : List Bool) (same : SameSet S R) where
   pub round-same : round v S ≡ round v R
   round-same = table-cong (types v) _ _ (λ t h. ap₂ _&&_ (same t) (served-cong v S R t (λ s k. same s)))
-
-  pub removes-same : removes v S ≡ removes v R
-  removes-same =
-      any-cong (λ t. has S t && not (served v S t)) (λ t. has R t && not (served v R t)) (types v)
-      (λ t h. ap₂ (λ (x y : Bool). x && not y) (same t) (served-cong v S R t (λ s k. same s)))
 
 module _ (v : List ℕ) where
   -- a round, below the types and past them
@@ -120,8 +116,8 @@ module _ (v : List ℕ) where
           round-at S t h ∙ stays (has S t) (served v S t) (any-at (λ t. has S t && not (served v S t)) (types v) e t h)
       at (no h) = round-ends S t (omega arith) ∙ sym (ends t (omega arith))
 
-module _ {v : List ℕ} {bits : ℕ} {masks held candidates : List ℕ} {left : ℕ} {alive : List Bool}
-    (s : Eliminating v bits masks held candidates left alive) where
+module _ {v : List ℕ} {bits : ℕ} {masks held candidates : List ℕ} {total : ℕ} {alive : List Bool}
+    (s : Eliminating v bits masks held candidates total alive) where
   pub good : AcceptedFacts v
   good = accepted-vocabulary v (count v) (s .accepts)
 
@@ -151,14 +147,14 @@ module _ {v : List ℕ} {bits : ℕ} {masks held candidates : List ℕ} {left : 
   pub role-skipped : (r t : ℕ) → r < roleCount v → getD masks r 0 ≡ 2 ^ bits - 1 → roleServed v alive t r ≡ true
   role-skipped r t h e = role-unused v alive t r (sym (s .masked r h) ∙ e ∙ ap (λ (n : ℕ). 2 ^ n - 1) (s .wide))
 
-  pub round-done : (r : ℕ) (R : List Bool) (removed : Bool) → r ≡ roleCount v → AfterRoles v alive r R removed
-      → AfterRound v alive R removed
-  round-done r R removed e roles =
-      record { size = w .size; leaves = λ t. at t (decLt t (types v)); reports = same-truth _ _ onward back }
+  pub round-done : (r : ℕ) (R : List Bool) (left : ℕ) → r ≡ roleCount v → AfterRoles v alive r R left
+      → AfterRound v alive R left
+  round-done r R left e roles =
+      record { size = w .size; leaves = same; counted = w .counted ∙ members-same R (round v alive) same }
     where
-      w : Keeps (served v alive) alive R removed
+      w : Keeps (served v alive) alive R left
       w =
-          keeps-cong (below v alive r) (served v alive) alive R removed roles
+          keeps-cong (below v alive r) alive left R roles (served v alive)
           (λ t m. sym (served-by-words v good alive t ∙ ap (λ (n : ℕ). below v alive n t) (sym e)))
 
       at : (t : ℕ) → Dec (t < types v) → has R t ≡ has (round v alive) t
@@ -167,31 +163,18 @@ module _ {v : List ℕ} {bits : ℕ} {masks held candidates : List ℕ} {left : 
           w .kept t ∙ ap (λ (x : Bool). x && served v alive t) (s .ends t (omega arith)) ∙ sym
           (round-ends v alive t (omega arith))
 
-      unserved : ℕ → Bool
-      unserved t = has alive t && not (served v alive t)
+      same : SameSet R (round v alive)
+      same t = at t (decLt t (types v))
 
-      onward : removed ≡ true → removes v alive ≡ true
-      onward r =
-          let f = w .less r in
-          any-intro unserved (types v) (f .0) (member-below (f .0) (f .1)) (both-true _ _ (f .1) (ap not (f .2)))
-
-      back : removes v alive ≡ true → removed ≡ true
-      back e =
-          let f = any-elim unserved (types v) e in
-          let m = both-left (has alive (f .0)) (not (served v alive (f .0))) (f .2) in
-          let n = not-true (served v alive (f .0)) (both-right (has alive (f .0)) (not (served v alive (f .0))) (f .2)) in
-          unless-false removed (λ r. let k = w .same r (f .0) m in clash (cc))
-
-  pub eliminating-on : (R : List Bool) (removed : Bool) → AfterRound v alive R removed
-      → Eliminating v bits masks held candidates left R
-  eliminating-on R removed a =
+  pub eliminating-on : (R : List Bool) (left : ℕ) → AfterRound v alive R left → Eliminating v bits masks held candidates total R
+  eliminating-on R left a =
       record {
         accepts = s .accepts;
         few = s .few;
         wide = s .wide;
         masked = s .masked;
         held-words = s .held-words;
-        listed = enumerates-less candidates left alive R within (s .listed);
+        listed = enumerates-less candidates total alive R within (s .listed);
         ends = λ t h. a .leaves t ∙ round-ends v alive t h;
         size = a .size ∙ s .size;
       }
@@ -206,7 +189,7 @@ module _ {v : List ℕ} {bits : ℕ} {masks held candidates : List ℕ} {left : 
     fillerWord-in t m = rw (o t (member-below t m)) (word-in (fillerWord v t) (fillerWord-small v t))
 
     -- the words entered are those of the set
-    present-listed : (first : List ℕ) (words : ℕ) → Enters filling candidates alive left words first → (x : ℕ) → x < words
+    present-listed : (first : List ℕ) (words : ℕ) → Enters filling candidates alive total words first → (x : ℕ) → x < words
         → getD first x 0 ≡ presentWord v alive x
     present-listed first words enters x h = enters x h ∙ ap (λ (b : Bool). cond b x 0) (same-truth _ _ onward back)
       where
@@ -219,21 +202,21 @@ module _ {v : List ℕ} {bits : ℕ} {masks held candidates : List ℕ} {left : 
         has-word : (t : ℕ) → t < types v → (has alive t && eqb (getD filling t 0) x) ≡ all t
         has-word t k = ap (λ (y : ℕ). has alive t && eqb y x) (o t k)
 
-        onward : anyBelow listed left ≡ true → anyBelow all (types v) ≡ true
+        onward : anyBelow listed total ≡ true → anyBelow all (types v) ≡ true
         onward e =
-            let f = any-elim listed left e in
+            let f = any-elim listed total e in
             let t = getD candidates (f .0) 0 in
             let k = member-below t (both-left (has alive t) (eqb (getD filling t 0) x) (f .2)) in
             any-intro all (types v) t k (sym (has-word t k) ∙ f .2)
 
-        back : anyBelow all (types v) ≡ true → anyBelow listed left ≡ true
+        back : anyBelow all (types v) ≡ true → anyBelow listed total ≡ true
         back e =
             let f = any-elim all (types v) e in
             let g = s .listed .finds (f .0) (both-left (has alive (f .0)) (eqb (fillerWord v (f .0)) x) (f .2)) in
-            any-intro listed left (g .0) (g .1)
+            any-intro listed total (g .0) (g .1)
             (subst (λ (t : ℕ). (has alive t && eqb (getD filling t 0) x) ≡ true) (sym (g .2)) (has-word (f .0) (f .1) ∙ f .2))
 
-    pub joins-done : (words : ℕ) (first last : List ℕ) → words ≡ 2 ^ bits → Enters filling candidates alive left words first
+    pub joins-done : (words : ℕ) (first last : List ℕ) → words ≡ 2 ^ bits → Enters filling candidates alive total words first
         → ZetaTo bits (2 ^ bits) first last → Joins v alive last
     joins-done words first last e enters zeta-step x h =
         let k : x < 2 ^ bits = omega (arith, ap (λ (n : ℕ). 2 ^ n) (s .wide)) in
@@ -242,41 +225,51 @@ module _ {v : List ℕ} {bits : ℕ} {masks held candidates : List ℕ} {left : 
         (λ y l. present-listed first words enters y (omega arith))
         ∙ ap (λ (n : ℕ). zeta (presentWord v alive) n x) (s .wide)
 
--- What stands after some rounds that each removed something.
-pub record AtStage (v : List ℕ) (alive : List Bool) (done : ℕ) : Type 0 where
-  pub same : SameSet alive (stage v done)
-  pub before : Removing v done
+-- A round of a stage is the next one, and the count goes along.
+pub round-stage : {v : List ℕ} {S R : List Bool} {left : ℕ} → AfterRound v S R left → (n : ℕ) → SameSet S (stage v n)
+    → AtStage v (suc n) R left
+unfolding stage
+round-stage {v} {S} a n same =
+    let next = round-same v S (stage v n) same in
+    record { same = λ t. a .leaves t ∙ ap (λ (S : List Bool). has S t) next; counted = a .counted ∙ ap members next }
 
-module _ {v : List ℕ} {alive : List Bool} {done : ℕ} (w : AtStage v alive done) (R : List Bool) (removed : Bool)
-    (a : AfterRound v alive R removed) where
-  -- the round by the code is the round of the paper
-  stage-removes : removed ≡ removes v (stage v done)
-  stage-removes = a .reports ∙ removes-same v alive (stage v done) (w .same)
-
-  pub rests-survivors : removed ≡ false → SameSet R (survivors v) × (done ≡ rounds v)
-  unfolding survivors
-  rests-survivors e =
-      let end = rounds-is v done (sym stage-removes ∙ e) (w .before) in
-      let ends : Ends alive (types v) = λ t h. w .same t ∙ stage-ends v done t h in (
-        λ t. a .leaves t ∙ round-rests v alive ends (sym (a .reports) ∙ e) t ∙ w .same t ∙ ap (λ (n : ℕ). has (stage v n) t) end,
-        end,
-      )
-
-  removing-on : removed ≡ true → Removing v (done + 1)
-  removing-on e m h = at (decLt m done)
-    where
-      at : Dec (m < done) → removes v (stage v m) ≡ true
-      at (yes l) = w .before m l
-      at (no l) = let last : m ≡ done = omega arith in ap (λ (n : ℕ). removes v (stage v n)) last ∙ sym stage-removes ∙ e
-
-  pub rounds-left : removed ≡ true → done + 1 ≤ types v
-  rounds-left e = omega (arith, stage-falls v (done + 1) (removing-on e))
-
-  pub stage-on : removed ≡ true → AtStage v R (done + 1)
+-- The count of one stage and the next: it falls exactly where the round removes something.
+module _ {v : List ℕ} {n : ℕ} {S R : List Bool} {left rest : ℕ} (w : AtStage v n S left) (a : AtStage v (suc n) R rest) where
+  pub count-rests : rest ≡ left → removes v (stage v n) ≡ false
   unfolding stage
-  stage-on e =
-      record {
-        same = λ t. a .leaves t ∙ ap (λ (S : List Bool). has S t)
-            (round-same v alive (stage v done) (w .same) ∙ ap (stage v) (sym (add-one done)));
-        before = removing-on e;
-      }
+  count-rests e =
+      unless-true (removes v (stage v n))
+      (λ q. omega (arith, e, w .counted, a .counted, round-less v (stage v n) (stage-length v n) q))
+
+  pub count-falls : (rest ≡ left → ⊥) → removes v (stage v n) ≡ true
+  unfolding stage
+  count-falls d =
+      unless-false (removes v (stage v n))
+      (λ q. d (a .counted
+      ∙ members-same (round v (stage v n)) (stage v n) (round-rests v (stage v n) (stage-ends v n) q) ∙ sym (w .counted)))
+
+  module _ (before : Removing v n) where
+    -- a round that removes nothing leaves the survivors
+    pub rests-survivors : rest ≡ left → SameSet R (survivors v) × (countsOf rest n ≡ counts v)
+    unfolding stage survivors
+    rests-survivors e =
+        let none = count-rests e in
+        let end = rounds-is v n none before in (
+          λ t. a .same t ∙ round-rests v (stage v n) (stage-ends v n) none t ∙ ap (λ (n : ℕ). has (stage v n) t) end,
+          ap₂ countsOf (e ∙ w .counted ∙ ap (λ (n : ℕ). members (stage v n)) end) end,
+        )
+
+    -- one that removes something was one of few
+    pub removing-on : (rest ≡ left → ⊥) → Removing v (n + 1)
+    removing-on d m h = at (decLt m n)
+      where
+        at : Dec (m < n) → removes v (stage v m) ≡ true
+        at (yes l) = before m l
+        at (no l) = let last : m ≡ n = omega arith in ap (λ (n : ℕ). removes v (stage v n)) last ∙ count-falls d
+
+    pub rounds-left : (rest ≡ left → ⊥) → n + 1 ≤ types v
+    rounds-left d = omega (arith, stage-falls v (n + 1) (removing-on d))
+
+-- The stage after one round more.
+pub stage-on : {v : List ℕ} {n : ℕ} {S : List Bool} {left : ℕ} → AtStage v (suc n) S left → AtStage v (n + 1) S left
+stage-on {n = n} a = rw (add-one n) a

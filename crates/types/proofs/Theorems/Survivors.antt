@@ -4,6 +4,7 @@
 --   stage-keeps                            what rounds keep holds of every stage
 --   served-more                            a greater set serves more
 --   stage-length                           each stage says of each type whether it is in it
+--   round-less                             a round that removes something leaves fewer
 --   rounds-bound, rounds-end               the rounds are at most 2^k, and the last leaves nothing to remove
 --   rounds-before, rounds-is               which number of rounds it is
 --   survivors-few                          there are no more survivors than types
@@ -107,7 +108,7 @@ module _ (v : List ℕ) where
   round-within S t h = both-left (has S t) (served v S t) (has-table (types v) (stays v S) t h .1)
 
   -- a round that removes something leaves fewer
-  round-less : (S : List Bool) → length S ≡ types v → removes v S ≡ true → members (round v S) < members S
+  pub round-less : (S : List Bool) → length S ≡ types v → removes v S ≡ true → members (round v S) < members S
   round-less S l e =
       let f = any-elim (goes v S) (types v) e in
       let t = f .0 in

@@ -8,11 +8,11 @@ use lib.ListN.{length, getD}
 use lib.Dec.{ltb, leb, eqb}
 use lib.Bits.{bitOr}
 use Rattle.records.specs.Format.{roleCount}
-use Rattle.records.specs.Finite.{anyBelow, has, bit}
+use Rattle.records.specs.Finite.{anyBelow, has, members, bit}
 use Rattle.records.specs.Check.{IsAccepted}
 use Rattle.records.specs.Atoms.{atoms}
 use Rattle.types.specs.Types.{types}
-use Rattle.types.specs.Survivors.{round, removes}
+use Rattle.types.specs.Survivors.{round, stage}
 use Rattle.types.specs.Comparison.{atomLimit, typeLimit}
 use Rattle.types.specs.Code.Words.{width, otherRoleWord, zeta, joins, RestrictionWords, SameSet}
 
@@ -24,20 +24,20 @@ abbrev pub Masks : List ℕ → List ℕ → Type 0
 Masks v masks = (r : ℕ) → r < roleCount v → getD masks r 0 ≡ otherRoleWord v r
 
 -- A list of types that has every member of a set.
-pub record Enumerates (candidates : List ℕ) (left : ℕ) (S : List Bool) : Type 0 where
-  pub few : left ≤ typeLimit
-  pub inside : (j : ℕ) → j < left → getD candidates j 0 < typeLimit
-  pub finds : (t : ℕ) → has S t ≡ true → (j : ℕ) × (j < left) × (getD candidates j 0 ≡ t)
+pub record Enumerates (candidates : List ℕ) (total : ℕ) (S : List Bool) : Type 0 where
+  pub few : total ≤ typeLimit
+  pub inside : (j : ℕ) → j < total → getD candidates j 0 < typeLimit
+  pub finds : (t : ℕ) → has S t ≡ true → (j : ℕ) × (j < total) × (getD candidates j 0 ≡ t)
 
 -- The state of an elimination: an accepted vocabulary of few enough atoms, the tables of its roles and types, and the set of
 -- types that are left, with a list that has them all.
-pub record Eliminating (v : List ℕ) (bits : ℕ) (masks held candidates : List ℕ) (left : ℕ) (alive : List Bool) : Type 0 where
+pub record Eliminating (v : List ℕ) (bits : ℕ) (masks held candidates : List ℕ) (total : ℕ) (alive : List Bool) : Type 0 where
   pub accepts : IsAccepted v
   pub few : atoms v ≤ atomLimit
   pub wide : bits ≡ width v
   pub masked : Masks v masks
   pub held-words : RestrictionWords v held
-  pub listed : Enumerates candidates left alive
+  pub listed : Enumerates candidates total alive
   pub ends : (t : ℕ) → types v ≤ t → has alive t ≡ false
   pub size : length alive ≡ typeLimit
 
@@ -83,15 +83,19 @@ metBy joins mask word = eqb (bitOr (getD joins (bitOr word mask) 0) mask) (bitOr
 abbrev pub metAt : List ℕ → ℕ → List ℕ → ℕ → Bool
 metAt joins mask held t = metBy joins mask (getD held t 0)
 
--- What a test keeps of a set, and whether that is less.
-pub record Keeps (test : ℕ → Bool) (S R : List Bool) (removed : Bool) : Type 0 where
+-- What a test keeps of a set, and how many.
+pub record Keeps (test : ℕ → Bool) (S R : List Bool) (left : ℕ) : Type 0 where
   pub size : length R ≡ length S
   pub kept : (t : ℕ) → has R t ≡ (has S t && test t)
-  pub less : removed ≡ true → (t : ℕ) × (has S t ≡ true) × (test t ≡ false)
-  pub same : removed ≡ false → (t : ℕ) → has S t ≡ true → test t ≡ true
+  pub counted : left ≡ members R
 
--- What a round leaves of a set, and whether it removes something.
-pub record AfterRound (v : List ℕ) (S R : List Bool) (removed : Bool) : Type 0 where
+-- What a round leaves of a set, and how many.
+pub record AfterRound (v : List ℕ) (S R : List Bool) (left : ℕ) : Type 0 where
   pub size : length R ≡ length S
   pub leaves : SameSet R (round v S)
-  pub reports : removed ≡ removes v S
+  pub counted : left ≡ members (round v S)
+
+-- The types left after n rounds: "at each round's end it is the number of types left".
+pub record AtStage (v : List ℕ) (n : ℕ) (S : List Bool) (left : ℕ) : Type 0 where
+  pub same : SameSet S (stage v n)
+  pub counted : left ≡ members (stage v n)

@@ -14,7 +14,7 @@ use Rattle.types.specs.declared.type_data.Plan.{Plan}
 use Rattle.types.specs.declared.restrict.Restrictions.{Restrictions}
 use Rattle.records.specs.Finite.{has, number}
 use Rattle.types.specs.Types.{types, truth}
-use Rattle.types.specs.Survivors.{satisfies, stage, rounds, survivors}
+use Rattle.types.specs.Survivors.{satisfies, stage, survivors}
 use Rattle.types.specs.Comparison.{atomLimit, typeLimit}
 use Rattle.types.specs.Code.Rules.{Decoded, AtomsListed}
 use Rattle.types.specs.Code.Words.{width, restriction, signed, negated, restrictionWord, fillerWord, Roles}
@@ -102,10 +102,9 @@ pub record Started (v : List ℕ) (a b : ℕ) (alive differs : List Bool) : Type
   pub alive-size : length alive ≡ typeLimit
   pub differs-at : Differs v a b differs
 
-pub record Settled (v : List ℕ) (a b : ℕ) (alive differs : List Bool) (done : ℕ) : Type 0 where
+pub record Settled (v : List ℕ) (a b : ℕ) (alive differs : List Bool) : Type 0 where
   pub alive-at : SameSet alive (survivors v)
   pub differs-at : Differs v a b differs
-  pub rounds-at : done ≡ rounds v
 
 -- A list with n zeros written from `start` on.
 unfoldable pub cleared : List ℕ → ℕ → ℕ → List ℕ

@@ -1,36 +1,37 @@
--- `types::eliminate::eliminate` meets its contract. The loop's invariant: `done` rounds each removed something, and what
--- is alive is that stage. Each round is paid for by a type.
+-- `types::eliminate::eliminate` meets its contract. The loop's invariant: `done` rounds each removed something, what is
+-- alive is that stage, and `left` is its number of types. Each round is paid for by a type.
 -- Assumes nothing.
 use Prim.Native.Nat.{ℕ, _+_, _-_, _≤_}
 use native.Mathlib.Omega.{arith}
 use mathlib.Core.Bool.{Bool}
 use mathlib.Core.List.{List}
-use mathlib.Core.Path.{_≡_, refl, _∙_}
+use mathlib.Core.Path.{_≡_, refl, sym, _∙_}
 use lib.ListN.{length}
-use borrow.Author.Tests.{not-true, not-false}
 use borrow.Author.Needs.{needs}
 use denote.Ref.{now}
 use Rattle.types.specs.Types.{types}
 use Rattle.types.specs.Comparison.{typeLimit}
-use Rattle.types.specs.Code.Elimination.{Eliminating}
-use Rattle.types.proofs.Refinement.Rounds.{stage-ends, eliminating-on, AtStage, rests-survivors, stage-on, rounds-left}
-use Rattle.types.proofs.Theorems.Survivors.{types-bound}
+use Rattle.records.proofs.Laws.Sets.{members-same}
+use Rattle.types.specs.Code.Elimination.{Eliminating, AtStage}
+use Rattle.types.proofs.Refinement.Rounds.{stage-ends, eliminating-on, stage-on, rests-survivors, removing-on, rounds-left}
+use Rattle.types.proofs.Theorems.Survivors.{types-bound, Removing}
 use Rattle.types.proofs.eliminate.eliminate.Statement.{statement}
 use Rattle.types.proofs.eliminate.eliminate.Tie as tie
 
-record Standing (v : List ℕ) (bits : ℕ) (masks held candidates : List ℕ) (left : ℕ) (joins : List ℕ) (alive : List Bool)
-    (done : ℕ)
+record Standing (v : List ℕ) (bits : ℕ) (masks held candidates : List ℕ) (total : ℕ) (joins : List ℕ) (alive : List Bool)
+    (left done : ℕ)
     : Type 0 where
-  state : Eliminating v bits masks held candidates left alive
-  stage : AtStage v alive done
+  state : Eliminating v bits masks held candidates total alive
+  stage : AtStage v done alive left
+  before : Removing v done
   room : length joins ≡ typeLimit
 
 abbrev Inv-loop : tie.InvT-loop
-Inv-loop v roles bits held filling size alive₀ masks candidates left joins₀ done₀ alive joins done =
-    Standing v bits masks held candidates left joins alive done
+Inv-loop v roles bits held filling size alive₀ masks candidates total joins₀ left₀ done₀ alive joins left done =
+    Standing v bits masks held candidates total joins alive left done
 
 abbrev μ-loop : tie.MeasureT-loop
-μ-loop v roles bits held filling size alive₀ masks candidates left joins₀ done₀ alive joins done = types v - done
+μ-loop v roles bits held filling size alive₀ masks candidates total joins₀ left₀ done₀ alive joins left done = types v - done
 
 list-candidates-requires : tie.Need-list-candidates-requires Inv-loop μ-loop
 list-candidates-requires c κs =
@@ -54,11 +55,12 @@ loop-holds c =
         wide = p .1 .1 .0;
         masked = masked .list-masks .ensures;
         held-words = p .1 .1 .1 .1 .0;
-        listed = c .list-candidates .ensures;
+        listed = c .list-candidates .ensures .0;
         ends = λ t h. same t ∙ stage-ends (now (start .args .v)) 0 t h;
         size = p .1 .1 .1 .1 .1 .1 .1 .1;
       };
-      stage = record { same = same; before = λ m h. absurd (omega arith) };
+      stage = record { same = same; counted = c .list-candidates .ensures .1 ∙ members-same _ _ same };
+      before = λ m h. absurd (omega arith);
       room = refl;
     }
 
@@ -72,19 +74,22 @@ start-at c = c .before .before .before .before .before .before
 remove-unserved-requires : tie.Need-remove-unserved-requires Inv-loop μ-loop
 remove-unserved-requires c κs =
     let loop = c .before .before .before .before in
-    (loop .loop .inv .state, (start-at loop .pre .1 .1 .1 .1 .1 .0, loop .loop .inv .room))
+    let i = loop .loop .inv in
+    (i .state, (start-at loop .pre .1 .1 .1 .1 .1 .0, (i .room, i .stage .counted ∙ sym (members-same _ _ (i .stage .same)))))
 
 returns : tie.Need-returns Inv-loop μ-loop
 returns c =
     let round = c .before in
-    rests-survivors (loop-at round .loop .inv .stage) _ _ (round .remove-unserved .ensures .1) (not-true _ (c .if1 .taken))
+    let i = loop-at round .loop .inv in
+    rests-survivors (i .stage) (round .remove-unserved .ensures .1 .1 _ (i .stage .same)) (i .before) (c .if1 .taken)
 
 -- a round that removed something was one of few
 left : (c : tie.Else1 Inv-loop μ-loop)
     → loop-at (c .before) .loop .done + 1 ≤ types (now (start-at (loop-at (c .before)) .args .v))
 left c =
     let round = c .before in
-    rounds-left (loop-at round .loop .inv .stage) _ _ (round .remove-unserved .ensures .1) (not-false _ (c .if1 .left))
+    let i = loop-at round .loop .inv in
+    rounds-left (i .stage) (round .remove-unserved .ensures .1 .1 _ (i .stage .same)) (i .before) (c .if1 .left)
 
 add-done : tie.Need-add-done Inv-loop μ-loop
 add-done c =
@@ -97,10 +102,12 @@ loop-less c = omega (arith, left c)
 loop-again : tie.Need-loop-again Inv-loop μ-loop
 loop-again c =
     let round = c .before in
-    let l = loop-at round .loop in
-    let after = round .remove-unserved .ensures in record {
-      state = eliminating-on (l .inv .state) _ _ (after .1);
-      stage = stage-on (l .inv .stage) _ _ (after .1) (not-false _ (c .if1 .left));
+    let i = loop-at round .loop .inv in
+    let after = round .remove-unserved .ensures in
+    let reached = after .1 .1 _ (i .stage .same) in record {
+      state = eliminating-on (i .state) _ _ (after .1 .0);
+      stage = stage-on reached;
+      before = removing-on (i .stage) reached (i .before) (c .if1 .left);
       room = after .0;
     }
 

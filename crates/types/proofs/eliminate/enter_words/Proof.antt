@@ -13,11 +13,11 @@ use Rattle.types.proofs.eliminate.enter_words.Statement.{statement}
 use Rattle.types.proofs.eliminate.enter_words.Tie as tie
 
 abbrev Inv-loop : tie.InvT-loop
-Inv-loop filling alive candidates left size joins₀ j₀ joins j =
-    (j ≤ left) × Entered filling candidates alive typeLimit size joins j
+Inv-loop filling alive candidates total size joins₀ j₀ joins j =
+    (j ≤ total) × Entered filling candidates alive typeLimit size joins j
 
 abbrev μ-loop : tie.MeasureT-loop
-μ-loop filling alive candidates left size joins₀ j₀ joins j = left - j
+μ-loop filling alive candidates total size joins₀ j₀ joins j = total - j
 
 clear-words-requires : tie.Need-clear-words-requires Inv-loop μ-loop
 clear-words-requires c κs = c .before .pre .1 .1
@@ -80,7 +80,7 @@ loop-again c =
 returns : tie.Need-returns Inv-loop μ-loop
 returns c =
     let l = c .before .loop .inv .1 in
-    let e : c .before .loop .j ≡ c .before .before .before .before .args .left = omega arith in
+    let e : c .before .loop .j ≡ c .before .before .before .before .args .total = omega arith in
     (l .size, subst (Entered _ _ _ _ _ _) e l .entered)
 
 pub enter-words-spec : {M : Type 1} → statement M

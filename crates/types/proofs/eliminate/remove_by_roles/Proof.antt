@@ -1,12 +1,11 @@
 -- `types::eliminate::remove_by_roles` meets its contract. The loop's invariant: what is left is what the roles below `role`
--- serve.
+-- serve, and `rest` is how many.
 -- Assumes nothing.
 use Prim.Native.Nat.{_-_, _≤_, _<_}
 use native.Mathlib.Omega.{arith}
 use mathlib.Core.Logic.{⊎-elim}
 use mathlib.Core.Path.{_≡_, ap, _∙_}
 use lib.Pow.{pow-pos}
-use borrow.Author.Needs.{needs}
 use denote.Ref.{now}
 use Rattle.records.specs.Format.{roleLimit, roleCount}
 use Rattle.records.specs.declared.fields.Record.{Record}
@@ -17,11 +16,11 @@ use Rattle.types.proofs.eliminate.remove_by_roles.Statement.{statement}
 use Rattle.types.proofs.eliminate.remove_by_roles.Tie as tie
 
 abbrev Inv-loop : tie.InvT-loop
-Inv-loop v bits masks held joins candidates left alive₀ count full removed₀ role₀ alive removed role =
-    (role ≤ roleCount v) × AfterRoles v alive₀ role alive removed
+Inv-loop v bits masks held joins candidates total left alive₀ count full rest₀ role₀ alive rest role =
+    (role ≤ roleCount v) × AfterRoles v alive₀ role alive rest
 
 abbrev μ-loop : tie.MeasureT-loop
-μ-loop v bits masks held joins candidates left alive₀ count full removed₀ role₀ alive removed role = count - role
+μ-loop v bits masks held joins candidates total left alive₀ count full rest₀ role₀ alive rest role = count - role
 
 read-at-requires : tie.Need-read-at-requires Inv-loop μ-loop
 read-at-requires c κs = omega (arith, good (c .before .pre .0) .sized .least)
@@ -38,7 +37,7 @@ sub-full c =
     omega (arith, full-word (c .before .before .args .bits) (omega arith), pow-pos (c .before .before .args .bits))
 
 loop-holds : tie.Need-loop-holds Inv-loop μ-loop
-loop-holds c = (omega arith, roles-start _ _)
+loop-holds c = (omega arith, roles-start _ _ _ (c .before .before .pre .1 .1))
 
 -- the role is one of the vocabulary's
 below : (c : tie.In-loop Inv-loop μ-loop) → c .before .loop .role < roleCount (now (c .before .before .before .before .args .v))
@@ -62,8 +61,10 @@ remove-unmet-requires c κs =
     let turn = c .before .before .before in
     let w = turn .before .loop .inv .1 in
     let s = turn .before .before .before .before .pre .0 in
-    let within = keeps-within _ _ _ _ w in
-    (enumerates-less _ _ _ _ within (s .listed), (λ t h. reached-in s _ t (below turn) (within t h), w .size ∙ s .size))
+    let within = keeps-within _ _ _ _ w in (
+      enumerates-less _ _ _ _ within (s .listed),
+      (λ t h. reached-in s _ t (below turn) (within t h), (w .size ∙ s .size, w .counted)),
+    )
 
 add-role : tie.Need-add-role Inv-loop μ-loop
 add-role c = omega (arith, inside (c .before .before))
@@ -81,9 +82,9 @@ loop-again c =
     let full = full-word (start .args .bits) (omega arith) in (
       omega (arith, below turn),
       ⊎-elim
-          (λ z. rw (z .4, z .5 ∙ z .3 .ensures)
+          (λ z. rw (z .3, z .4)
           (roles-turn _ _ _ _ _ w _ _ _ (z .2 .ensures)
-          (λ t m. met-role s (now (start .args .joins)) (start .pre .1) _ t (below turn) m)))
+          (λ t m. met-role s (now (start .args .joins)) (start .pre .1 .0) _ t (below turn) m)))
           (λ z. rw (z .1, z .2)
           (roles-skip _ _ _ _ _ w (λ t. role-skipped s _ t (below turn) (omega (arith, z .0 .left, full)))))
           (c .if1 .came),
@@ -102,4 +103,4 @@ pub remove-by-roles-spec : {M : Type 1} → statement M
 remove-by-roles-spec =
     tie.close
     (tie.spec Inv-loop μ-loop read-at-requires cast-full shl-full sub-full loop-holds cast-mask mul-mask element-copy-out-mask
-    remove-unmet-requires (λ c κs. search needs) add-role loop-less loop-again returns)
+    remove-unmet-requires add-role loop-less loop-again returns)

@@ -1,12 +1,12 @@
 -- `types::eliminate::remove_unserved` meets its contract. The table that the removals look at is that of the set as the
--- round began.
+-- round began. A round of a stage is the next stage.
 -- Assumes nothing.
 use native.Mathlib.Omega.{arith}
 use mathlib.Core.Path.{_∙_}
 use denote.Ref.{now}
 use Rattle.types.specs.Comparison.{atomLimit}
 use Rattle.types.proofs.Invariants.Zeta.{power, words-room}
-use Rattle.types.proofs.Refinement.Rounds.{bits-few, fillerWord-in, joins-done}
+use Rattle.types.proofs.Refinement.Rounds.{bits-few, fillerWord-in, joins-done, round-stage}
 use Rattle.types.proofs.eliminate.remove_unserved.Statement.{statement}
 use Rattle.types.proofs.eliminate.remove_unserved.Tie as tie
 
@@ -21,7 +21,7 @@ enter-words-requires c κs =
       s .listed,
       (
         fillerWord-in s (now (start .args .filling)) (start .pre .1 .0),
-        (words-room _ atomLimit few (omega arith), start .pre .1 .1),
+        (words-room _ atomLimit few (omega arith), start .pre .1 .1 .0),
       ),
     )
 
@@ -38,14 +38,18 @@ remove-by-roles-requires c κs =
     let s = start .pre .0 in
     let few = bits-few s in (
       s,
-      joins-done s (now (start .args .filling)) (start .pre .1 .0) _ _ _ (power (start .args .bits) (omega (arith, few)))
-          (entered .enter-words .ensures .1) (zeta .zeta-transform .ensures),
+      (
+        joins-done s (now (start .args .filling)) (start .pre .1 .0) _ _ _ (power (start .args .bits) (omega (arith, few)))
+            (entered .enter-words .ensures .1) (zeta .zeta-transform .ensures),
+        start .pre .1 .1 .1,
+      ),
     )
 
 returns : tie.Need-returns
 returns c =
     let zeta = c .before .before .before in
-    (zeta .zeta-transform .ensures .size ∙ zeta .before .before .enter-words .ensures .0, c .remove-by-roles .ensures)
+    let after = c .remove-by-roles .ensures in
+    (zeta .zeta-transform .ensures .size ∙ zeta .before .before .enter-words .ensures .0, (after, round-stage after))
 
 pub remove-unserved-spec : {M : Type 1} → statement M
 remove-unserved-spec =

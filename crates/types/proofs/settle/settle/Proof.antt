@@ -81,11 +81,8 @@ eliminate-requires c κs =
 
 returns : tie.Need-returns
 returns c =
-    record {
-      alive-at = c .eliminate .ensures .0;
-      differs-at = described (c .before) .describe-types .ensures .0 .differs-at;
-      rounds-at = c .eliminate .ensures .1;
-    }
+    let e = c .eliminate .ensures in
+    (e .1, record { alive-at = e .0; differs-at = described (c .before) .describe-types .ensures .0 .differs-at })
 
 pub settle-spec : {M : Type 1} → statement M
 settle-spec =
