@@ -2,6 +2,7 @@
 
 mod call;
 mod checks;
+mod counts;
 mod errors;
 pub mod families;
 mod file;

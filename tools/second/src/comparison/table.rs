@@ -2,6 +2,7 @@
 
 use crate::comparison::call::Compared;
 use crate::comparison::checks::fault;
+use crate::comparison::counts::COUNTS;
 use crate::comparison::errors::ERRORS;
 use crate::comparison::plan::Planned;
 use crate::comparison::print::{run, Outcome};
@@ -32,15 +33,24 @@ const SORTS: [Sort; 10] = [
     ("no survivor, rounds", |c| c.survivors.is_empty() && c.rounds > 0),
 ];
 
-/// For each error whether it changes the answer to a case.
-fn told(planned: &Planned, outcome: &Outcome) -> [bool; ERRORS.len()] {
+/// The errors that change the answer to a case: wrong comparisons, and wrong counts.
+fn told(planned: &Planned, outcome: &Outcome) -> Vec<&'static str> {
     let Ok(right) = &outcome.answer else {
-        return [false; ERRORS.len()];
+        return Vec::new();
     };
     let (a, b) = (planned.case.a, planned.case.b);
     let types = Types::of(records(&planned.case.vocabulary));
-    let few = types.count() <= MOST_TYPES;
-    ERRORS.map(|(_, wrong)| few && wrong(&types, a, b) != *right)
+    if types.count() > MOST_TYPES {
+        return Vec::new();
+    }
+    let compared = ERRORS.iter().filter(|(_, wrong)| wrong(&types, a, b) != *right);
+    let counted = COUNTS
+        .iter()
+        .filter(|(_, wrong)| wrong(&types) != right.survivors.len());
+    compared
+        .map(|(name, _)| *name)
+        .chain(counted.map(|(name, _)| *name))
+        .collect()
 }
 
 /// The table of cases of another seed.
@@ -62,12 +72,13 @@ pub fn table(cases: &[Planned]) -> Table {
         table.add(name, with(&|o| o.answer.as_ref().is_ok_and(is_one)), 1);
     }
     let pairs = || cases.iter().zip(&outcomes);
-    let told: Vec<_> = pairs().map(|(planned, outcome)| told(planned, outcome)).collect();
-    for (i, (name, _)) in ERRORS.iter().enumerate() {
-        let count = told
-            .iter()
-            .filter(|errors| errors.get(i).is_some_and(|told| *told))
-            .count();
+    let told: Vec<_> = pairs().flat_map(|(planned, outcome)| told(planned, outcome)).collect();
+    let names = ERRORS
+        .iter()
+        .map(|(name, _)| *name)
+        .chain(COUNTS.iter().map(|(name, _)| *name));
+    for name in names {
+        let count = told.iter().filter(|error| **error == name).count();
         table.add(&format!("would change by: {name}"), count, 1);
     }
     table.object(cases, &outcomes, fault);

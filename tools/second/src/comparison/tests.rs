@@ -4,6 +4,7 @@
 
 use crate::comparison::call::{compare, Compared, WRITTEN};
 use crate::comparison::checks::fault;
+use crate::comparison::counts::lowered;
 use crate::comparison::errors::ERRORS;
 use crate::comparison::plan::{Plan, Planned};
 use crate::comparison::print::run;
@@ -114,6 +115,10 @@ fn errors_are_told() {
     };
     let untold = ERRORS.iter().filter(|(_, wrong)| !told(*wrong));
     assert_eq!(untold.map(|(name, _)| *name).collect::<Vec<_>>(), Vec::<&str>::new());
+    for (types, _, _, right) in &answered {
+        let count = lowered(types, |roles| usize::from(!roles.is_empty()));
+        assert_eq!(count, right.survivors.len());
+    }
 }
 
 /// The stored file, read and written again, is the same; as many lines are expected as it has cases.
