@@ -13,12 +13,12 @@ ghost use lib.ListN.{length, getD};
 ghost use lib.Bits.{bitOr};
 ghost use Rattle.records.specs.Check.{IsAccepted};
 ghost use Rattle.records.specs.Atoms.{atoms};
-ghost use Rattle.records.specs.Finite.{has, members};
+ghost use Rattle.records.specs.Finite.{has};
 ghost use Rattle.types.specs.Types.{types};
-ghost use Rattle.types.specs.Survivors.{stage, survivors};
+ghost use Rattle.types.specs.Survivors.{round, stage, survivors};
 ghost use Rattle.types.specs.Code.Words.{width, Roles, RestrictionWords, FillerWords, SameSet};
 ghost use Rattle.types.specs.Code.Elimination.{Masks, Enumerates, Joins, Enters, Eliminating, metBy, metAt};
-ghost use Rattle.types.specs.Code.Elimination.{Keeps, AfterRound, AtStage};
+ghost use Rattle.types.specs.Code.Elimination.{Keeps, AtStage};
 ghost use Rattle.types.specs.Comparison.{atomLimit, typeLimit, counts};
 
 // The words of the other roles, for each role: no round works them out again.
@@ -44,54 +44,50 @@ fn list_masks(
 }
 
 // The types of the set, in rising order, and how many: no round looks at any other.
-fn list_candidates(
+fn list_alive(
     alive: &[bool; TypeData::TYPES],
     size: usize,
-    candidates: &mut [u16; TypeData::TYPES],
+    remaining: &mut [u16; TypeData::TYPES],
 ) -> usize
     requires { ⌜ size ≤ typeLimit ⌝ }
     requires { ⌜ ((t : ℕ) → size ≤ t → has (now alive) t ≡ false) ⌝ }
-    requires { ⌜ length (now candidates) ≡ typeLimit ⌝ }
-    ensures { λ r. ⌜ Enumerates (now (candidates .exit)) r (now (alive .entry)) ⌝ }
-    ensures { λ r. ⌜ r ≡ members (now (alive .entry)) ⌝ }
+    requires { ⌜ length (now remaining) ≡ typeLimit ⌝ }
+    ensures { λ _. ⌜ length (now (remaining .exit)) ≡ typeLimit ⌝ }
+    ensures { λ r. ⌜ Enumerates (now (remaining .exit)) r (now (alive .entry)) ⌝ }
 {
-    let mut total = 0;
+    let mut left = 0;
     let mut t = 0;
     while t < size {
         if alive[t] {
-            candidates[total] = t as u16;
-            total += 1;
+            remaining[left] = t as u16;
+            left += 1;
         }
         t += 1;
     }
-    total
+    left
 }
 
-// Enters the word of the fillers at each type of the set at its own place, in a table whose words below `size` are cleared first.
+// Enters the word of the fillers at each listed type at its own place, in a table whose words below `size` are cleared first.
 fn enter_words(
     filling: &[u16; TypeData::TYPES],
-    alive: &[bool; TypeData::TYPES],
-    candidates: &[u16; TypeData::TYPES],
-    total: usize,
+    remaining: &[u16; TypeData::TYPES],
+    left: usize,
     size: usize,
     joins: &mut [u16; TypeData::TYPES],
 )
-    requires { ⌜ Enumerates (now candidates) total (now alive) ⌝ }
-    requires { ⌜ ((t : ℕ) → has (now alive) t ≡ true → getD (now filling) t 0 < typeLimit) ⌝ }
+    requires { ⌜ left ≤ typeLimit ⌝ }
+    requires { ⌜ ((j : ℕ) → j < left → getD (now remaining) j 0 < typeLimit) ⌝ }
+    requires { ⌜ ((j : ℕ) → j < left → getD (now filling) (getD (now remaining) j 0) 0 < typeLimit) ⌝ }
     requires { ⌜ size ≤ typeLimit ⌝ }
     requires { ⌜ length (now joins) ≡ typeLimit ⌝ }
     ensures { λ _. ⌜ length (now (joins .exit)) ≡ typeLimit ⌝ }
-    ensures { λ _. ⌜ Enters (now (filling .entry)) (now (candidates .entry)) (now (alive .entry)) total size
-        (now (joins .exit)) ⌝ }
+    ensures { λ _. ⌜ Enters (now (filling .entry)) (now (remaining .entry)) left size (now (joins .exit)) ⌝ }
 {
     clear_words(joins, size);
     let mut j = 0;
-    while j < total {
-        let t = candidates[j] as usize;
-        if alive[t] {
-            let word = filling[t];
-            joins[word as usize] = word;
-        }
+    while j < left {
+        let word = filling[remaining[j] as usize];
+        joins[word as usize] = word;
         j += 1;
     }
 }
@@ -105,33 +101,35 @@ fn is_met(joins: &[u16; TypeData::TYPES], mask: u16, held: u16) -> bool
     (joins[reached as usize] | mask) == reached
 }
 
-// Removes the types whose needs by restrictions of one role are not met, of a set of `left`; how many are left then.
+// Removes the types whose needs by restrictions of one role are not met, from the set and from the list of its `left` members,
+// where the last takes the place of one that goes; how many are left.
 fn remove_unmet(
     held: &[u16; TypeData::TYPES],
     joins: &[u16; TypeData::TYPES],
     mask: u16,
-    candidates: &[u16; TypeData::TYPES],
-    total: usize,
     left: usize,
+    remaining: &mut [u16; TypeData::TYPES],
     alive: &mut [bool; TypeData::TYPES],
 ) -> usize
-    requires { ⌜ Enumerates (now candidates) total (now alive) ⌝ }
+    requires { ⌜ Enumerates (now remaining) left (now alive) ⌝ }
     requires { ⌜ ((t : ℕ) → has (now alive) t ≡ true → bitOr (getD (now held) t 0) mask < typeLimit) ⌝ }
     requires { ⌜ length (now alive) ≡ typeLimit ⌝ }
-    requires { ⌜ left ≡ members (now alive) ⌝ }
-    ensures { λ r. ⌜ Keeps (metAt (now (joins .entry)) mask (now (held .entry))) (now (alive .entry)) (now (alive .exit)) r ⌝ }
+    requires { ⌜ length (now remaining) ≡ typeLimit ⌝ }
+    ensures { λ _. ⌜ length (now (remaining .exit)) ≡ typeLimit ⌝ }
+    ensures { λ r. ⌜ Enumerates (now (remaining .exit)) r (now (alive .exit)) ⌝ }
+    ensures { λ _. ⌜ Keeps (metAt (now (joins .entry)) mask (now (held .entry))) (now (alive .entry)) (now (alive .exit)) ⌝ }
 {
     let mut rest = left;
     let mut j = 0;
-    while j < total {
-        let t = candidates[j] as usize;
-        if alive[t] {
-            if !is_met(joins, mask, held[t]) {
-                alive[t] = false;
-                rest -= 1;
-            }
+    while j < rest {
+        let t = remaining[j] as usize;
+        if is_met(joins, mask, held[t]) {
+            j += 1;
+        } else {
+            alive[t] = false;
+            rest -= 1;
+            remaining[j] = remaining[rest];
         }
-        j += 1;
     }
     rest
 }
@@ -143,15 +141,15 @@ fn remove_by_roles(
     masks: &[u16; Record::ROLES as usize],
     held: &[u16; TypeData::TYPES],
     joins: &[u16; TypeData::TYPES],
-    candidates: &[u16; TypeData::TYPES],
-    total: usize,
     left: usize,
+    remaining: &mut [u16; TypeData::TYPES],
     alive: &mut [bool; TypeData::TYPES],
 ) -> usize
-    requires { ⌜ Eliminating (now v) bits (now masks) (now held) (now candidates) total (now alive) ⌝ }
+    requires { ⌜ Eliminating (now v) bits (now masks) (now held) (now remaining) left (now alive) ⌝ }
     requires { ⌜ Joins (now v) (now alive) (now joins) ⌝ }
-    requires { ⌜ left ≡ members (now alive) ⌝ }
-    ensures { λ r. ⌜ AfterRound (now (v .entry)) (now (alive .entry)) (now (alive .exit)) r ⌝ }
+    ensures { λ r. ⌜ Eliminating (now (v .entry)) bits (now (masks .entry)) (now (held .entry)) (now (remaining .exit)) r
+        (now (alive .exit)) ⌝ }
+    ensures { λ _. ⌜ SameSet (now (alive .exit)) (round (now (v .entry)) (now (alive .entry))) ⌝ }
 {
     let count = read_at(v, 0).b;
     let full = (1 << bits) - 1;
@@ -160,7 +158,7 @@ fn remove_by_roles(
     while role < count {
         let mask = masks[role as usize];
         if mask != full {
-            rest = remove_unmet(held, joins, mask, candidates, total, rest, alive);
+            rest = remove_unmet(held, joins, mask, rest, remaining, alive);
         }
         role += 1;
     }
@@ -168,35 +166,35 @@ fn remove_by_roles(
 }
 
 // One round: removes together all types not served by the set as the round began, of which there are `left`; how many are
-// left at its end. The table of joins is lent: what it held is of no matter.
+// left at its end. If the set was the one after n rounds, it then is the one after n + 1, and so is its count. The table of
+// joins is lent: what it held is of no matter.
 fn remove_unserved(
     v: &[u8],
     bits: usize,
     masks: &[u16; Record::ROLES as usize],
     held: &[u16; TypeData::TYPES],
     filling: &[u16; TypeData::TYPES],
-    candidates: &[u16; TypeData::TYPES],
-    total: usize,
     left: usize,
+    remaining: &mut [u16; TypeData::TYPES],
     joins: &mut [u16; TypeData::TYPES],
     alive: &mut [bool; TypeData::TYPES],
 ) -> usize
-    requires { ⌜ Eliminating (now v) bits (now masks) (now held) (now candidates) total (now alive) ⌝ }
+    requires { ⌜ Eliminating (now v) bits (now masks) (now held) (now remaining) left (now alive) ⌝ }
     requires { ⌜ FillerWords (now v) (now filling) ⌝ }
     requires { ⌜ length (now joins) ≡ typeLimit ⌝ }
-    requires { ⌜ left ≡ members (now alive) ⌝ }
     ensures { λ _. ⌜ length (now (joins .exit)) ≡ typeLimit ⌝ }
-    ensures { λ r. ⌜ AfterRound (now (v .entry)) (now (alive .entry)) (now (alive .exit)) r ⌝ }
+    ensures { λ r. ⌜ Eliminating (now (v .entry)) bits (now (masks .entry)) (now (held .entry)) (now (remaining .exit)) r
+        (now (alive .exit)) ⌝ }
     ensures { λ r. ⌜ ((n : ℕ) → SameSet (now (alive .entry)) (stage (now (v .entry)) n)
         → AtStage (now (v .entry)) (suc n) (now (alive .exit)) r) ⌝ }
 {
-    enter_words(filling, alive, candidates, total, 1 << bits, joins);
+    enter_words(filling, remaining, left, 1 << bits, joins);
     zeta_transform(joins, bits);
-    remove_by_roles(v, bits, masks, held, joins, candidates, total, left, alive)
+    remove_by_roles(v, bits, masks, held, joins, left, remaining, alive)
 }
 
 // Rounds until one removes nothing, so that the survivors are left; how many they are, and how many rounds removed something.
-// The count begins with the types at which every statement holds, and each removal lowers it: no round counts the table.
+// The count begins with the types at which every statement holds, and each removal lowers it: no table is counted again.
 pub fn eliminate(
     v: &[u8],
     roles: &[u16; TypeData::ATOMS],
@@ -219,10 +217,9 @@ pub fn eliminate(
     ensures { λ r. ⌜ r ≡ counts (now (v .entry)) ⌝ }
 {
     let masks = list_masks(v, roles, bits);
-    let mut candidates = [0; TypeData::TYPES];
-    let total = list_candidates(alive, size, &mut candidates);
+    let mut remaining = [0; TypeData::TYPES];
     let mut joins = [0; TypeData::TYPES];
-    let mut left = total;
+    let mut left = list_alive(alive, size, &mut remaining);
     let mut done = 0;
     loop {
         let rest = remove_unserved(
@@ -231,9 +228,8 @@ pub fn eliminate(
             &masks,
             held,
             filling,
-            &candidates,
-            total,
             left,
+            &mut remaining,
             &mut joins,
             alive,
         );

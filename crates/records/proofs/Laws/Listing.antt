@@ -173,6 +173,7 @@ pub record ListedBelow (room : ℕ) (S : List Bool) (list : List ℕ) (left t : 
   pub inside : (j : ℕ) → j < left → getD list j 0 < t
   pub members : (j : ℕ) → j < left → has S (getD list j 0) ≡ true
   pub finds : (u : ℕ) → u < t → has S u ≡ true → (j : ℕ) × (j < left) × (getD list j 0 ≡ u)
+  pub rises : (i j : ℕ) → i < j → j < left → getD list i 0 < getD list j 0
   pub counted : left ≡ entries (has S) t
 
 module _ (room : ℕ) (S : List Bool) (list : List ℕ) where
@@ -184,6 +185,7 @@ module _ (room : ℕ) (S : List Bool) (list : List ℕ) where
         inside = λ j h. absurd (omega arith);
         members = λ j h. absurd (omega arith);
         finds = λ u h m. absurd (omega arith);
+        rises = λ i j h k. absurd (omega arith);
         counted = sym (entries-none (has S));
       }
 
@@ -196,25 +198,33 @@ module _ (room : ℕ) (S : List Bool) (list : List ℕ) where
           inside = λ j k. inside-at j k (ℕ-discrete j left);
           members = λ j k. members-at j k (ℕ-discrete j left);
           finds = λ u k m. finds-at u k m (ℕ-discrete u t);
+          rises = λ i j k m. rises-at i j k m (ℕ-discrete j left);
           counted = total-turn (has S) left t (l .counted) true e;
         }
       where
         last : getD (set list left t) left 0 ≡ t
         last = getD-set-same list left t 0 (omega (arith, l .size, l .few))
 
+        old : (j : ℕ) → (j ≡ left → ⊥) → getD (set list left t) j 0 ≡ getD list j 0
+        old j q = getD-set-other list left j t 0 q
+
         inside-at : (j : ℕ) → j < left + 1 → Dec (j ≡ left) → getD (set list left t) j 0 < t + 1
         inside-at j k (yes q) = rw (q, last) (omega arith)
-        inside-at j k (no q) = rw (getD-set-other list left j t 0 q) (omega (arith, l .inside j (omega arith)))
+        inside-at j k (no q) = rw (old j q) (omega (arith, l .inside j (omega arith)))
 
         members-at : (j : ℕ) → j < left + 1 → Dec (j ≡ left) → has S (getD (set list left t) j 0) ≡ true
         members-at j k (yes q) = rw (q, last) e
-        members-at j k (no q) = rw (getD-set-other list left j t 0 q) (l .members j (omega arith))
+        members-at j k (no q) = rw (old j q) (l .members j (omega arith))
+
+        rises-at : (i j : ℕ) → i < j → j < left + 1 → Dec (j ≡ left) → getD (set list left t) i 0 < getD (set list left t) j 0
+        rises-at i j k m (yes q) = rw (q, last, old i (λ e. omega arith)) (l .inside i (omega arith))
+        rises-at i j k m (no q) = rw (old i (λ e. omega arith), old j q) (l .rises i j k (omega arith))
 
         Place : ℕ → Type 0
         Place u = (j : ℕ) × (j < left + 1) × (getD (set list left t) j 0 ≡ u)
 
         kept : (u : ℕ) → (j : ℕ) × (j < left) × (getD list j 0 ≡ u) → Place u
-        kept u f = (f .0, omega (arith, f .1), getD-set-other list left (f .0) t 0 (λ e. omega (arith, f .1)) ∙ f .2)
+        kept u f = (f .0, omega (arith, f .1), old (f .0) (λ e. omega (arith, f .1)) ∙ f .2)
 
         finds-at : (u : ℕ) → u < t + 1 → has S u ≡ true → Dec (u ≡ t) → Place u
         finds-at u k m (yes q) = (left, omega arith, last ∙ sym q)
@@ -228,6 +238,7 @@ module _ (room : ℕ) (S : List Bool) (list : List ℕ) where
           inside = λ j k. omega (arith, l .inside j k);
           members = l .members;
           finds = λ u k m. at u k m (ℕ-discrete u t);
+          rises = l .rises;
           counted = omega (arith, total-turn (has S) left t (l .counted) false e);
         }
       where

@@ -1,6 +1,7 @@
 -- Tables, and sets of numbers as tables.
 --   length-table, table-at, table-past   a table's entries
 --   table-cong                           tables of the same values
+--   has-inside                           a member is in the table
 --   members-bound, members-within        how many are in a set, and in one within it
 --   members-less                         a set within another that misses one
 --   members-zero, members-none           a set of none
@@ -44,6 +45,12 @@ module _ {A : Type 0} where
 -- Within: each number of S is in R.
 abbrev pub Within : List Bool → List Bool → Type 0
 Within S R = (t : ℕ) → has S t ≡ true → has R t ≡ true
+
+-- a member is an entry of the table
+pub has-inside : (S : List Bool) (t : ℕ) → has S t ≡ true → t < length S
+has-inside [] t h = absurd (clash (cc))
+has-inside (b ∷ S) zero h = omega arith
+has-inside (b ∷ S) (suc t) h = omega (arith, has-inside S t h)
 
 digit-bound : (b : Bool) → digit b ≤ 1
 digit-bound true = omega arith

@@ -3,7 +3,8 @@
 --   AfterRoles, roles-start, roles-skip, roles-turn   what is left after the roles below r
 --   round-same                                        a round goes by the set, not by its table
 --   stage-ends, survivors-end, round-rests            a set that has nothing past the types; a round that removes nothing
---   bits-few, reached-in, met-role, role-skipped      in an elimination: the words lie in the table of joins; one role's test
+--   bits-few, left-few                                in an elimination: few bits, and few types
+--   reached-in, met-role, role-skipped                the words lie in the table of joins; one role's test
 --   fillerWord-in, joins-done                         the table of joins
 --   round-done, eliminating-on                        after all roles it is the round; the state after it
 --   round-stage, stage-on                             a round of a stage is the next one, and the count goes along
@@ -17,14 +18,14 @@ use native.Mathlib.Decide.{decLt}
 use mathlib.Core.Path.{_≡_, refl, sym, ap, ap₂, subst, _∙_}
 use mathlib.Core.Bool.{Bool, true, false, cond, not, _&&_, _||_, and-true}
 use mathlib.Core.List.{List}
-use lib.ListN.{getD}
+use lib.ListN.{length, getD}
 use lib.Dec.{eqb}
 use lib.Bits.{bitOr}
 use lib.Pow.{pow-mono, shl-exact}
 use borrow.Author.Tests.{not-false}
 use Rattle.records.specs.Format.{roleCount, count}
 use Rattle.records.specs.Finite.{anyBelow, allBelow, has, members, number}
-use Rattle.records.proofs.Laws.Tests.{clash, both-left, same-truth, unless-true, unless-false}
+use Rattle.records.proofs.Laws.Tests.{clash, both-left, both-right, both-true, same-truth, unless-true, unless-false}
 use Rattle.records.proofs.Laws.Search.{any-at, any-intro, any-elim}
 use Rattle.records.proofs.Theorems.Accepted.{AcceptedFacts, accepted-vocabulary}
 use Rattle.types.specs.Types.{types, served}
@@ -32,17 +33,17 @@ use Rattle.types.specs.Survivors.{satisfies, round, removes, stage, roun
 use Rattle.types.specs.Comparison.{atomLimit, typeLimit, countsOf, counts}
 use Rattle.types.specs.Code.Words.{width, otherRoleWord, fillerWord, reached, presentWord, zeta, roleServed, Roles}
 use Rattle.types.specs.Code.Words.{FillerWords, SameSet}
-use Rattle.types.specs.Code.Elimination.{otherRole, Enters, ZetaTo, Joins, metAt, Keeps, Eliminating, AfterRound}
+use Rattle.types.specs.Code.Elimination.{otherRole, Enters, ZetaTo, Joins, metAt, Keeps, Enumerates, Eliminating}
 use Rattle.types.specs.Code.Elimination.{AtStage}
-use Rattle.records.proofs.Laws.Sets.{Within, table-at, table-past, table-cong, members-same}
+use Rattle.records.proofs.Laws.Sets.{table-at, table-past, table-cong, members-bound, members-same}
 use Rattle.records.proofs.Laws.Bits.{number-cong}
-use Rattle.types.proofs.Theorems.Survivors.{has-table, Removing, stage-length, round-less, stage-falls, rounds-is}
+use Rattle.types.proofs.Theorems.Survivors.{Removing, stage-length, round-less, stage-falls, rounds-is}
 use Rattle.types.proofs.Laws.Zeta.{zeta-cong}
 use Rattle.records.proofs.Laws.Filling.{Ends}
 use Rattle.types.proofs.Refinement.Restrictions.{width-bound}
 use Rattle.types.proofs.Refinement.Words.{reached-small, fillerWord-small}
 use Rattle.types.proofs.Refinement.Served.{served-by-words, served-cong, role-unused}
-use Rattle.types.proofs.Invariants.Elimination.{keeps-all, keeps-both, keeps-cong, enumerates-less}
+use Rattle.types.proofs.Invariants.Elimination.{keeps-all, keeps-both, keeps-cong}
 
 pub otherRoleWord-done : (v roles : List ℕ) (bits role : ℕ) → bits ≡ width v → Roles v roles
     → number bits (otherRole roles role) ≡ otherRoleWord v role
@@ -57,28 +58,28 @@ module _ (v : List ℕ) (S : List Bool) where
   abbrev below : ℕ → ℕ → Bool
   below r t = allBelow (roleServed v S t) r
 
-  -- What the roles below r leave of S, and how many.
-  abbrev pub AfterRoles : ℕ → List Bool → ℕ → Type 0
-  AfterRoles r R left = Keeps (below r) S R left
+  -- What the roles below r leave of S.
+  abbrev pub AfterRoles : ℕ → List Bool → Type 0
+  AfterRoles r R = Keeps (below r) S R
 
-  pub roles-start : (left : ℕ) → left ≡ members S → AfterRoles 0 S left
+  pub roles-start : AfterRoles 0 S
   unfolding allBelow
-  roles-start left e = keeps-all (below 0) S left e (λ t. refl)
+  roles-start = keeps-all (below 0) S (λ t. refl)
 
   -- one role further
   below-turn : (r t : ℕ) → below (r + 1) t ≡ (below r t && roleServed v S t r)
   unfolding allBelow
   below-turn r t = rw (add-one r)
 
-  module _ (r : ℕ) (R : List Bool) (left : ℕ) (w : AfterRoles r R left) where
-    pub roles-skip : ((t : ℕ) → roleServed v S t r ≡ true) → AfterRoles (r + 1) R left
+  module _ (r : ℕ) (R : List Bool) (w : AfterRoles r R) where
+    pub roles-skip : ((t : ℕ) → roleServed v S t r ≡ true) → AfterRoles (r + 1) R
     roles-skip all =
-        keeps-cong (below r) S left R w (below (r + 1)) (λ t m. sym (below-turn r t ∙ rw (all t) (and-true (below r t))))
+        keeps-cong (below r) S R w (below (r + 1)) (λ t m. sym (below-turn r t ∙ rw (all t) (and-true (below r t))))
 
-    pub roles-turn : (after : List Bool) (rest : ℕ) (met : ℕ → Bool) → Keeps met R after rest
-        → ((t : ℕ) → has S t ≡ true → met t ≡ roleServed v S t r) → AfterRoles (r + 1) after rest
-    roles-turn after rest met z agrees =
-        keeps-cong (λ t. below r t && met t) S rest after (keeps-both (below r) S left R w met after rest z) (below (r + 1))
+    pub roles-turn : (after : List Bool) (met : ℕ → Bool) → Keeps met R after
+        → ((t : ℕ) → has S t ≡ true → met t ≡ roleServed v S t r) → AfterRoles (r + 1) after
+    roles-turn after met z agrees =
+        keeps-cong (λ t. below r t && met t) S after (keeps-both (below r) S R w met after z) (below (r + 1))
         (λ t m. ap (λ (x : Bool). below r t && x) (agrees t m) ∙ sym (below-turn r t))
 
 module _ (v : List ℕ) (S R : List Bool) (same : SameSet S R) where
@@ -116,13 +117,16 @@ module _ (v : List ℕ) where
           round-at S t h ∙ stays (has S t) (served v S t) (any-at (λ t. has S t && not (served v S t)) (types v) e t h)
       at (no h) = round-ends S t (omega arith) ∙ sym (ends t (omega arith))
 
-module _ {v : List ℕ} {bits : ℕ} {masks held candidates : List ℕ} {total : ℕ} {alive : List Bool}
-    (s : Eliminating v bits masks held candidates total alive) where
+module _ {v : List ℕ} {bits : ℕ} {masks held remaining : List ℕ} {left : ℕ} {alive : List Bool}
+    (s : Eliminating v bits masks held remaining left alive) where
   pub good : AcceptedFacts v
   good = accepted-vocabulary v (count v) (s .accepts)
 
   pub bits-few : bits ≤ atomLimit
   bits-few = omega (arith, s .wide, s .few, width-bound v)
+
+  pub left-few : left ≤ typeLimit
+  left-few = omega (arith, s .listed .counted, members-bound alive, s .size)
 
   member-below : (t : ℕ) → has alive t ≡ true → t < types v
   member-below t e = at (decLt t (types v))
@@ -147,76 +151,74 @@ module _ {v : List ℕ} {bits : ℕ} {masks held candidates : List ℕ} {total :
   pub role-skipped : (r t : ℕ) → r < roleCount v → getD masks r 0 ≡ 2 ^ bits - 1 → roleServed v alive t r ≡ true
   role-skipped r t h e = role-unused v alive t r (sym (s .masked r h) ∙ e ∙ ap (λ (n : ℕ). 2 ^ n - 1) (s .wide))
 
-  pub round-done : (r : ℕ) (R : List Bool) (left : ℕ) → r ≡ roleCount v → AfterRoles v alive r R left
-      → AfterRound v alive R left
-  round-done r R left e roles =
-      record { size = w .size; leaves = same; counted = w .counted ∙ members-same R (round v alive) same }
-    where
-      w : Keeps (served v alive) alive R left
-      w =
-          keeps-cong (below v alive r) alive left R roles (served v alive)
-          (λ t m. sym (served-by-words v good alive t ∙ ap (λ (n : ℕ). below v alive n t) (sym e)))
+  -- after all roles: the round, and the state that it leaves
+  module _ (r : ℕ) (R : List Bool) (e : r ≡ roleCount v) (roles : AfterRoles v alive r R) where
+    pub round-done : SameSet R (round v alive)
+    round-done t = at (decLt t (types v))
+      where
+        w : Keeps (served v alive) alive R
+        w =
+            keeps-cong (below v alive r) alive R roles (served v alive)
+            (λ t m. sym (served-by-words v good alive t ∙ ap (λ (n : ℕ). below v alive n t) (sym e)))
 
-      at : (t : ℕ) → Dec (t < types v) → has R t ≡ has (round v alive) t
-      at t (yes h) = w .kept t ∙ sym (round-at v alive t h)
-      at t (no h) =
-          w .kept t ∙ ap (λ (x : Bool). x && served v alive t) (s .ends t (omega arith)) ∙ sym
-          (round-ends v alive t (omega arith))
+        at : Dec (t < types v) → has R t ≡ has (round v alive) t
+        at (yes h) = w .kept t ∙ sym (round-at v alive t h)
+        at (no h) =
+            w .kept t ∙ ap (λ (x : Bool). x && served v alive t) (s .ends t (omega arith)) ∙ sym
+            (round-ends v alive t (omega arith))
 
-      same : SameSet R (round v alive)
-      same t = at t (decLt t (types v))
-
-  pub eliminating-on : (R : List Bool) (left : ℕ) → AfterRound v alive R left → Eliminating v bits masks held candidates total R
-  eliminating-on R left a =
-      record {
-        accepts = s .accepts;
-        few = s .few;
-        wide = s .wide;
-        masked = s .masked;
-        held-words = s .held-words;
-        listed = enumerates-less candidates total alive R within (s .listed);
-        ends = λ t h. a .leaves t ∙ round-ends v alive t h;
-        size = a .size ∙ s .size;
-      }
-    where
-      within : Within R alive
-      within t h =
-          both-left (has alive t) (served v alive t)
-          (has-table (types v) (λ t. has alive t && served v alive t) t (sym (a .leaves t) ∙ h) .1)
+    pub eliminating-on : (list : List ℕ) (rest : ℕ) → Enumerates list rest R → length list ≡ typeLimit
+        → Eliminating v bits masks held list rest R
+    eliminating-on list rest l n =
+        record {
+          accepts = s .accepts;
+          few = s .few;
+          wide = s .wide;
+          masked = s .masked;
+          held-words = s .held-words;
+          listed = l;
+          list-size = n;
+          ends = λ t h. round-done t ∙ round-ends v alive t h;
+          size = roles .size ∙ s .size;
+        }
 
   module _ (filling : List ℕ) (o : FillerWords v filling) where
-    pub fillerWord-in : (t : ℕ) → has alive t ≡ true → getD filling t 0 < typeLimit
-    fillerWord-in t m = rw (o t (member-below t m)) (word-in (fillerWord v t) (fillerWord-small v t))
+    pub fillerWord-in : (j : ℕ) → j < left → getD filling (getD remaining j 0) 0 < typeLimit
+    fillerWord-in j h =
+        let t = getD remaining j 0 in
+        rw (o t (member-below t (s .listed .sound j h))) (word-in (fillerWord v t) (fillerWord-small v t))
 
     -- the words entered are those of the set
-    present-listed : (first : List ℕ) (words : ℕ) → Enters filling candidates alive total words first → (x : ℕ) → x < words
+    present-listed : (first : List ℕ) (words : ℕ) → Enters filling remaining left words first → (x : ℕ) → x < words
         → getD first x 0 ≡ presentWord v alive x
     present-listed first words enters x h = enters x h ∙ ap (λ (b : Bool). cond b x 0) (same-truth _ _ onward back)
       where
         listed : ℕ → Bool
-        listed i = has alive (getD candidates i 0) && eqb (getD filling (getD candidates i 0) 0) x
+        listed i = eqb (getD filling (getD remaining i 0) 0) x
 
         all : ℕ → Bool
         all t = has alive t && eqb (fillerWord v t) x
 
-        has-word : (t : ℕ) → t < types v → (has alive t && eqb (getD filling t 0) x) ≡ all t
-        has-word t k = ap (λ (y : ℕ). has alive t && eqb y x) (o t k)
+        has-word : (t : ℕ) → t < types v → eqb (getD filling t 0) x ≡ eqb (fillerWord v t) x
+        has-word t k = ap (λ (y : ℕ). eqb y x) (o t k)
 
-        onward : anyBelow listed total ≡ true → anyBelow all (types v) ≡ true
+        onward : anyBelow listed left ≡ true → anyBelow all (types v) ≡ true
         onward e =
-            let f = any-elim listed total e in
-            let t = getD candidates (f .0) 0 in
-            let k = member-below t (both-left (has alive t) (eqb (getD filling t 0) x) (f .2)) in
-            any-intro all (types v) t k (sym (has-word t k) ∙ f .2)
+            let f = any-elim listed left e in
+            let t = getD remaining (f .0) 0 in
+            let m = s .listed .sound (f .0) (f .1) in
+            let k = member-below t m in
+            any-intro all (types v) t k (both-true (has alive t) (eqb (fillerWord v t) x) m (sym (has-word t k) ∙ f .2))
 
-        back : anyBelow all (types v) ≡ true → anyBelow listed total ≡ true
+        back : anyBelow all (types v) ≡ true → anyBelow listed left ≡ true
         back e =
             let f = any-elim all (types v) e in
             let g = s .listed .finds (f .0) (both-left (has alive (f .0)) (eqb (fillerWord v (f .0)) x) (f .2)) in
-            any-intro listed total (g .0) (g .1)
-            (subst (λ (t : ℕ). (has alive t && eqb (getD filling t 0) x) ≡ true) (sym (g .2)) (has-word (f .0) (f .1) ∙ f .2))
+            any-intro listed left (g .0) (g .1)
+            (ap (λ (t : ℕ). eqb (getD filling t 0) x) (g .2)
+            ∙ has-word (f .0) (f .1) ∙ both-right (has alive (f .0)) (eqb (fillerWord v (f .0)) x) (f .2))
 
-    pub joins-done : (words : ℕ) (first last : List ℕ) → words ≡ 2 ^ bits → Enters filling candidates alive total words first
+    pub joins-done : (words : ℕ) (first last : List ℕ) → words ≡ 2 ^ bits → Enters filling remaining left words first
         → ZetaTo bits (2 ^ bits) first last → Joins v alive last
     joins-done words first last e enters zeta-step x h =
         let k : x < 2 ^ bits = omega (arith, ap (λ (n : ℕ). 2 ^ n) (s .wide)) in
@@ -226,12 +228,14 @@ module _ {v : List ℕ} {bits : ℕ} {masks held candidates : List ℕ} {total :
         ∙ ap (λ (n : ℕ). zeta (presentWord v alive) n x) (s .wide)
 
 -- A round of a stage is the next one, and the count goes along.
-pub round-stage : {v : List ℕ} {S R : List Bool} {left : ℕ} → AfterRound v S R left → (n : ℕ) → SameSet S (stage v n)
-    → AtStage v (suc n) R left
+pub round-stage : (v : List ℕ) (S R : List Bool) (left : ℕ) → SameSet R (round v S) → left ≡ members R
+    → (n : ℕ) → SameSet S (stage v n) → AtStage v (suc n) R left
 unfolding stage
-round-stage {v} {S} a n same =
-    let next = round-same v S (stage v n) same in
-    record { same = λ t. a .leaves t ∙ ap (λ (S : List Bool). has S t) next; counted = a .counted ∙ ap members next }
+round-stage v S R left leaves counted n same =
+    record { same = next; counted = counted ∙ members-same R (stage v (suc n)) next }
+  where
+    next : SameSet R (stage v (suc n))
+    next t = leaves t ∙ ap (λ (S : List Bool). has S t) (round-same v S (stage v n) same)
 
 -- The count of one stage and the next: it falls exactly where the round removes something.
 module _ {v : List ℕ} {n : ℕ} {S R : List Bool} {left rest : ℕ} (w : AtStage v n S left) (a : AtStage v (suc n) R rest) where

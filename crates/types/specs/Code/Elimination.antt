@@ -12,7 +12,7 @@ use Rattle.records.specs.Finite.{anyBelow, has, members, bit}
 use Rattle.records.specs.Check.{IsAccepted}
 use Rattle.records.specs.Atoms.{atoms}
 use Rattle.types.specs.Types.{types}
-use Rattle.types.specs.Survivors.{round, stage}
+use Rattle.types.specs.Survivors.{stage}
 use Rattle.types.specs.Comparison.{atomLimit, typeLimit}
 use Rattle.types.specs.Code.Words.{width, otherRoleWord, zeta, joins, RestrictionWords, SameSet}
 
@@ -23,32 +23,33 @@ otherRole roles r m = not (eqb (getD roles m 0) r)
 abbrev pub Masks : List ℕ → List ℕ → Type 0
 Masks v masks = (r : ℕ) → r < roleCount v → getD masks r 0 ≡ otherRoleWord v r
 
--- A list of types that has every member of a set.
-pub record Enumerates (candidates : List ℕ) (total : ℕ) (S : List Bool) : Type 0 where
-  pub few : total ≤ typeLimit
-  pub inside : (j : ℕ) → j < total → getD candidates j 0 < typeLimit
-  pub finds : (t : ℕ) → has S t ≡ true → (j : ℕ) × (j < total) × (getD candidates j 0 ≡ t)
+-- A list that has each member of a set once, and nothing else, so that its length is their number.
+pub record Enumerates (list : List ℕ) (left : ℕ) (S : List Bool) : Type 0 where
+  pub inside : (j : ℕ) → j < left → getD list j 0 < typeLimit
+  pub sound : (j : ℕ) → j < left → has S (getD list j 0) ≡ true
+  pub finds : (t : ℕ) → has S t ≡ true → (j : ℕ) × (j < left) × (getD list j 0 ≡ t)
+  pub apart : (i j : ℕ) → i < left → j < left → getD list i 0 ≡ getD list j 0 → i ≡ j
+  pub counted : left ≡ members S
 
 -- The state of an elimination: an accepted vocabulary of few enough atoms, the tables of its roles and types, and the set of
--- types that are left, with a list that has them all.
-pub record Eliminating (v : List ℕ) (bits : ℕ) (masks held candidates : List ℕ) (total : ℕ) (alive : List Bool) : Type 0 where
+-- types that are left, with a list of them.
+pub record Eliminating (v : List ℕ) (bits : ℕ) (masks held remaining : List ℕ) (left : ℕ) (alive : List Bool) : Type 0 where
   pub accepts : IsAccepted v
   pub few : atoms v ≤ atomLimit
   pub wide : bits ≡ width v
   pub masked : Masks v masks
   pub held-words : RestrictionWords v held
-  pub listed : Enumerates candidates total alive
+  pub listed : Enumerates remaining left alive
+  pub list-size : length remaining ≡ typeLimit
   pub ends : (t : ℕ) → types v ≤ t → has alive t ≡ false
   pub size : length alive ≡ typeLimit
 
--- x itself where one of the first n types listed is in the set and has it as its word of fillers, else 0; a table of that
--- below a bound.
-abbrev pub presentAmong : List ℕ → List ℕ → List Bool → ℕ → ℕ → ℕ
-presentAmong filling candidates S n x = cond
-    (anyBelow (λ i. has S (getD candidates i 0) && eqb (getD filling (getD candidates i 0) 0) x) n) x 0
+-- x itself where one of the first n types listed has it as its word of fillers, else 0; a table of that below a bound.
+abbrev pub presentAmong : List ℕ → List ℕ → ℕ → ℕ → ℕ
+presentAmong filling list n x = cond (anyBelow (λ i. eqb (getD filling (getD list i 0) 0) x) n) x 0
 
-abbrev pub Enters : List ℕ → List ℕ → List Bool → ℕ → ℕ → List ℕ → Type 0
-Enters filling candidates S n words table = (x : ℕ) → x < words → getD table x 0 ≡ presentAmong filling candidates S n x
+abbrev pub Enters : List ℕ → List ℕ → ℕ → ℕ → List ℕ → Type 0
+Enters filling list n words table = (x : ℕ) → x < words → getD table x 0 ≡ presentAmong filling list n x
 
 -- Whether y lies from a on, before e.
 abbrev pub between : ℕ → ℕ → ℕ → Bool
@@ -83,19 +84,12 @@ metBy joins mask word = eqb (bitOr (getD joins (bitOr word mask) 0) mask) (bitOr
 abbrev pub metAt : List ℕ → ℕ → List ℕ → ℕ → Bool
 metAt joins mask held t = metBy joins mask (getD held t 0)
 
--- What a test keeps of a set, and how many.
-pub record Keeps (test : ℕ → Bool) (S R : List Bool) (left : ℕ) : Type 0 where
+-- What a test keeps of a set.
+pub record Keeps (test : ℕ → Bool) (S R : List Bool) : Type 0 where
   pub size : length R ≡ length S
   pub kept : (t : ℕ) → has R t ≡ (has S t && test t)
-  pub counted : left ≡ members R
 
--- What a round leaves of a set, and how many.
-pub record AfterRound (v : List ℕ) (S R : List Bool) (left : ℕ) : Type 0 where
-  pub size : length R ≡ length S
-  pub leaves : SameSet R (round v S)
-  pub counted : left ≡ members (round v S)
-
--- The types left after n rounds: "at each round's end it is the number of types left".
+-- The types left after n rounds, and their count: "at each round's end it is the number of types left".
 pub record AtStage (v : List ℕ) (n : ℕ) (S : List Bool) (left : ℕ) : Type 0 where
   pub same : SameSet S (stage v n)
   pub counted : left ≡ members (stage v n)

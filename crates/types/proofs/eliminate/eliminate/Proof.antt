@@ -5,7 +5,7 @@ use Prim.Native.Nat.{ℕ, _+_, _-_, _≤_}
 use native.Mathlib.Omega.{arith}
 use mathlib.Core.Bool.{Bool}
 use mathlib.Core.List.{List}
-use mathlib.Core.Path.{_≡_, refl, sym, _∙_}
+use mathlib.Core.Path.{_≡_, refl, _∙_}
 use lib.ListN.{length}
 use borrow.Author.Needs.{needs}
 use denote.Ref.{now}
@@ -13,28 +13,27 @@ use Rattle.types.specs.Types.{types}
 use Rattle.types.specs.Comparison.{typeLimit}
 use Rattle.records.proofs.Laws.Sets.{members-same}
 use Rattle.types.specs.Code.Elimination.{Eliminating, AtStage}
-use Rattle.types.proofs.Refinement.Rounds.{stage-ends, eliminating-on, stage-on, rests-survivors, removing-on, rounds-left}
+use Rattle.types.proofs.Refinement.Rounds.{stage-ends, stage-on, rests-survivors, removing-on, rounds-left}
 use Rattle.types.proofs.Theorems.Survivors.{types-bound, Removing}
 use Rattle.types.proofs.eliminate.eliminate.Statement.{statement}
 use Rattle.types.proofs.eliminate.eliminate.Tie as tie
 
-record Standing (v : List ℕ) (bits : ℕ) (masks held candidates : List ℕ) (total : ℕ) (joins : List ℕ) (alive : List Bool)
-    (left done : ℕ)
+record Standing (v : List ℕ) (bits : ℕ) (masks held : List ℕ) (remaining joins : List ℕ) (alive : List Bool) (left done : ℕ)
     : Type 0 where
-  state : Eliminating v bits masks held candidates total alive
+  state : Eliminating v bits masks held remaining left alive
   stage : AtStage v done alive left
   before : Removing v done
   room : length joins ≡ typeLimit
 
 abbrev Inv-loop : tie.InvT-loop
-Inv-loop v roles bits held filling size alive₀ masks candidates total joins₀ left₀ done₀ alive joins left done =
-    Standing v bits masks held candidates total joins alive left done
+Inv-loop v roles bits held filling size alive₀ masks remaining₀ joins₀ left₀ done₀ alive remaining joins left done =
+    Standing v bits masks held remaining joins alive left done
 
 abbrev μ-loop : tie.MeasureT-loop
-μ-loop v roles bits held filling size alive₀ masks candidates total joins₀ left₀ done₀ alive joins left done = types v - done
+μ-loop v roles bits held filling size alive₀ masks remaining₀ joins₀ left₀ done₀ alive remaining joins left done = types v - done
 
-list-candidates-requires : tie.Need-list-candidates-requires Inv-loop μ-loop
-list-candidates-requires c κs =
+list-alive-requires : tie.Need-list-alive-requires Inv-loop μ-loop
+list-alive-requires c κs =
     let start = c .before .before .before .before in
     let v = now (start .args .v) in
     let p = start .pre in
@@ -48,18 +47,20 @@ loop-holds c =
     let masked = c .before .before .before in
     let start = masked .before .before in
     let p = start .pre in
-    let same = p .1 .1 .1 .1 .1 .1 .1 .0 in record {
+    let same = p .1 .1 .1 .1 .1 .1 .1 .0 in
+    let listed = c .list-alive .ensures in record {
       state = record {
         accepts = p .0;
         few = p .1 .0;
         wide = p .1 .1 .0;
         masked = masked .list-masks .ensures;
         held-words = p .1 .1 .1 .1 .0;
-        listed = c .list-candidates .ensures .0;
+        listed = listed .1;
+        list-size = listed .0;
         ends = λ t h. same t ∙ stage-ends (now (start .args .v)) 0 t h;
         size = p .1 .1 .1 .1 .1 .1 .1 .1;
       };
-      stage = record { same = same; counted = c .list-candidates .ensures .1 ∙ members-same _ _ same };
+      stage = record { same = same; counted = listed .1 .counted ∙ members-same _ _ same };
       before = λ m h. absurd (omega arith);
       room = refl;
     }
@@ -75,7 +76,7 @@ remove-unserved-requires : tie.Need-remove-unserved-requires Inv-loop μ-loop
 remove-unserved-requires c κs =
     let loop = c .before .before .before .before in
     let i = loop .loop .inv in
-    (i .state, (start-at loop .pre .1 .1 .1 .1 .1 .0, (i .room, i .stage .counted ∙ sym (members-same _ _ (i .stage .same)))))
+    (i .state, (start-at loop .pre .1 .1 .1 .1 .1 .0, i .room))
 
 returns : tie.Need-returns Inv-loop μ-loop
 returns c =
@@ -105,7 +106,7 @@ loop-again c =
     let i = loop-at round .loop .inv in
     let after = round .remove-unserved .ensures in
     let reached = after .1 .1 _ (i .stage .same) in record {
-      state = eliminating-on (i .state) _ _ (after .1 .0);
+      state = after .1 .0;
       stage = stage-on reached;
       before = removing-on (i .stage) reached (i .before) (c .if1 .left);
       room = after .0;
@@ -114,5 +115,5 @@ loop-again c =
 pub eliminate-spec : {M : Type 1} → statement M
 eliminate-spec =
     tie.close
-    (tie.spec Inv-loop μ-loop (λ c κs. search needs) list-candidates-requires loop-holds remove-unserved-requires returns add-done
+    (tie.spec Inv-loop μ-loop (λ c κs. search needs) list-alive-requires loop-holds remove-unserved-requires returns add-done
     loop-less loop-again)

@@ -6,7 +6,7 @@ use mathlib.Core.Path.{_∙_}
 use denote.Ref.{now}
 use Rattle.types.specs.Comparison.{atomLimit}
 use Rattle.types.proofs.Invariants.Zeta.{power, words-room}
-use Rattle.types.proofs.Refinement.Rounds.{bits-few, fillerWord-in, joins-done, round-stage}
+use Rattle.types.proofs.Refinement.Rounds.{bits-few, left-few, fillerWord-in, joins-done, round-stage}
 use Rattle.types.proofs.eliminate.remove_unserved.Statement.{statement}
 use Rattle.types.proofs.eliminate.remove_unserved.Tie as tie
 
@@ -18,10 +18,13 @@ enter-words-requires c κs =
     let start = c .before .before .before in
     let s = start .pre .0 in
     let few = bits-few s in (
-      s .listed,
+      left-few s,
       (
-        fillerWord-in s (now (start .args .filling)) (start .pre .1 .0),
-        (words-room _ atomLimit few (omega arith), start .pre .1 .1 .0),
+        s .listed .inside,
+        (
+          fillerWord-in s (now (start .args .filling)) (start .pre .1 .0),
+          (words-room _ atomLimit few (omega arith), start .pre .1 .1),
+        ),
       ),
     )
 
@@ -32,24 +35,25 @@ zeta-transform-requires c κs =
 
 remove-by-roles-requires : tie.Need-remove-by-roles-requires
 remove-by-roles-requires c κs =
-    let zeta = c .before .before in
+    let zeta = c .before .before .before in
     let entered = zeta .before .before in
     let start = entered .before .before .before .before in
     let s = start .pre .0 in
     let few = bits-few s in (
       s,
-      (
-        joins-done s (now (start .args .filling)) (start .pre .1 .0) _ _ _ (power (start .args .bits) (omega (arith, few)))
-            (entered .enter-words .ensures .1) (zeta .zeta-transform .ensures),
-        start .pre .1 .1 .1,
-      ),
+      joins-done s (now (start .args .filling)) (start .pre .1 .0) _ _ _ (power (start .args .bits) (omega (arith, few)))
+          (entered .enter-words .ensures .1) (zeta .zeta-transform .ensures),
     )
 
 returns : tie.Need-returns
 returns c =
-    let zeta = c .before .before .before in
-    let after = c .remove-by-roles .ensures in
-    (zeta .zeta-transform .ensures .size ∙ zeta .before .before .enter-words .ensures .0, (after, round-stage after))
+    let zeta = c .before .before .before .before in
+    let entered = zeta .before .before in
+    let alive = now (entered .before .before .before .before .args .alive) in
+    let after = c .remove-by-roles .ensures in (
+      zeta .zeta-transform .ensures .size ∙ entered .enter-words .ensures .0,
+      (after .0, round-stage _ alive _ _ (after .1) (after .0 .listed .counted)),
+    )
 
 pub remove-unserved-spec : {M : Type 1} → statement M
 remove-unserved-spec =
