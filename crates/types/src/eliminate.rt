@@ -52,7 +52,6 @@ fn list_alive(
     requires { ⌜ size ≤ typeLimit ⌝ }
     requires { ⌜ ((t : ℕ) → size ≤ t → has (now alive) t ≡ false) ⌝ }
     requires { ⌜ length (now remaining) ≡ typeLimit ⌝ }
-    ensures { λ _. ⌜ length (now (remaining .exit)) ≡ typeLimit ⌝ }
     ensures { λ r. ⌜ Enumerates (now (remaining .exit)) r (now (alive .entry)) ⌝ }
 {
     let mut left = 0;
@@ -114,8 +113,6 @@ fn remove_unmet(
     requires { ⌜ Enumerates (now remaining) left (now alive) ⌝ }
     requires { ⌜ ((t : ℕ) → has (now alive) t ≡ true → bitOr (getD (now held) t 0) mask < typeLimit) ⌝ }
     requires { ⌜ length (now alive) ≡ typeLimit ⌝ }
-    requires { ⌜ length (now remaining) ≡ typeLimit ⌝ }
-    ensures { λ _. ⌜ length (now (remaining .exit)) ≡ typeLimit ⌝ }
     ensures { λ r. ⌜ Enumerates (now (remaining .exit)) r (now (alive .exit)) ⌝ }
     ensures { λ _. ⌜ Keeps (metAt (now (joins .entry)) mask (now (held .entry))) (now (alive .entry)) (now (alive .exit)) ⌝ }
 {

@@ -31,6 +31,7 @@ pub list-enumerates : (S : List Bool) (list : List ℕ) (left t : ℕ) → Liste
     → Ends S t → Enumerates list left S
 list-enumerates S list left t l h ends =
     record {
+      room = l .size;
       inside = λ j k. omega (arith, l .inside j k);
       sound = l .members;
       finds = λ u m. at u m (decLt u t);
@@ -105,13 +106,15 @@ module _ (f : ℕ → Bool) (S : List Bool) where
           three false y z = refl
 
 -- One member taken out of a set and of the list that enumerates it, where the last takes its place.
-module _ (list : List ℕ) (R : List Bool) (left j : ℕ) (l : Enumerates list left R) (h : j < left)
-    (room : left ≤ length list) where
+module _ (list : List ℕ) (R : List Bool) (left j : ℕ) (l : Enumerates list left R) (h : j < left) (few : left ≤ typeLimit) where
   abbrev out : ℕ
   out = getD list j 0
 
   abbrev shorter : List ℕ
   shorter = set list j (getD list (left - 1) 0)
+
+  filled : getD shorter j 0 ≡ getD list (left - 1) 0
+  filled = getD-set-same list j (getD list (left - 1) 0) 0 (omega (arith, l .room))
 
   -- where an entry of the shorter list stood before: not at j
   record Stood (i p : ℕ) : Type 0 where
@@ -128,7 +131,7 @@ module _ (list : List ℕ) (R : List Bool) (left j : ℕ) (l : Enumerates list l
         left - 1,
         record {
           below = omega arith;
-          entry = rw q (getD-set-same list j (getD list (left - 1) 0) 0 (omega arith));
+          entry = rw q filled;
           other = λ e. omega arith;
           which = inl (q, refl);
         },
@@ -150,6 +153,7 @@ module _ (list : List ℕ) (R : List Bool) (left j : ℕ) (l : Enumerates list l
   pub taken-out : Enumerates shorter (left - 1) (set R out false)
   taken-out =
       record {
+        room = length-set list j (getD list (left - 1) 0) ∙ l .room;
         inside = λ i k. let s = stood i k in rw (s .1 .entry) (l .inside (s .0) (s .1 .below));
         sound = λ i k. let s = stood i k in
             rw (s .1 .entry) (getD-set-other R out (getD list (s .0) 0) false false
@@ -168,7 +172,7 @@ module _ (list : List ℕ) (R : List Bool) (left j : ℕ) (l : Enumerates list l
       place-at t i k e d (yes q) = (
         j,
         omega arith,
-        getD-set-same list j (getD list (left - 1) 0) 0 (omega arith) ∙ ap (λ (n : ℕ). getD list n 0) (sym q) ∙ e,
+        filled ∙ ap (λ (n : ℕ). getD list n 0) (sym q) ∙ e,
       )
       place-at t i k e d (no q) = (i, omega arith, getD-set-other list j i (getD list (left - 1) 0) 0 d ∙ e)
 
@@ -192,17 +196,15 @@ module _ (list : List ℕ) (R : List Bool) (left j : ℕ) (l : Enumerates list l
 module _ (met : ℕ → Bool) (S : List Bool) where
   pub record RemovedBelow (list : List ℕ) (R : List Bool) (left j : ℕ) : Type 0 where
     pub listed : Enumerates list left R
-    pub list-size : length list ≡ typeLimit
     pub size : length R ≡ length S
     pub within : Within R S
     pub gone : (t : ℕ) → has S t ≡ true → has R t ≡ false → met t ≡ false
     pub passed : (i : ℕ) → i < j → met (getD list i 0) ≡ true
 
-  pub remove-start : (list : List ℕ) (left : ℕ) → Enumerates list left S → length list ≡ typeLimit → RemovedBelow list S left 0
-  remove-start list left l e =
+  pub remove-start : (list : List ℕ) (left : ℕ) → Enumerates list left S → RemovedBelow list S left 0
+  remove-start list left l =
       record {
         listed = l;
-        list-size = e;
         size = refl;
         within = λ t h. h;
         gone = λ t m n. absurd (clash (cc));
@@ -217,7 +219,6 @@ module _ (met : ℕ → Bool) (S : List Bool) where
     remove-kept e =
         record {
           listed = s .listed;
-          list-size = s .list-size;
           size = s .size;
           within = s .within;
           gone = s .gone;
@@ -232,8 +233,7 @@ module _ (met : ℕ → Bool) (S : List Bool) where
         → RemovedBelow (set list j (getD list (left - 1) 0)) (set R u false) (left - 1) j
     remove-out h few e =
         record {
-          listed = taken-out list R left j (s .listed) h (omega (arith, s .list-size));
-          list-size = length-set list j (getD list (left - 1) 0) ∙ s .list-size;
+          listed = taken-out list R left j (s .listed) h few;
           size = length-set R u false ∙ s .size;
           within = λ t m. s .within t (still t m (ℕ-discrete t u));
           gone = λ t m n. gone-at t m n (ℕ-discrete t u);

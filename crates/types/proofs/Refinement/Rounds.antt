@@ -15,10 +15,10 @@ use Prim.Native.Nat.{ℕ, zero, suc, _+_, _-_, _*_, _%_, _^_, _≤_, _<_}
 use native.Mathlib.Omega.{arith}
 use native.Mathlib.Numerals.{add-one}
 use native.Mathlib.Decide.{decLt}
-use mathlib.Core.Path.{_≡_, refl, sym, ap, ap₂, subst, _∙_}
-use mathlib.Core.Bool.{Bool, true, false, cond, not, _&&_, _||_, and-true}
+use mathlib.Core.Path.{_≡_, refl, sym, ap, ap₂, _∙_}
+use mathlib.Core.Bool.{Bool, true, false, cond, not, _&&_, and-true}
 use mathlib.Core.List.{List}
-use lib.ListN.{length, getD}
+use lib.ListN.{getD}
 use lib.Dec.{eqb}
 use lib.Bits.{bitOr}
 use lib.Pow.{pow-mono, shl-exact}
@@ -167,9 +167,8 @@ module _ {v : List ℕ} {bits : ℕ} {masks held remaining : List ℕ} {left : �
             w .kept t ∙ ap (λ (x : Bool). x && served v alive t) (s .ends t (omega arith)) ∙ sym
             (round-ends v alive t (omega arith))
 
-    pub eliminating-on : (list : List ℕ) (rest : ℕ) → Enumerates list rest R → length list ≡ typeLimit
-        → Eliminating v bits masks held list rest R
-    eliminating-on list rest l n =
+    pub eliminating-on : (list : List ℕ) (rest : ℕ) → Enumerates list rest R → Eliminating v bits masks held list rest R
+    eliminating-on list rest l =
         record {
           accepts = s .accepts;
           few = s .few;
@@ -177,7 +176,6 @@ module _ {v : List ℕ} {bits : ℕ} {masks held remaining : List ℕ} {left : �
           masked = s .masked;
           held-words = s .held-words;
           listed = l;
-          list-size = n;
           ends = λ t h. round-done t ∙ round-ends v alive t h;
           size = roles .size ∙ s .size;
         }

@@ -23,8 +23,9 @@ otherRole roles r m = not (eqb (getD roles m 0) r)
 abbrev pub Masks : List ℕ → List ℕ → Type 0
 Masks v masks = (r : ℕ) → r < roleCount v → getD masks r 0 ≡ otherRoleWord v r
 
--- A list that has each member of a set once, and nothing else, so that its length is their number.
+-- A list, in a table that has room for all types, of each member of a set once and nothing else; so its length is their number.
 pub record Enumerates (list : List ℕ) (left : ℕ) (S : List Bool) : Type 0 where
+  pub room : length list ≡ typeLimit
   pub inside : (j : ℕ) → j < left → getD list j 0 < typeLimit
   pub sound : (j : ℕ) → j < left → has S (getD list j 0) ≡ true
   pub finds : (t : ℕ) → has S t ≡ true → (j : ℕ) × (j < left) × (getD list j 0 ≡ t)
@@ -40,7 +41,6 @@ pub record Eliminating (v : List ℕ) (bits : ℕ) (masks held remaining : List 
   pub masked : Masks v masks
   pub held-words : RestrictionWords v held
   pub listed : Enumerates remaining left alive
-  pub list-size : length remaining ≡ typeLimit
   pub ends : (t : ℕ) → types v ≤ t → has alive t ≡ false
   pub size : length alive ≡ typeLimit
 

@@ -47,20 +47,18 @@ loop-holds c =
     let masked = c .before .before .before in
     let start = masked .before .before in
     let p = start .pre in
-    let same = p .1 .1 .1 .1 .1 .1 .1 .0 in
-    let listed = c .list-alive .ensures in record {
+    let same = p .1 .1 .1 .1 .1 .1 .1 .0 in record {
       state = record {
         accepts = p .0;
         few = p .1 .0;
         wide = p .1 .1 .0;
         masked = masked .list-masks .ensures;
         held-words = p .1 .1 .1 .1 .0;
-        listed = listed .1;
-        list-size = listed .0;
+        listed = c .list-alive .ensures;
         ends = λ t h. same t ∙ stage-ends (now (start .args .v)) 0 t h;
         size = p .1 .1 .1 .1 .1 .1 .1 .1;
       };
-      stage = record { same = same; counted = listed .1 .counted ∙ members-same _ _ same };
+      stage = record { same = same; counted = c .list-alive .ensures .counted ∙ members-same _ _ same };
       before = λ m h. absurd (omega arith);
       room = refl;
     }

@@ -57,8 +57,7 @@ loop-again c =
 returns : tie.Need-returns Inv-loop μ-loop
 returns c =
     let start = c .before .before .pre in
-    let l = c .before .loop .inv .1 in
-    (l .size, list-enumerates _ _ _ _ l (omega (arith, start .0)) (λ u h. start .1 .0 u (omega arith)))
+    list-enumerates _ _ _ _ (c .before .loop .inv .1) (omega (arith, start .0)) (λ u h. start .1 .0 u (omega arith))
 
 pub list-alive-spec : {M : Type 1} → statement M
 list-alive-spec =

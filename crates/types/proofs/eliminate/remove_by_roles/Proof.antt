@@ -5,12 +5,10 @@ use Prim.Native.Nat.{_-_, _≤_, _<_}
 use native.Mathlib.Omega.{arith}
 use mathlib.Core.Logic.{⊎-elim}
 use mathlib.Core.Path.{_≡_, ap, _∙_}
-use lib.ListN.{length}
 use lib.Pow.{pow-pos}
 use denote.Ref.{now}
 use Rattle.records.specs.Format.{roleLimit, roleCount}
 use Rattle.records.specs.declared.fields.Record.{Record}
-use Rattle.types.specs.Comparison.{typeLimit}
 use Rattle.types.specs.Code.Elimination.{Enumerates}
 use Rattle.types.proofs.Refinement.Rounds.{AfterRoles, roles-start, roles-skip, roles-turn, round-done, eliminating-on}
 use Rattle.types.proofs.Refinement.Rounds.{good, bits-few, reached-in, met-role, role-skipped, full-word}
@@ -20,7 +18,7 @@ use Rattle.types.proofs.eliminate.remove_by_roles.Tie as tie
 
 abbrev Inv-loop : tie.InvT-loop
 Inv-loop v bits masks held joins left remaining₀ alive₀ count full rest₀ role₀ remaining alive rest role =
-    (role ≤ roleCount v) × AfterRoles v alive₀ role alive × Enumerates remaining rest alive × (length remaining ≡ typeLimit)
+    (role ≤ roleCount v) × AfterRoles v alive₀ role alive × Enumerates remaining rest alive
 
 abbrev μ-loop : tie.MeasureT-loop
 μ-loop v bits masks held joins left remaining₀ alive₀ count full rest₀ role₀ remaining alive rest role = count - role
@@ -40,7 +38,7 @@ sub-full c =
     omega (arith, full-word (c .before .before .args .bits) (omega arith), pow-pos (c .before .before .args .bits))
 
 loop-holds : tie.Need-loop-holds Inv-loop μ-loop
-loop-holds c = let s = c .before .before .pre .0 in (omega arith, roles-start _ _, s .listed, s .list-size)
+loop-holds c = let s = c .before .before .pre .0 in (omega arith, roles-start _ _, s .listed)
 
 -- the role is one of the vocabulary's
 below : (c : tie.In-loop Inv-loop μ-loop) → c .before .loop .role < roleCount (now (c .before .before .before .before .args .v))
@@ -65,10 +63,7 @@ remove-unmet-requires c κs =
     let i = turn .before .loop .inv in
     let s = turn .before .before .before .before .pre .0 in (
       i .2,
-      (
-        λ t h. reached-in s _ t (below turn) (keeps-within _ _ _ (i .1) t h),
-        (i .1 .size ∙ s .size, i .3),
-      ),
+      (λ t h. reached-in s _ t (below turn) (keeps-within _ _ _ (i .1) t h), i .1 .size ∙ s .size),
     )
 
 add-role : tie.Need-add-role Inv-loop μ-loop
@@ -88,16 +83,14 @@ loop-again c =
     ⊎-elim
     (λ z. let after = z .3 .ensures in rw (z .4, z .5, z .6) (
       omega (arith, below turn),
-      roles-turn _ _ _ _ (i .1) _ _ (after .1 .1)
+      roles-turn _ _ _ _ (i .1) _ _ (after .1)
           (λ t m. met-role s (now (start .args .joins)) (start .pre .1) _ t (below turn) m),
-      after .1 .0,
       after .0,
     ))
     (λ z. rw (z .1, z .2, z .3) (
       omega (arith, below turn),
       roles-skip _ _ _ _ (i .1) (λ t. role-skipped s _ t (below turn) (omega (arith, z .0 .left, full))),
       i .2,
-      i .3,
     ))
     (c .if1 .came)
 
@@ -110,7 +103,7 @@ returns c =
     (arith, i .0, c .loop-test .left, ap (λ (r : Record). r .b) (loop .before .read-at .ensures))
     in
     let s = start .pre .0 in
-    (eliminating-on s _ _ e (i .1) _ _ (i .2) (i .3), round-done s _ _ e (i .1))
+    (eliminating-on s _ _ e (i .1) _ _ (i .2), round-done s _ _ e (i .1))
 
 pub remove-by-roles-spec : {M : Type 1} → statement M
 remove-by-roles-spec =

@@ -5,7 +5,6 @@ use Prim.Native.Nat.{_-_, _≤_, _<_}
 use native.Mathlib.Omega.{arith}
 use mathlib.Core.Path.{sym, _∙_}
 use lib.ListN.{getD}
-use denote.Ref.{now}
 use Rattle.records.proofs.Laws.Sets.{members-bound}
 use Rattle.types.specs.Comparison.{typeLimit}
 use Rattle.types.specs.Code.Elimination.{metAt}
@@ -21,13 +20,13 @@ abbrev μ-loop : tie.MeasureT-loop
 μ-loop held joins mask left remaining₀ alive₀ rest₀ j₀ remaining alive rest j = rest - j
 
 loop-holds : tie.Need-loop-holds Inv-loop μ-loop
-loop-holds c = remove-start _ _ _ _ (c .pre .0) (c .pre .1 .1 .1)
+loop-holds c = remove-start _ _ _ _ (c .pre .0)
 
 -- there are no more than the table has room for, so the place in the list, and the listed type, are in the tables
 few : (c : tie.In-loop Inv-loop μ-loop) → c .before .loop .rest ≤ typeLimit
 few c =
     let i = c .before .loop .inv in
-    omega (arith, i .listed .counted, members-bound (c .before .loop .alive), i .size, c .before .before .pre .1 .1 .0)
+    omega (arith, i .listed .counted, members-bound (c .before .loop .alive), i .size, c .before .before .pre .1 .1)
 
 place : (c : tie.In-loop Inv-loop μ-loop) → c .before .loop .j < typeLimit
 place c = omega (arith, few c, c .loop-test .taken)
@@ -99,7 +98,7 @@ loop-again-2 c =
 returns : tie.Need-returns Inv-loop μ-loop
 returns c =
     let i = c .before .loop .inv in
-    (i .list-size, (i .listed, remove-end _ _ _ _ _ _ i (c .loop-test .left)))
+    (i .listed, remove-end _ _ _ _ _ _ i (c .loop-test .left))
 
 pub remove-unmet-spec : {M : Type 1} → statement M
 remove-unmet-spec =
