@@ -1,4 +1,4 @@
-// Type elimination: rounds over a table of the types that are left.
+// Type elimination: rounds over the set of the types that are left, with a list of them whose length is their count.
 use crate::answers::Counts;
 use crate::restrict::other_roles;
 use crate::type_data::TypeData;
@@ -8,7 +8,7 @@ use records::fields::Record;
 use records::fields::read_at;
 ghost use mathlib.Core.Path.{_≡_};
 ghost use mathlib.Core.Bool.{true, false};
-ghost use Prim.Native.Nat.{ℕ, suc, _≤_, _<_};
+ghost use Prim.Native.Nat.{ℕ, _+_, _≤_, _<_};
 ghost use lib.ListN.{length, getD};
 ghost use lib.Bits.{bitOr};
 ghost use Rattle.records.specs.Check.{IsAccepted};
@@ -162,9 +162,9 @@ fn remove_by_roles(
     rest
 }
 
-// One round: removes together all types not served by the set as the round began, of which there are `left`; how many are
-// left at its end. If the set was the one after n rounds, it then is the one after n + 1, and so is its count. The table of
-// joins is lent: what it held is of no matter.
+// One round: of the `left` types of the set, removes together all that the set as the round began does not serve; how many
+// are left. From the set after n rounds it makes the one after n + 1, and answers how many types that has. The table of joins
+// is lent: what it held is of no matter.
 fn remove_unserved(
     v: &[u8],
     bits: usize,
@@ -182,8 +182,9 @@ fn remove_unserved(
     ensures { λ _. ⌜ length (now (joins .exit)) ≡ typeLimit ⌝ }
     ensures { λ r. ⌜ Eliminating (now (v .entry)) bits (now (masks .entry)) (now (held .entry)) (now (remaining .exit)) r
         (now (alive .exit)) ⌝ }
+    ensures { λ _. ⌜ SameSet (now (alive .exit)) (round (now (v .entry)) (now (alive .entry))) ⌝ }
     ensures { λ r. ⌜ ((n : ℕ) → SameSet (now (alive .entry)) (stage (now (v .entry)) n)
-        → AtStage (now (v .entry)) (suc n) (now (alive .exit)) r) ⌝ }
+        → AtStage (now (v .entry)) (n + 1) (now (alive .exit)) r) ⌝ }
 {
     enter_words(filling, remaining, left, 1 << bits, joins);
     zeta_transform(joins, bits);

@@ -1,12 +1,13 @@
--- Lists in rising order, one turn after the other: of the numbers that pass a test, and of the members of a set.
+-- The numbers that pass a test, listed in rising order, one turn after the other.
 --   entries-none, entries-length, entry-kept, entry-last   numbers that pass, one further
+--   entries-few                                            how many there can be
 --   entry-sound, entry-found                               the entries are those that pass
 --   entry-rises                                            they rise
 --   entry-number, entry-at                                 an entry's number is how many there are before it
 --   total-turn, fill-entry-kept, fill-entry-more           a table of what each entry is to hold
---   entries-members                                        how many there are, of a set
---   ListedBelow                                            the members below t, in a list that has room
---   list-start, list-more, list-same                       none; one more; none here
+--   entries-members                                        as many as a set has members
+--   ListedBelow, list-start, list-more, list-same          a list of the numbers that pass: none; one more; none here
+--   listed-few, listed-sound, listed-finds, listed-rises   what it has
 -- Assumes nothing.
 use Prim.Native.Nat.{ℕ, zero, suc, _+_, _≤_, _<_}
 use native.Mathlib.Omega.{arith}
@@ -16,12 +17,13 @@ use mathlib.Core.Path.{_≡_, refl, sym, ap, _∙_}
 use mathlib.Core.Bool.{Bool, true, false}
 use mathlib.Core.List.{List, [], _∷_}
 use mathlib.Core.Logic.{_⊎_, inl, inr}
-use lib.ListN.{length, getD, set, length-set, length-append, List·getD-append}
-use lib.Seq.{getD-set-same, getD-set-other, getD-append-seam}
+use lib.ListN.{length, getD, set, length-append, List·getD-append}
+use lib.Seq.{getD-append-seam}
 use Rattle.records.specs.Finite.{digit, has, members, appendIf, listBelow}
+use Rattle.records.proofs.Laws.Bits.{digit-small}
 use Rattle.records.proofs.Laws.Tests.{clash}
 use Rattle.records.proofs.Laws.Sets.{members-none}
-use Rattle.records.proofs.Laws.Filling.{Ends, Filled, fill-turn, fill-same}
+use Rattle.records.proofs.Laws.Filling.{Ends, Filled, fill-start, fill-turn, fill-same}
 
 -- How many numbers below n pass a test; the m-th of them.
 abbrev pub entries : (ℕ → Bool) → ℕ → ℕ
@@ -58,6 +60,10 @@ module _ (test : ℕ → Bool) where
   pub entries-length : (n : ℕ) → entries test (suc n) ≡ entries test n + digit (test n)
   unfolding listBelow
   entries-length n = append-length (test n) (listBelow test n) n
+
+  pub entries-few : (n : ℕ) → entries test n ≤ n
+  entries-few zero = omega (arith, entries-none)
+  entries-few (suc n) = omega (arith, entries-length n, digit-small (test n), entries-few n)
 
   pub entry-kept : (n m : ℕ) → m < entries test n → entry test (suc n) m ≡ entry test n m
   unfolding listBelow
@@ -157,7 +163,7 @@ entries-front test zero =
 entries-front test (suc n) =
     omega (arith, entries-length test (suc n), entries-front test n, entries-length (λ i. test (suc i)) n)
 
--- In a set that has none from n on, the entries below n are its members.
+-- In a set that has none from n on, there are as many entries below n as members.
 pub entries-members : (n : ℕ) (S : List Bool) → Ends S n → entries (has S) n ≡ members S
 unfolding members
 entries-members zero S ends = entries-none (has S) ∙ sym (members-none S (λ t. ends t (omega arith)))
@@ -166,82 +172,45 @@ entries-members (suc n) (b ∷ S) ends =
     entries-front (has (b ∷ S)) n
     ∙ ap (λ (x : ℕ). digit b + x) (entries-members n S (λ t h. ends (suc t) (omega arith)))
 
--- The members of a set below t, listed.
-pub record ListedBelow (room : ℕ) (S : List Bool) (list : List ℕ) (left t : ℕ) : Type 0 where
-  pub size : length list ≡ room
-  pub few : left ≤ t
-  pub inside : (j : ℕ) → j < left → getD list j 0 < t
-  pub members : (j : ℕ) → j < left → has S (getD list j 0) ≡ true
-  pub finds : (u : ℕ) → u < t → has S u ≡ true → (j : ℕ) × (j < left) × (getD list j 0 ≡ u)
-  pub rises : (i j : ℕ) → i < j → j < left → getD list i 0 < getD list j 0
-  pub counted : left ≡ entries (has S) t
+-- The numbers below t that pass a test, listed in a table.
+pub record ListedBelow (test : ℕ → Bool) (room : ℕ) (list : List ℕ) (left t : ℕ) : Type 0 where
+  pub total : left ≡ entries test t
+  pub filled : Filled 0 room list (entry test t) left
 
-module _ (room : ℕ) (S : List Bool) (list : List ℕ) where
-  pub list-start : length list ≡ room → ListedBelow room S list 0 0
-  list-start e =
-      record {
-        size = e;
-        few = omega arith;
-        inside = λ j h. absurd (omega arith);
-        members = λ j h. absurd (omega arith);
-        finds = λ u h m. absurd (omega arith);
-        rises = λ i j h k. absurd (omega arith);
-        counted = sym (entries-none (has S));
-      }
+module _ (test : ℕ → Bool) (room : ℕ) (list : List ℕ) where
+  pub list-start : length list ≡ room → ListedBelow test room list 0 0
+  list-start e = record { total = sym (entries-none test); filled = fill-start 0 room list (entry test 0) e }
 
-  module _ (left t : ℕ) (l : ListedBelow room S list left t) where
-    pub list-more : t < room → has S t ≡ true → ListedBelow room S (set list left t) (left + 1) (t + 1)
+  module _ (left t : ℕ) (l : ListedBelow test room list left t) where
+    pub list-more : left < room → test t ≡ true → ListedBelow test room (set list left t) (left + 1) (t + 1)
     list-more h e =
         record {
-          size = length-set list left t ∙ l .size;
-          few = omega (arith, l .few);
-          inside = λ j k. inside-at j k (ℕ-discrete j left);
-          members = λ j k. members-at j k (ℕ-discrete j left);
-          finds = λ u k m. finds-at u k m (ℕ-discrete u t);
-          rises = λ i j k m. rises-at i j k m (ℕ-discrete j left);
-          counted = total-turn (has S) left t (l .counted) true e;
+          total = total-turn test left t (l .total) true e;
+          filled = fill-entry-more test left t (l .total) 0 room (λ i. i) list (l .filled) t h e refl;
         }
-      where
-        last : getD (set list left t) left 0 ≡ t
-        last = getD-set-same list left t 0 (omega (arith, l .size, l .few))
 
-        old : (j : ℕ) → (j ≡ left → ⊥) → getD (set list left t) j 0 ≡ getD list j 0
-        old j q = getD-set-other list left j t 0 q
-
-        inside-at : (j : ℕ) → j < left + 1 → Dec (j ≡ left) → getD (set list left t) j 0 < t + 1
-        inside-at j k (yes q) = rw (q, last) (omega arith)
-        inside-at j k (no q) = rw (old j q) (omega (arith, l .inside j (omega arith)))
-
-        members-at : (j : ℕ) → j < left + 1 → Dec (j ≡ left) → has S (getD (set list left t) j 0) ≡ true
-        members-at j k (yes q) = rw (q, last) e
-        members-at j k (no q) = rw (old j q) (l .members j (omega arith))
-
-        rises-at : (i j : ℕ) → i < j → j < left + 1 → Dec (j ≡ left) → getD (set list left t) i 0 < getD (set list left t) j 0
-        rises-at i j k m (yes q) = rw (q, last, old i (λ e. omega arith)) (l .inside i (omega arith))
-        rises-at i j k m (no q) = rw (old i (λ e. omega arith), old j q) (l .rises i j k (omega arith))
-
-        Place : ℕ → Type 0
-        Place u = (j : ℕ) × (j < left + 1) × (getD (set list left t) j 0 ≡ u)
-
-        kept : (u : ℕ) → (j : ℕ) × (j < left) × (getD list j 0 ≡ u) → Place u
-        kept u f = (f .0, omega (arith, f .1), old (f .0) (λ e. omega (arith, f .1)) ∙ f .2)
-
-        finds-at : (u : ℕ) → u < t + 1 → has S u ≡ true → Dec (u ≡ t) → Place u
-        finds-at u k m (yes q) = (left, omega arith, last ∙ sym q)
-        finds-at u k m (no q) = kept u (l .finds u (omega arith) m)
-
-    pub list-same : has S t ≡ false → ListedBelow room S list left (t + 1)
+    pub list-same : test t ≡ false → ListedBelow test room list left (t + 1)
     list-same e =
         record {
-          size = l .size;
-          few = omega (arith, l .few);
-          inside = λ j k. omega (arith, l .inside j k);
-          members = l .members;
-          finds = λ u k m. at u k m (ℕ-discrete u t);
-          rises = l .rises;
-          counted = omega (arith, total-turn (has S) left t (l .counted) false e);
+          total = omega (arith, total-turn test left t (l .total) false e);
+          filled = fill-entry-kept test left t (l .total) 0 room (λ i. i) list (l .filled);
         }
-      where
-        at : (u : ℕ) → u < t + 1 → has S u ≡ true → Dec (u ≡ t) → (j : ℕ) × (j < left) × (getD list j 0 ≡ u)
-        at u k m (yes q) = absurd (clash (cc))
-        at u k m (no q) = l .finds u (omega arith) m
+
+    pub listed-few : left ≤ t
+    listed-few = omega (arith, l .total, entries-few test t)
+
+    listed-in : (j : ℕ) → j < left → j < entries test t
+    listed-in j h = omega (arith, l .total)
+
+    pub listed-sound : (j : ℕ) → j < left → Entered test t (getD list j 0)
+    listed-sound j h = rw (l .filled .right j h) (entry-sound test t j (listed-in j h))
+
+    pub listed-finds : (u : ℕ) → u < t → test u ≡ true → (j : ℕ) × (j < left) × (getD list j 0 ≡ u)
+    listed-finds u h e =
+        let f = entry-found test t u h e in
+        let k : f .0 < left = omega (arith, l .total, f .1) in
+        (f .0, k, l .filled .right (f .0) k ∙ f .2)
+
+    pub listed-rises : (i j : ℕ) → i < j → j < left → getD list i 0 < getD list j 0
+    listed-rises i j h k =
+        rw (l .filled .right i (omega arith), l .filled .right j k) (entry-rises test t i j h (listed-in j k))

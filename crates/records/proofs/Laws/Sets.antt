@@ -4,7 +4,7 @@
 --   has-inside                           a member is in the table
 --   members-bound, members-within        how many are in a set, and in one within it
 --   members-less                         a set within another that misses one
---   members-zero, members-none           a set of none
+--   members-zero, members-none           no members: nothing is in it, and back
 --   members-same                         tables of the same set
 --   members-out                          one member taken out
 -- Assumes nothing.
@@ -99,6 +99,7 @@ members-zero (true ∷ S) e t = absurd (omega arith)
 members-zero (false ∷ S) e zero = refl
 members-zero (false ∷ S) e (suc t) = members-zero S (omega arith) t
 
+-- and back
 pub members-none : (S : List Bool) → ((t : ℕ) → has S t ≡ false) → members S ≡ 0
 unfolding members
 members-none [] none = refl

@@ -1,5 +1,6 @@
 -- One turn of the loops of type elimination, over plain values.
 --   list-enumerates                             a list of members in rising order enumerates a set
+--   enumerates-few, enumerates-inside           there are few, and all in the table
 --   Entered, enter-start, enter-turn            the words of the fillers at listed types, each at its own place
 --   keeps-all, keeps-both                       what tests keep of a set: one that all pass, two in a row
 --   keeps-within, keeps-cong                    it is within the set; a test that says the same
@@ -23,30 +24,40 @@ use Rattle.records.proofs.Laws.Tests.{clash, both-left}
 use Rattle.types.specs.Comparison.{typeLimit}
 use Rattle.types.specs.Code.Elimination.{Enumerates, Enters, Keeps}
 use Rattle.records.proofs.Laws.Filling.{Ends}
-use Rattle.records.proofs.Laws.Listing.{entries-members, ListedBelow}
-use Rattle.records.proofs.Laws.Sets.{Within, has-inside, members-out}
+use Rattle.records.proofs.Laws.Listing.{entries-members, ListedBelow, listed-sound, listed-finds, listed-rises}
+use Rattle.records.proofs.Laws.Sets.{Within, has-inside, members-bound, members-out}
 
 -- The members of a set, listed in rising order, enumerate it.
-pub list-enumerates : (S : List Bool) (list : List ℕ) (left t : ℕ) → ListedBelow typeLimit S list left t → t ≤ typeLimit
-    → Ends S t → Enumerates list left S
-list-enumerates S list left t l h ends =
+pub list-enumerates : (S : List Bool) (list : List ℕ) (left t : ℕ) → ListedBelow (has S) typeLimit list left t → Ends S t
+    → Enumerates list left S
+list-enumerates S list left t l ends =
     record {
-      room = l .size;
-      inside = λ j k. omega (arith, l .inside j k);
-      sound = l .members;
+      size = l .filled .size;
+      sound = λ j h. listed-sound (has S) typeLimit list left t l j h .passes;
       finds = λ u m. at u m (decLt u t);
       apart = λ i j a b e. same i j a b e (decLt i j) (decLt j i);
-      counted = l .counted ∙ entries-members t S ends;
+      counted = l .total ∙ entries-members t S ends;
     }
   where
     at : (u : ℕ) → has S u ≡ true → Dec (u < t) → (j : ℕ) × (j < left) × (getD list j 0 ≡ u)
-    at u m (yes k) = l .finds u k m
+    at u m (yes k) = listed-finds (has S) typeLimit list left t l u k m
     at u m (no k) = let none = ends u (omega arith) in absurd (clash (cc))
 
+    rises : (i j : ℕ) → i < j → j < left → getD list i 0 < getD list j 0
+    rises = listed-rises (has S) typeLimit list left t l
+
     same : (i j : ℕ) → i < left → j < left → getD list i 0 ≡ getD list j 0 → Dec (i < j) → Dec (j < i) → i ≡ j
-    same i j a b e (yes k) q = absurd (omega (arith, l .rises i j k b))
-    same i j a b e (no k) (yes m) = absurd (omega (arith, l .rises j i m a))
+    same i j a b e (yes k) q = absurd (omega (arith, rises i j k b))
+    same i j a b e (no k) (yes m) = absurd (omega (arith, rises j i m a))
     same i j a b e (no k) (no m) = omega arith
+
+-- A set in a table of all types has no more members than that, and its list has numbers of the table.
+module _ (list : List ℕ) (left : ℕ) (S : List Bool) (l : Enumerates list left S) (e : length S ≡ typeLimit) where
+  pub enumerates-few : left ≤ typeLimit
+  enumerates-few = omega (arith, l .counted, members-bound S)
+
+  pub enumerates-inside : (j : ℕ) → j < left → getD list j 0 < typeLimit
+  enumerates-inside j h = omega (arith, has-inside S (getD list j 0) (l .sound j h))
 
 module _ (filling list : List ℕ) (room words : ℕ) where
   -- A table of the words of the fillers at the first j listed types.
@@ -106,7 +117,8 @@ module _ (f : ℕ → Bool) (S : List Bool) where
           three false y z = refl
 
 -- One member taken out of a set and of the list that enumerates it, where the last takes its place.
-module _ (list : List ℕ) (R : List Bool) (left j : ℕ) (l : Enumerates list left R) (h : j < left) (few : left ≤ typeLimit) where
+module _ (list : List ℕ) (R : List Bool) (left j : ℕ) (l : Enumerates list left R) (h : j < left)
+    (room : left ≤ length list) where
   abbrev out : ℕ
   out = getD list j 0
 
@@ -114,7 +126,7 @@ module _ (list : List ℕ) (R : List Bool) (left j : ℕ) (l : Enumerates list l
   shorter = set list j (getD list (left - 1) 0)
 
   filled : getD shorter j 0 ≡ getD list (left - 1) 0
-  filled = getD-set-same list j (getD list (left - 1) 0) 0 (omega (arith, l .room))
+  filled = getD-set-same list j (getD list (left - 1) 0) 0 (omega arith)
 
   -- where an entry of the shorter list stood before: not at j
   record Stood (i p : ℕ) : Type 0 where
@@ -153,8 +165,7 @@ module _ (list : List ℕ) (R : List Bool) (left j : ℕ) (l : Enumerates list l
   pub taken-out : Enumerates shorter (left - 1) (set R out false)
   taken-out =
       record {
-        room = length-set list j (getD list (left - 1) 0) ∙ l .room;
-        inside = λ i k. let s = stood i k in rw (s .1 .entry) (l .inside (s .0) (s .1 .below));
+        size = length-set list j (getD list (left - 1) 0) ∙ l .size;
         sound = λ i k. let s = stood i k in
             rw (s .1 .entry) (getD-set-other R out (getD list (s .0) 0) false false
             (unlike (s .0) (s .1 .below) (s .1 .other)) ∙ l .sound (s .0) (s .1 .below));
@@ -229,11 +240,11 @@ module _ (met : ℕ → Bool) (S : List Bool) where
         at i h (yes q) = rw q e
         at i h (no q) = s .passed i (omega arith)
 
-    pub remove-out : j < left → left ≤ typeLimit → met u ≡ false
+    pub remove-out : j < left → left ≤ length list → met u ≡ false
         → RemovedBelow (set list j (getD list (left - 1) 0)) (set R u false) (left - 1) j
-    remove-out h few e =
+    remove-out h room e =
         record {
-          listed = taken-out list R left j (s .listed) h few;
+          listed = taken-out list R left j (s .listed) h room;
           size = length-set R u false ∙ s .size;
           within = λ t m. s .within t (still t m (ℕ-discrete t u));
           gone = λ t m n. gone-at t m n (ℕ-discrete t u);

@@ -3,11 +3,11 @@
 --   AfterRoles, roles-start, roles-skip, roles-turn   what is left after the roles below r
 --   round-same                                        a round goes by the set, not by its table
 --   stage-ends, survivors-end, round-rests            a set that has nothing past the types; a round that removes nothing
---   bits-few, left-few                                in an elimination: few bits, and few types
+--   good, bits-few                                    in an elimination: an accepted vocabulary, few bits
 --   reached-in, met-role, role-skipped                the words lie in the table of joins; one role's test
 --   fillerWord-in, joins-done                         the table of joins
 --   round-done, eliminating-on                        after all roles it is the round; the state after it
---   round-stage, stage-on                             a round of a stage is the next one, and the count goes along
+--   round-stage                                       a round of a stage is the next one, and the count goes along
 --   count-rests, count-falls                          a round removes something exactly when the count falls
 --   rests-survivors, removing-on, rounds-left         rounds one after the other
 -- Assumes nothing.
@@ -35,7 +35,7 @@ use Rattle.types.specs.Code.Words.{width, otherRoleWord, fillerWord, rea
 use Rattle.types.specs.Code.Words.{FillerWords, SameSet}
 use Rattle.types.specs.Code.Elimination.{otherRole, Enters, ZetaTo, Joins, metAt, Keeps, Enumerates, Eliminating}
 use Rattle.types.specs.Code.Elimination.{AtStage}
-use Rattle.records.proofs.Laws.Sets.{table-at, table-past, table-cong, members-bound, members-same}
+use Rattle.records.proofs.Laws.Sets.{table-at, table-past, table-cong, members-same}
 use Rattle.records.proofs.Laws.Bits.{number-cong}
 use Rattle.types.proofs.Theorems.Survivors.{Removing, stage-length, round-less, stage-falls, rounds-is}
 use Rattle.types.proofs.Laws.Zeta.{zeta-cong}
@@ -124,9 +124,6 @@ module _ {v : List ℕ} {bits : ℕ} {masks held remaining : List ℕ} {left : �
 
   pub bits-few : bits ≤ atomLimit
   bits-few = omega (arith, s .wide, s .few, width-bound v)
-
-  pub left-few : left ≤ typeLimit
-  left-few = omega (arith, s .listed .counted, members-bound alive, s .size)
 
   member-below : (t : ℕ) → has alive t ≡ true → t < types v
   member-below t e = at (decLt t (types v))
@@ -227,41 +224,44 @@ module _ {v : List ℕ} {bits : ℕ} {masks held remaining : List ℕ} {left : �
 
 -- A round of a stage is the next one, and the count goes along.
 pub round-stage : (v : List ℕ) (S R : List Bool) (left : ℕ) → SameSet R (round v S) → left ≡ members R
-    → (n : ℕ) → SameSet S (stage v n) → AtStage v (suc n) R left
+    → (n : ℕ) → SameSet S (stage v n) → AtStage v (n + 1) R left
 unfolding stage
 round-stage v S R left leaves counted n same =
-    record { same = next; counted = counted ∙ members-same R (stage v (suc n)) next }
+    rw (add-one n) record { same = next; counted = counted ∙ members-same R (stage v (suc n)) next }
   where
     next : SameSet R (stage v (suc n))
     next t = leaves t ∙ ap (λ (S : List Bool). has S t) (round-same v S (stage v n) same)
 
 -- The count of one stage and the next: it falls exactly where the round removes something.
-module _ {v : List ℕ} {n : ℕ} {S R : List Bool} {left rest : ℕ} (w : AtStage v n S left) (a : AtStage v (suc n) R rest) where
-  pub count-rests : rest ≡ left → removes v (stage v n) ≡ false
+module _ {v : List ℕ} {n : ℕ} {S R : List Bool} {left rest : ℕ} (w : AtStage v n S left) (a : AtStage v (n + 1) R rest) where
+  next : stage v (n + 1) ≡ round v (stage v n)
   unfolding stage
+  next = rw (add-one n)
+
+  pub count-rests : rest ≡ left → removes v (stage v n) ≡ false
   count-rests e =
       unless-true (removes v (stage v n))
-      (λ q. omega (arith, e, w .counted, a .counted, round-less v (stage v n) (stage-length v n) q))
+      (λ q. omega (arith, w .counted, a .counted, ap members next, round-less v (stage v n) (stage-length v n) q))
 
   pub count-falls : (rest ≡ left → ⊥) → removes v (stage v n) ≡ true
-  unfolding stage
   count-falls d =
       unless-false (removes v (stage v n))
-      (λ q. d (a .counted
+      (λ q. d (a .counted ∙ ap members next
       ∙ members-same (round v (stage v n)) (stage v n) (round-rests v (stage v n) (stage-ends v n) q) ∙ sym (w .counted)))
 
   module _ (before : Removing v n) where
     -- a round that removes nothing leaves the survivors
     pub rests-survivors : rest ≡ left → SameSet R (survivors v) × (countsOf rest n ≡ counts v)
-    unfolding stage survivors
+    unfolding survivors
     rests-survivors e =
         let none = count-rests e in
         let end = rounds-is v n none before in (
-          λ t. a .same t ∙ round-rests v (stage v n) (stage-ends v n) none t ∙ ap (λ (n : ℕ). has (stage v n) t) end,
+          λ t. a .same t ∙ ap (λ (S : List Bool). has S t) next ∙ round-rests v (stage v n) (stage-ends v n) none t
+              ∙ ap (λ (n : ℕ). has (stage v n) t) end,
           ap₂ countsOf (e ∙ w .counted ∙ ap (λ (n : ℕ). members (stage v n)) end) end,
         )
 
-    -- one that removes something was one of few
+    -- after one that removes something all rounds so far did
     pub removing-on : (rest ≡ left → ⊥) → Removing v (n + 1)
     removing-on d m h = at (decLt m n)
       where
@@ -269,9 +269,6 @@ module _ {v : List ℕ} {n : ℕ} {S R : List Bool} {left rest : ℕ} (w : AtSta
         at (yes l) = before m l
         at (no l) = let last : m ≡ n = omega arith in ap (λ (n : ℕ). removes v (stage v n)) last ∙ count-falls d
 
+    -- so it was one of few
     pub rounds-left : (rest ≡ left → ⊥) → n + 1 ≤ types v
     rounds-left d = omega (arith, stage-falls v (n + 1) (removing-on d))
-
--- The stage after one round more.
-pub stage-on : {v : List ℕ} {n : ℕ} {S : List Bool} {left : ℕ} → AtStage v (suc n) S left → AtStage v (n + 1) S left
-stage-on {n = n} a = rw (add-one n) a

@@ -5,11 +5,10 @@
 -- Assumes nothing.
 use Prim.Native.Nat.{ℕ, _≤_, _<_}
 use native.Mathlib.Omega.{arith}
-use mathlib.Core.Path.{_≡_, refl, sym, ap, ap₂, _∙_}
+use mathlib.Core.Path.{_≡_, sym, ap, ap₂, _∙_}
 use mathlib.Core.Bool.{Bool, true, false, Bool·beq, not, _||_}
 use mathlib.Core.List.{List}
 use lib.ListN.{getD}
-use lib.Dec.{eqb}
 use mathlib.Core.Logic.{_⊎_, inl, inr}
 use Rattle.records.specs.Format.{recordAt, count, recordLimit}
 use Rattle.records.specs.Chain.{chained}
@@ -28,7 +27,7 @@ use Rattle.types.specs.Code.Settling.{Bounded, Stating, Prepared, truthW
 use Rattle.records.proofs.Laws.Tests.{implies-true, implies-rest, same-truth}
 use Rattle.records.proofs.Laws.Below.{all-intro, all-at}
 use Rattle.records.proofs.Laws.Bits.{number-cong}
-use Rattle.records.proofs.Laws.Listing.{ListedBelow}
+use Rattle.records.proofs.Laws.Listing.{Entered, ListedBelow, listed-few, listed-sound, listed-finds}
 use Rattle.types.proofs.Theorems.Truth.{some-earlier, all-earlier}
 use Rattle.types.proofs.Refinement.Restrictions.{restricts, restriction-sound, width-bound}
 use Rattle.types.proofs.Refinement.Signed.{says-some, says-all}
@@ -127,11 +126,17 @@ module _ (v : List ℕ) (plan : Plan) (code statements : List ℕ) (p : Prepared
 
 -- The statements, from the marks along the chain.
 pub stating : (v : List ℕ) → AcceptedFacts v → (marks : List Bool) → ((i : ℕ) → getD marks i false ≡ chained v i)
-    → (list : List ℕ) (found : ℕ) → ListedBelow recordLimit marks list found (count v) → Stating v list found
+    → (list : List ℕ) (found : ℕ) → ListedBelow (λ i. getD marks i false) recordLimit list found (count v) → Stating v list found
 stating v good marks marked list found l =
     record {
-      few = l .few;
-      within = l .inside;
-      states = λ j h. sym (marked (getD list j 0)) ∙ l .members j h;
-      finds = λ i c. l .finds i (chain-statement v good i c .within) (marked i ∙ c);
+      few = listed-few mark recordLimit list found (count v) l;
+      within = λ j h. sound j h .before;
+      states = λ j h. sym (marked (getD list j 0)) ∙ sound j h .passes;
+      finds = λ i c. listed-finds mark recordLimit list found (count v) l i (chain-statement v good i c .within) (marked i ∙ c);
     }
+  where
+    mark : ℕ → Bool
+    mark i = getD marks i false
+
+    sound : (j : ℕ) → j < found → Entered mark (count v) (getD list j 0)
+    sound = listed-sound mark recordLimit list found (count v) l

@@ -23,10 +23,10 @@ otherRole roles r m = not (eqb (getD roles m 0) r)
 abbrev pub Masks : List ℕ → List ℕ → Type 0
 Masks v masks = (r : ℕ) → r < roleCount v → getD masks r 0 ≡ otherRoleWord v r
 
--- A list, in a table that has room for all types, of each member of a set once and nothing else; so its length is their number.
+-- "Lower the count as each type is removed": a list, in a table with room for all types, of each member of a set once and
+-- nothing else, whose length is the count.
 pub record Enumerates (list : List ℕ) (left : ℕ) (S : List Bool) : Type 0 where
-  pub room : length list ≡ typeLimit
-  pub inside : (j : ℕ) → j < left → getD list j 0 < typeLimit
+  pub size : length list ≡ typeLimit
   pub sound : (j : ℕ) → j < left → has S (getD list j 0) ≡ true
   pub finds : (t : ℕ) → has S t ≡ true → (j : ℕ) × (j < left) × (getD list j 0 ≡ t)
   pub apart : (i j : ℕ) → i < left → j < left → getD list i 0 ≡ getD list j 0 → i ≡ j

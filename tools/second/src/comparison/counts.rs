@@ -7,10 +7,11 @@ use crate::comparison::types::{chained, Restriction, Set, Types};
 type Count = (&'static str, fn(&Types) -> usize);
 
 /// The wrong counts.
-pub const COUNTS: [Count; 5] = [
+pub const COUNTS: [Count; 6] = [
+    ("count begun with all types", from_all_types),
     ("count lowered for each role that fails", each_role),
     ("count not lowered for the last role", last_role_left_out),
-    ("count taken before the last round", before_the_last_round),
+    ("count one round behind", one_round_behind),
     ("count lowered in the first round alone", first_round_alone),
     ("count never lowered", never_lowered),
 ];
@@ -38,8 +39,8 @@ fn failing_roles(types: &Types, set: &Set, t: usize) -> Vec<u16> {
     roles
 }
 
-/// The number of types with which the rounds begin, lowered in each round for each type by what the roles for which it fails
-/// say; never below 0. Lowered by 1 where there is such a role, it is the right count.
+/// The number of types with which the rounds begin, less, for each type of each round's set, a number given by
+/// the roles for which it fails; never below 0. With 1 where there is such a role it is the right count.
 pub fn lowered(types: &Types, by: impl Fn(&[u16]) -> usize) -> usize {
     let stages = stages(types);
     let fall = |set: &Set| set.iter().map(|t| by(&failing_roles(types, set, *t))).sum::<usize>();
@@ -52,6 +53,12 @@ fn members(types: &Types, n: usize) -> usize {
     let stages = stages(types);
     let stage = stages.get(n).or(stages.last());
     stage.map_or(0, Vec::len)
+}
+
+/// Types at which a statement does not hold are counted too, and never counted off.
+fn from_all_types(types: &Types) -> usize {
+    let removed = members(types, 0) - types.survivors().0.len();
+    types.count() - removed
 }
 
 /// A type that fails for two roles is counted off twice.
@@ -68,7 +75,7 @@ fn last_role_left_out(types: &Types) -> usize {
 }
 
 /// The count is the one with which the last round that removed something began.
-fn before_the_last_round(types: &Types) -> usize {
+fn one_round_behind(types: &Types) -> usize {
     members(types, stages(types).len().saturating_sub(2))
 }
 

@@ -4,7 +4,7 @@
 
 use crate::comparison::call::{compare, Compared, WRITTEN};
 use crate::comparison::checks::fault;
-use crate::comparison::counts::lowered;
+use crate::comparison::counts::{lowered, COUNTS};
 use crate::comparison::errors::ERRORS;
 use crate::comparison::plan::{Plan, Planned};
 use crate::comparison::print::run;
@@ -95,30 +95,47 @@ fn faults_are_found() {
     assert!(fault(&first, &run(&first.case)).is_some_and(|text| text.contains("meant equal")));
 }
 
-/// Each wrong comparison answers otherwise in some case of the samples and the families.
-#[test]
-fn errors_are_told() {
+/// The cases of the samples and the families that are answered, of up to 6 atoms: types, terms and answer.
+fn answered() -> Vec<(Types, u32, u32, Compared)> {
     let cases = Plan::made(1, |plan| {
         plan.samples();
         plan.families();
     });
-    let answered = |planned: &Planned| {
+    let answer = |planned: &Planned| {
         let Case { vocabulary, a, b, .. } = &planned.case;
         let right = run(&planned.case).answer.ok()?;
         let types = Types::of(records(vocabulary));
         (types.count() <= 64).then_some((types, *a, *b, right))
     };
-    let answered: Vec<_> = cases.iter().filter_map(answered).collect();
+    cases.iter().filter_map(answer).collect()
+}
+
+/// Each wrong comparison answers otherwise in some case.
+#[test]
+fn errors_are_told() {
+    let cases = answered();
     let told = |wrong: fn(&Types, u32, u32) -> Compared| {
-        let mut all = answered.iter();
+        let mut all = cases.iter();
         all.any(|(types, a, b, right)| wrong(types, *a, *b) != *right)
     };
     let untold = ERRORS.iter().filter(|(_, wrong)| !told(*wrong));
     assert_eq!(untold.map(|(name, _)| *name).collect::<Vec<_>>(), Vec::<&str>::new());
-    for (types, _, _, right) in &answered {
+}
+
+/// Lowered by 1 for each type that fails, the count is right; each wrong count is another in some case.
+#[test]
+fn counts_are_told() {
+    let cases = answered();
+    for (types, _, _, right) in &cases {
         let count = lowered(types, |roles| usize::from(!roles.is_empty()));
         assert_eq!(count, right.survivors.len());
     }
+    let told = |wrong: fn(&Types) -> usize| {
+        let mut all = cases.iter();
+        all.any(|(types, _, _, right)| wrong(types) != right.survivors.len())
+    };
+    let untold = COUNTS.iter().filter(|(_, wrong)| !told(*wrong));
+    assert_eq!(untold.map(|(name, _)| *name).collect::<Vec<_>>(), Vec::<&str>::new());
 }
 
 /// The stored file, read and written again, is the same; as many lines are expected as it has cases.

@@ -13,7 +13,7 @@ use Rattle.types.specs.Types.{types}
 use Rattle.types.specs.Comparison.{typeLimit}
 use Rattle.records.proofs.Laws.Sets.{members-same}
 use Rattle.types.specs.Code.Elimination.{Eliminating, AtStage}
-use Rattle.types.proofs.Refinement.Rounds.{stage-ends, stage-on, rests-survivors, removing-on, rounds-left}
+use Rattle.types.proofs.Refinement.Rounds.{stage-ends, rests-survivors, removing-on, rounds-left}
 use Rattle.types.proofs.Theorems.Survivors.{types-bound, Removing}
 use Rattle.types.proofs.eliminate.eliminate.Statement.{statement}
 use Rattle.types.proofs.eliminate.eliminate.Tie as tie
@@ -80,32 +80,32 @@ returns : tie.Need-returns Inv-loop μ-loop
 returns c =
     let round = c .before in
     let i = loop-at round .loop .inv in
-    rests-survivors (i .stage) (round .remove-unserved .ensures .1 .1 _ (i .stage .same)) (i .before) (c .if1 .taken)
+    rests-survivors (i .stage) (round .remove-unserved .ensures .1 .1 .1 _ (i .stage .same)) (i .before) (c .if1 .taken)
 
 -- a round that removed something was one of few
-left : (c : tie.Else1 Inv-loop μ-loop)
+rounds-few : (c : tie.Else1 Inv-loop μ-loop)
     → loop-at (c .before) .loop .done + 1 ≤ types (now (start-at (loop-at (c .before)) .args .v))
-left c =
+rounds-few c =
     let round = c .before in
     let i = loop-at round .loop .inv in
-    rounds-left (i .stage) (round .remove-unserved .ensures .1 .1 _ (i .stage .same)) (i .before) (c .if1 .left)
+    rounds-left (i .stage) (round .remove-unserved .ensures .1 .1 .1 _ (i .stage .same)) (i .before) (c .if1 .left)
 
 add-done : tie.Need-add-done Inv-loop μ-loop
 add-done c =
     let loop = loop-at (c .before) in
-    omega (arith, left c, types-bound (now (start-at loop .args .v)) (loop .loop .inv .state .few))
+    omega (arith, rounds-few c, types-bound (now (start-at loop .args .v)) (loop .loop .inv .state .few))
 
 loop-less : tie.Need-loop-less Inv-loop μ-loop
-loop-less c = omega (arith, left c)
+loop-less c = omega (arith, rounds-few c)
 
 loop-again : tie.Need-loop-again Inv-loop μ-loop
 loop-again c =
     let round = c .before in
     let i = loop-at round .loop .inv in
     let after = round .remove-unserved .ensures in
-    let reached = after .1 .1 _ (i .stage .same) in record {
+    let reached = after .1 .1 .1 _ (i .stage .same) in record {
       state = after .1 .0;
-      stage = stage-on reached;
+      stage = reached;
       before = removing-on (i .stage) reached (i .before) (c .if1 .left);
       room = after .0;
     }

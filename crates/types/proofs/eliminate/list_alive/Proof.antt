@@ -4,14 +4,15 @@
 use Prim.Native.Nat.{_-_, _≤_, _<_}
 use native.Mathlib.Omega.{arith}
 use mathlib.Core.Logic.{⊎-elim}
+use Rattle.records.specs.Finite.{has}
 use Rattle.types.specs.Comparison.{typeLimit}
-use Rattle.records.proofs.Laws.Listing.{ListedBelow, list-start, list-more, list-same}
+use Rattle.records.proofs.Laws.Listing.{ListedBelow, list-start, list-more, list-same, listed-few}
 use Rattle.types.proofs.Invariants.Elimination.{list-enumerates}
 use Rattle.types.proofs.eliminate.list_alive.Statement.{statement}
 use Rattle.types.proofs.eliminate.list_alive.Tie as tie
 
 abbrev Inv-loop : tie.InvT-loop
-Inv-loop alive size remaining₀ left₀ t₀ remaining left t = (t ≤ size) × ListedBelow typeLimit alive remaining left t
+Inv-loop alive size remaining₀ left₀ t₀ remaining left t = (t ≤ size) × ListedBelow (has alive) typeLimit remaining left t
 
 abbrev μ-loop : tie.MeasureT-loop
 μ-loop alive size remaining₀ left₀ t₀ remaining left t = size - t
@@ -24,7 +25,7 @@ inside : (c : tie.In-loop Inv-loop μ-loop) → c .before .loop .t < typeLimit
 inside c = omega (arith, c .before .before .pre .0)
 
 place : (c : tie.In-loop Inv-loop μ-loop) → c .before .loop .left < typeLimit
-place c = omega (arith, inside c, c .before .loop .inv .1 .few)
+place c = omega (arith, inside c, listed-few _ _ _ _ _ (c .before .loop .inv .1))
 
 element-copy-out-if1 : tie.Need-element-copy-out-if1 Inv-loop μ-loop
 element-copy-out-if1 c = inside c
@@ -49,7 +50,7 @@ loop-again c =
     let turn = c .before .before in
     let l = turn .before .loop .inv .1 in (
       omega arith,
-      ⊎-elim (λ w. rw (w .1, w .2) (list-more _ _ _ _ _ l (inside turn) (w .0 .taken)))
+      ⊎-elim (λ w. rw (w .1, w .2) (list-more _ _ _ _ _ l (place turn) (w .0 .taken)))
           (λ w. rw (w .1, w .2) (list-same _ _ _ _ _ l (w .0 .left)))
           (c .if1 .came),
     )
@@ -57,7 +58,7 @@ loop-again c =
 returns : tie.Need-returns Inv-loop μ-loop
 returns c =
     let start = c .before .before .pre in
-    list-enumerates _ _ _ _ (c .before .loop .inv .1) (omega (arith, start .0)) (λ u h. start .1 .0 u (omega arith))
+    list-enumerates _ _ _ _ (c .before .loop .inv .1) (λ u h. start .1 .0 u (omega arith))
 
 pub list-alive-spec : {M : Type 1} → statement M
 list-alive-spec =

@@ -5,10 +5,10 @@ use Prim.Native.Nat.{_-_, _≤_, _<_}
 use native.Mathlib.Omega.{arith}
 use mathlib.Core.Path.{sym, _∙_}
 use lib.ListN.{getD}
-use Rattle.records.proofs.Laws.Sets.{members-bound}
 use Rattle.types.specs.Comparison.{typeLimit}
 use Rattle.types.specs.Code.Elimination.{metAt}
-use Rattle.types.proofs.Invariants.Elimination.{RemovedBelow, remove-start, remove-kept, remove-out, remove-end}
+use Rattle.types.proofs.Invariants.Elimination.{enumerates-few, enumerates-inside, RemovedBelow, remove-start}
+use Rattle.types.proofs.Invariants.Elimination.{remove-kept, remove-out, remove-end}
 use Rattle.types.proofs.eliminate.remove_unmet.Statement.{statement}
 use Rattle.types.proofs.eliminate.remove_unmet.Tie as tie
 
@@ -22,17 +22,17 @@ abbrev μ-loop : tie.MeasureT-loop
 loop-holds : tie.Need-loop-holds Inv-loop μ-loop
 loop-holds c = remove-start _ _ _ _ (c .pre .0)
 
--- there are no more than the table has room for, so the place in the list, and the listed type, are in the tables
+-- the place in the list, and the listed type, are in the tables
 few : (c : tie.In-loop Inv-loop μ-loop) → c .before .loop .rest ≤ typeLimit
-few c =
-    let i = c .before .loop .inv in
-    omega (arith, i .listed .counted, members-bound (c .before .loop .alive), i .size, c .before .before .pre .1 .1)
+few c = let i = c .before .loop .inv in enumerates-few _ _ _ (i .listed) (i .size ∙ c .before .before .pre .1 .1)
 
 place : (c : tie.In-loop Inv-loop μ-loop) → c .before .loop .j < typeLimit
 place c = omega (arith, few c, c .loop-test .taken)
 
 inside : (c : tie.In-loop Inv-loop μ-loop) → getD (c .before .loop .remaining) (c .before .loop .j) 0 < typeLimit
-inside c = c .before .loop .inv .listed .inside (c .before .loop .j) (c .loop-test .taken)
+inside c =
+    let i = c .before .loop .inv in
+    enumerates-inside _ _ _ (i .listed) (i .size ∙ c .before .before .pre .1 .1) (c .before .loop .j) (c .loop-test .taken)
 
 -- the turn, seen from where a type is met or not
 abbrev turn : tie.After-is-met Inv-loop μ-loop → tie.In-loop Inv-loop μ-loop
@@ -92,7 +92,8 @@ loop-less-2 c = omega (arith, turn (c .before .before) .loop-test .taken)
 loop-again-2 : tie.Need-loop-again-2 Inv-loop μ-loop
 loop-again-2 c =
     let here = turn (c .before .before) in
-    remove-out _ _ _ _ _ _ (here .before .loop .inv) (here .loop-test .taken) (few here)
+    let i = here .before .loop .inv in
+    remove-out _ _ _ _ _ _ i (here .loop-test .taken) (omega (arith, few here, i .listed .size))
     (sym (c .before .before .is-met .ensures) ∙ c .before .if1 .left)
 
 returns : tie.Need-returns Inv-loop μ-loop

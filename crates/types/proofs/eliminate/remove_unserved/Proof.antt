@@ -5,8 +5,9 @@ use native.Mathlib.Omega.{arith}
 use mathlib.Core.Path.{_∙_}
 use denote.Ref.{now}
 use Rattle.types.specs.Comparison.{atomLimit}
+use Rattle.types.proofs.Invariants.Elimination.{enumerates-few, enumerates-inside}
 use Rattle.types.proofs.Invariants.Zeta.{power, words-room}
-use Rattle.types.proofs.Refinement.Rounds.{bits-few, left-few, fillerWord-in, joins-done, round-stage}
+use Rattle.types.proofs.Refinement.Rounds.{bits-few, fillerWord-in, joins-done, round-stage}
 use Rattle.types.proofs.eliminate.remove_unserved.Statement.{statement}
 use Rattle.types.proofs.eliminate.remove_unserved.Tie as tie
 
@@ -18,9 +19,9 @@ enter-words-requires c κs =
     let start = c .before .before .before in
     let s = start .pre .0 in
     let few = bits-few s in (
-      left-few s,
+      enumerates-few _ _ _ (s .listed) (s .size),
       (
-        s .listed .inside,
+        enumerates-inside _ _ _ (s .listed) (s .size),
         (
           fillerWord-in s (now (start .args .filling)) (start .pre .1 .0),
           (words-room _ atomLimit few (omega arith), start .pre .1 .1),
@@ -52,7 +53,7 @@ returns c =
     let alive = now (entered .before .before .before .before .args .alive) in
     let after = c .remove-by-roles .ensures in (
       zeta .zeta-transform .ensures .size ∙ entered .enter-words .ensures .0,
-      (after .0, round-stage _ alive _ _ (after .1) (after .0 .listed .counted)),
+      (after .0, (after .1, round-stage _ alive _ _ (after .1) (after .0 .listed .counted))),
     )
 
 pub remove-unserved-spec : {M : Type 1} → statement M
