@@ -1,5 +1,6 @@
-/* The comparison in C by the library's algorithm: the truths of all records filled once for each
- * type, the served test by a table over sets of modal records. */
+/* The comparison in C by the library's test: the truths of all records filled once for each type,
+ * served or not by a table over sets of modal records. Without its list of the types that are left:
+ * each role looks at all types, and the survivors are counted as they are written. */
 #include "comparison_plain.h"
 
 #include <string.h>

@@ -1,5 +1,5 @@
 /* The comparison (docs/FORMATS.md, section 3) in C, twice: what the library is measured against.
- *   comparison_fast.c      the library's algorithm
+ *   comparison_fast.c      the library's algorithm, without its list of the types left
  *   comparison_literal.c   by the definitions' words: for each type and demand a scan of all types
  *   comparison_answer.c    what both share: the refusals, and the answer told from the survivors */
 #ifndef COMPARISON_PLAIN_H
