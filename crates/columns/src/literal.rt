@@ -1,6 +1,5 @@
 // Literals as numbers (specs/Code/Packed.antt).
 ghost use mathlib.Core.Path.{_≡_};
-ghost use mathlib.Core.Bool.{not};
 ghost use Prim.Native.Nat.{_<_};
 ghost use Rattle.records.specs.Finite.{digit};
 ghost use Rattle.columns.specs.Literals.{concept, role};

@@ -1,6 +1,5 @@
 -- Atoms, and how many a vocabulary has.
 use Prim.Native.Nat.{ℕ, zero, suc, _+_}
-use mathlib.Core.Bool.{Bool, true, false}
 use mathlib.Core.List.{List}
 use Rattle.records.specs.Finite.{digit}
 use Rattle.records.specs.Format.{recordAt, count}

@@ -1,8 +1,7 @@
 -- The chain of statements.
 use Prim.Native.Nat.{ℕ, zero, suc}
-use mathlib.Core.Bool.{Bool, false, _||_}
+use mathlib.Core.Bool.{Bool}
 use mathlib.Core.List.{List, [], _∷_}
-use lib.Dec.{eqb}
 use Rattle.records.specs.Finite.{occurs}
 use Rattle.records.specs.Format.{recordAt, count, firstStatement}
 

@@ -1,7 +1,6 @@
 // A script record's bytes as numbers.
 use records::fields::word;
 ghost use mathlib.Core.Path.{_≡_};
-ghost use mathlib.Core.Bool.{_&&_, _||_};
 ghost use lib.ListN.{length};
 ghost use Rattle.scripts.specs.Format.{entrySize, entryOf, entryAt, isTerm, isStep};
 ghost use Rattle.scripts.specs.Code.Ready.{HasEntry};

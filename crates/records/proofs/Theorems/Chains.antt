@@ -5,11 +5,9 @@
 --   chain-statement   what is on the chain is a statement
 -- (Following has the laws for any chain.) Assumes nothing.
 use Prim.Native.Nat.{ℕ, _≤_}
-use mathlib.Core.Path.{_≡_, refl}
-use mathlib.Core.Bool.{true, or-true}
-use mathlib.Core.List.{List, [], _∷_}
-use lib.Dec.{eqb}
-use borrow.Author.Tests.{eq-eqb}
+use mathlib.Core.Path.{_≡_}
+use mathlib.Core.Bool.{true}
+use mathlib.Core.List.{List, _∷_}
 use Rattle.records.specs.Format.{recordAt, count, firstStatement}
 use Rattle.records.specs.Chain.{nextStatement, follow, chainFrom, chain, chained}
 use Rattle.records.proofs.Theorems.Accepted.{AcceptedFacts, IsStatement, Later}

@@ -4,10 +4,10 @@
 --   rule-evaluates                                               what a record says, by its rule
 --   operands-earlier                                             its operands come no later than the record
 -- Assumes nothing.
-use Prim.Native.Nat.{ℕ, zero, suc, _+_, _≤_, _<_}
+use Prim.Native.Nat.{ℕ, zero, suc, _≤_, _<_}
 use native.Mathlib.Omega.{arith}
 use native.Mathlib.Decide.{decLt}
-use mathlib.Core.Path.{_≡_, refl, sym, ap, subst}
+use mathlib.Core.Path.{_≡_, refl, sym, ap}
 use mathlib.Core.Bool.{Bool, true, false, not, _&&_, _||_}
 use lib.ListN.{List·getD-eq-default}
 use Rattle.records.specs.Kinds.{kindOf, constructOf}

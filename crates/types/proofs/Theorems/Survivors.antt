@@ -117,7 +117,7 @@ module _ (v : List ℕ) where
       let out : has (round v S) t ≡ false = table-at (types v) (stays v S) false t (f .1) ∙ rw (inside, unserved) in
       members-less (round v S) S t (length-table (types v) (stays v S) ∙ sym l) (round-within S) inside out
 
-  -- each round that removes something is paid for by a type
+  -- each round that removes something takes a type at least, so there are no more of them than types
   pub stage-falls : (n : ℕ) → Removing v n → members (stage v n) + n ≤ types v
   unfolding stage
   stage-falls zero h = omega (arith, members-bound (table (types v) (satisfies v)), length-table (types v) (satisfies v))

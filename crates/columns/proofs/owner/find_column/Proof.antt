@@ -1,7 +1,6 @@
 -- `columns::owner::find_column` meets its contract. Owner 0 is the query; of another its record's kind decides.
 -- Assumes nothing.
 use mathlib.Core.Path.{sym, _∙_}
-use denote.Ref.{now}
 use borrow.Author.Needs.{needs}
 use Rattle.columns.specs.Columns.{columnsAt}
 use Rattle.columns.proofs.Refinement.Groups.{same-at}

@@ -1,7 +1,6 @@
 -- `records::check::check_records` meets its contract. A refusal stands; otherwise the next check decides. A length that
 -- passed has a header.
 -- Assumes nothing.
-use mathlib.Core.Path.{_≡_}
 use denote.Ref.{now}
 use borrow.Author.Needs.{needs}
 use Rattle.records.specs.Check.{recordsCheck}

@@ -2,7 +2,7 @@
 -- Assumes nothing.
 use native.Mathlib.Omega.{arith}
 use mathlib.Core.Logic.{⊎-elim}
-use mathlib.Core.Path.{_≡_, refl, sym, ap, _∙_}
+use mathlib.Core.Path.{_≡_, refl, sym, ap}
 use denote.Ref.{now}
 use borrow.Author.Needs.{needs}
 use Rattle.records.specs.Kinds.{Kind, kindOf, sortsOf, constantFields, junctionFields, restrictionFields}

@@ -1,7 +1,6 @@
 -- `records::kinds::is_atom` meets its contract. The tests of the ranges say which case holds.
 -- Assumes nothing.
 use native.Mathlib.Omega.{arith}
-use mathlib.Core.Path.{sym, _∙_}
 use borrow.Author.Tests.{ne-eqb, le-leb, lt-leb}
 use Rattle.records.proofs.Laws.Ranges.{atom-range}
 use Rattle.records.proofs.kinds.is_atom.Statement.{statement}

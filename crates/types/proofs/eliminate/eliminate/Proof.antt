@@ -1,5 +1,5 @@
 -- `types::eliminate::eliminate` meets its contract. The loop's invariant: `done` rounds each removed something, what is
--- alive is that stage, and `left` is its number of types. Each round is paid for by a type.
+-- alive is that stage, and `left` is its number of types. There are no more such rounds than types.
 -- Assumes nothing.
 use Prim.Native.Nat.{ℕ, _+_, _-_, _≤_}
 use native.Mathlib.Omega.{arith}
@@ -18,7 +18,7 @@ use Rattle.types.proofs.Theorems.Survivors.{types-bound, Removing}
 use Rattle.types.proofs.eliminate.eliminate.Statement.{statement}
 use Rattle.types.proofs.eliminate.eliminate.Tie as tie
 
-record Standing (v : List ℕ) (bits : ℕ) (masks held : List ℕ) (remaining joins : List ℕ) (alive : List Bool) (left done : ℕ)
+record Standing (v : List ℕ) (bits : ℕ) (masks held remaining joins : List ℕ) (alive : List Bool) (left done : ℕ)
     : Type 0 where
   state : Eliminating v bits masks held remaining left alive
   stage : AtStage v done alive left

@@ -63,6 +63,5 @@ returns c =
 pub list-alive-spec : {M : Type 1} → statement M
 list-alive-spec =
     tie.close
-    (tie.spec Inv-loop μ-loop loop-holds element-copy-out-if1 cast-remaining mul-remaining element-write-remaining add-left
-    add-t
+    (tie.spec Inv-loop μ-loop loop-holds element-copy-out-if1 cast-remaining mul-remaining element-write-remaining add-left add-t
     (λ c. omega arith) loop-again returns)

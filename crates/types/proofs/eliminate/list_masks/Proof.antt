@@ -1,6 +1,6 @@
 -- `types::eliminate::list_masks` meets its contract. The loop's invariant: the words of the roles below `role` are right.
 -- Assumes nothing.
-use Prim.Native.Nat.{ℕ, _-_, _≤_, _<_}
+use Prim.Native.Nat.{_-_, _≤_, _<_}
 use native.Mathlib.Omega.{arith}
 use mathlib.Core.Path.{refl, ap, _∙_}
 use denote.Ref.{now}

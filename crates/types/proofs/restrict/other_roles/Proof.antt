@@ -1,6 +1,6 @@
 -- `types::restrict::other_roles` meets its contract. The loop's invariant: `word` has the bits from `m` on.
 -- Assumes nothing.
-use Prim.Native.Nat.{ℕ, _-_, _≤_}
+use Prim.Native.Nat.{_-_, _≤_}
 use native.Mathlib.Omega.{arith}
 use mathlib.Core.Path.{_≡_, refl, _∙_}
 use denote.Ref.{now}
