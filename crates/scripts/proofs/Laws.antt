@@ -1,2 +1,3 @@
 -- Generic laws: two runs whose literals correspond answer alike.
 pub mod Correspondence
+pub mod SearchTree

@@ -4,7 +4,7 @@ use mathlib.Core.Bool.{Bool, true, false, Bool·beq, not, _&&_, _||_}
 use mathlib.Core.List.{List, [], _∷_}
 use lib.ListN.{length}
 use lib.Dec.{ltb, leb, eqb}
-use Rattle.records.specs.Finite.{allZero, anyBelow}
+use Rattle.records.specs.Finite.{allZero}
 use Rattle.records.specs.Outcome.{Check, _then_, require, inTurn}
 use Rattle.records.specs.Format.{recordAt, count}
 use Rattle.records.specs.Kinds.{isRestriction}
@@ -50,27 +50,20 @@ earlierTerm s i t = ltb t i && isTerm (entryAt s t .w0)
 abbrev pub isFunction : List ℕ → ℕ → Bool
 isFunction v f = ltb f (count v) && isRestriction (recordAt v f .kind)
 
--- "a repeat of an earlier record is refused"
-abbrev pub repeats : List ℕ → ℕ → ℕ → ℕ → Bool
-repeats s f t j = eqb (entryAt s j .w0) 2 && (eqb (entryAt s j .w1) f && eqb (entryAt s j .w2) t)
-
-abbrev pub repeated : List ℕ → ℕ → ℕ → ℕ → Bool
-repeated s i f t = anyBelow (repeats s f t) i
-
 abbrev pub isConstant : Line → Bool
 isConstant blank = false
 isConstant theConstant = true
 isConstant (applied f t) = false
 isConstant (step t) = false
 
--- "the term fi(t): w1 = i, of kind 7 or 8, w2 = t, an earlier term record"
+-- "the term fi(t): w1 = i, of kind 7 or 8, w2 = t, an earlier term record"; paper 02, slip 3: "Let a repeat of kind 2 through."
 abbrev pub functionFits : List ℕ → List ℕ → ℕ → Line → Bool
 functionFits v s i blank = true
 functionFits v s i theConstant = true
-functionFits v s i (applied f t) = isFunction v f && (earlierTerm s i t && not (repeated s i f t))
+functionFits v s i (applied f t) = isFunction v f && earlierTerm s i t
 functionFits v s i (step t) = true
 
--- Row 17: "term rule; record 1 .. not the constant"; "the constant a, record 1 only"
+-- Row 17: "term rule; record 1 .. not the constant"; "the constant a, record 1 only"; slip 3: "The constant still has one record."
 abbrev pub termFits : List ℕ → List ℕ → ℕ → Line → Bool
 termFits v s i l = Bool·beq (isConstant l) (eqb i 1) && functionFits v s i l
 

@@ -104,7 +104,8 @@ isTerm k = eqb k 1 || eqb k 2
 abbrev pub isStep : ℕ → Bool
 isStep k = leb 3 k && leb k 5
 
--- The term of a record, "written out"; only terms are asked for theirs.
+-- The term of a record, "written out"; only terms are asked for theirs. Paper 02, slip 3: "Two term records are the same when
+-- their function and inner term are the same, all the way to the constant".
 abbrev pub termOf : Line → (ℕ → SkolemTerm) → SkolemTerm
 termOf blank earlier = constant
 termOf theConstant earlier = constant

@@ -12,14 +12,13 @@ use records::kinds::is_restriction;
 use types::check_term;
 ghost use mathlib.Core.Path.{_≡_};
 ghost use mathlib.Core.List.{[], _∷_};
-ghost use Prim.Native.Nat.{_+_, _*_, _^_};
 ghost use lib.ListN.{length};
 ghost use Rattle.records.specs.Answers.{checked};
 ghost use Rattle.columns.specs.Columns.{Query};
 ghost use Rattle.columns.specs.Code.Packed.{Marked};
 ghost use Rattle.scripts.specs.Format.{entrySize, entryOf, queryIn, firstStep, extensionOf, lineOf};
 ghost use Rattle.scripts.specs.Form.{lengthFits, headerFits, queryTermsCheck, kindFits, unusedFits, earlierTerm};
-ghost use Rattle.scripts.specs.Form.{isFunction, repeats, repeated, termFits, functionFits, xFits, yFits, extensionFits};
+ghost use Rattle.scripts.specs.Form.{isFunction, termFits, functionFits, xFits, yFits, extensionFits};
 ghost use Rattle.scripts.specs.Form.{lineFits, rowsCheck, entryCheck, entriesCheck, linkFits, linkCheck, linksCheck};
 ghost use Rattle.scripts.specs.Form.{formCheck};
 ghost use Rattle.records.specs.Finite.{allZero};
@@ -126,39 +125,6 @@ fn is_function(v: &[u8], f: u16) -> bool
     is_restriction(read_at(v, at).kind)
 }
 
-// A record's kind, function and inner term in one number, so that one comparison tells of all.
-fn key_of(kind: u16, f: u16, t: u16) -> u64
-    ensures { λ r. ⌜ r ≡ kind + 2 ^ 16 * f + 2 ^ 32 * t ⌝ }
-{
-    kind as u64 + 65536 * (f as u64) + 4294967296 * (t as u64)
-}
-
-// Whether record j is the term of f and t.
-fn is_repeat(s: &[u8], f: u16, t: u16, j: usize) -> bool
-    requires { ⌜ HasEntry (now s) j ⌝ }
-    ensures { λ r. ⌜ r ≡ repeats (now (s .entry)) f t j ⌝ }
-{
-    let e = read_entry(s, j);
-    key_of(e.w0, e.w1, e.w2) == key_of(2, f, t)
-}
-
-// Whether a record before record i is the term of f and t. The loop has no way out before its end, so that the compiler
-// compares several records at once.
-fn is_repeated(s: &[u8], i: usize, f: u16, t: u16) -> bool
-    requires { ⌜ HasBefore (now s) i ⌝ }
-    ensures { λ r. ⌜ r ≡ repeated (now (s .entry)) i f t ⌝ }
-{
-    let mut found = false;
-    let mut j = 0;
-    while j < i {
-        if is_repeat(s, f, t, j) {
-            found = true;
-        }
-        j += 1;
-    }
-    found
-}
-
 fn function_fits(v: &[u8], s: &[u8], i: usize, e: Entry) -> bool
     requires { ⌜ HasBefore (now s) i ⌝ }
     ensures { λ r. ⌜ r ≡ functionFits (now (v .entry)) (now (s .entry)) i (lineOf e) ⌝ }
@@ -169,10 +135,7 @@ fn function_fits(v: &[u8], s: &[u8], i: usize, e: Entry) -> bool
     if !is_function(v, e.w1) {
         return false;
     }
-    if !is_earlier_term(s, i, e.w2) {
-        return false;
-    }
-    !is_repeated(s, i, e.w1, e.w2)
+    is_earlier_term(s, i, e.w2)
 }
 
 // Row 17: the term rule; record 1 and no other is the constant.

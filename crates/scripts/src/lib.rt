@@ -3,6 +3,7 @@ pub mod answers;
 mod call;
 mod entry;
 mod form;
+mod index;
 mod machine;
 mod run;
 

@@ -3,6 +3,11 @@ use crate::answers::Judged;
 use crate::answers::judge_after;
 use crate::entry::Entry;
 use crate::entry::read_entry;
+use crate::index::Index;
+use crate::index::code_in;
+use crate::index::code_of;
+use crate::index::index_terms;
+use crate::index::origin_in;
 use crate::machine::Machine;
 use crate::machine::goal_at;
 use crate::machine::leave_out;
@@ -25,12 +30,13 @@ ghost use Rattle.scripts.specs.Format.{extensionOf};
 ghost use Rattle.scripts.specs.Calculus.{frameLimit};
 ghost use Rattle.records.specs.Finite.{isNil};
 ghost use Rattle.scripts.specs.Run.{extendBy};
-ghost use Rattle.scripts.specs.Code.Codes.{codeOf, codeAt, opposed};
+ghost use Rattle.scripts.specs.Code.Codes.{opposed};
+ghost use Rattle.scripts.specs.Code.Index.{AllNumbered};
 ghost use Rattle.scripts.specs.Code.Machine.{places, framesFrom, framesOf, Standing, Shows};
-ghost use Rattle.scripts.specs.Code.Numbered.{secondCode, usedNumbers};
+ghost use Rattle.scripts.specs.Code.Numbered.{usedNumbers};
 ghost use Rattle.scripts.specs.Code.Tested.{reducesTo, ExtensionTested, TestedAt, runAfter, chainOutcome};
 ghost use Rattle.scripts.specs.Answers.{judged};
-ghost use Rattle.scripts.specs.Code.Ready.{HasEntry, Ready, IsStep, IsExtension};
+ghost use Rattle.scripts.specs.Code.Ready.{Ready, IsStep, IsExtension};
 
 // A step's answer and, if it passed, the literals of the frame that it opens: the other literals of an extension's column.
 // A step that closes the goal has none.
@@ -50,48 +56,24 @@ fn no_frame(answer: Checked) -> Tested
     }
 }
 
-// Function f at the term of record t as a number (specs/Code/Codes.antt).
-fn code_of(f: u16, t: u16) -> u32
-    ensures { λ r. ⌜ r ≡ codeOf f t ⌝ }
-{
-    f as u32 + 512 * (t as u32)
-}
-
-// The term of a record as a number.
-fn term_code(s: &[u8], n: u16) -> u32
-    requires { ⌜ HasEntry (now s) n ⌝ }
-    ensures { λ r. ⌜ r ≡ codeAt (now (s .entry)) n ⌝ }
-{
-    let e = read_entry(s, n as usize);
-    code_of(e.w1, e.w2)
-}
-
-fn second_code(s: &[u8], n: u16) -> u32
-    requires { ⌜ HasEntry (now s) n ⌝ }
-    ensures { λ r. ⌜ r ≡ secondCode (now (s .entry)) n ⌝ }
-{
-    if n == 0 {
-        return 0;
-    }
-    term_code(s, n)
-}
-
 // The column that an extension uses, at its terms: e is record i.
 fn used_column(
     v: &[u8],
     marks: &[bool; Record::LIMIT],
     s: &[u8],
+    terms: &[u32],
     header: Entry,
     i: usize,
     e: Entry,
 ) -> Column
     requires { ⌜ Ready (now v) (now s) (now marks) header ⌝ }
+    requires { ⌜ AllNumbered (now s) (now terms) ⌝ }
     requires { ⌜ IsExtension (now s) i e ⌝ }
     ensures { λ r. ⌜ literals r ≡ usedNumbers (now (v .entry)) (now (s .entry)) (extensionOf e) ⌝ }
 {
-    let x = term_code(s, e.w3);
-    let y = second_code(s, e.w4);
-    let fx = code_of(e.w1, e.w3);
+    let x = code_in(terms, e.w3 as usize);
+    let y = code_in(terms, e.w4 as usize);
+    let fx = code_of(e.w1, origin_in(terms, e.w3 as usize));
     find_column(
         v,
         marks,
@@ -128,6 +110,7 @@ fn test_extension(
     v: &[u8],
     marks: &[bool; Record::LIMIT],
     s: &[u8],
+    terms: &[u32],
     header: Entry,
     i: usize,
     e: Entry,
@@ -135,10 +118,11 @@ fn test_extension(
     depth: usize,
 ) -> Tested
     requires { ⌜ Ready (now v) (now s) (now marks) header ⌝ }
+    requires { ⌜ AllNumbered (now s) (now terms) ⌝ }
     requires { ⌜ IsExtension (now s) i e ⌝ }
     ensures { λ r. ⌜ ExtensionTested (now (v .entry)) (now (s .entry)) i goal depth (extensionOf e) r ⌝ }
 {
-    let column = used_column(v, marks, s, header, i, e);
+    let column = used_column(v, marks, s, terms, header, i, e);
     let position = e.w5 as usize;
     let answer = pass_if(is_opposed(literal_at(column, position), goal), 21, i);
     let Checked::Fine = answer else {
@@ -172,6 +156,7 @@ fn test_step(
     v: &[u8],
     marks: &[bool; Record::LIMIT],
     s: &[u8],
+    terms: &[u32],
     header: Entry,
     i: usize,
     table: &[u64; Machine::PLACES],
@@ -179,6 +164,7 @@ fn test_step(
     depth: usize,
 ) -> Tested
     requires { ⌜ Ready (now v) (now s) (now marks) header ⌝ }
+    requires { ⌜ AllNumbered (now s) (now terms) ⌝ }
     requires { ⌜ IsStep (now s) i ⌝ }
     requires { ⌜ Standing (now table) (now closed) depth ⌝ }
     ensures { λ r. ⌜ TestedAt (now (v .entry)) (now (s .entry)) i (now (table .entry)) (now (closed .entry)) depth r ⌝ }
@@ -192,7 +178,7 @@ fn test_step(
     let goal = goal_at(table, last, closed[last]);
     let kind = e.w0;
     match kind {
-        4 => test_extension(v, marks, s, header, i, e, goal, depth),
+        4 => test_extension(v, marks, s, terms, header, i, e, goal, depth),
         5 => {
             let answer = pass_if(can_reduce(table, closed, depth, e.w1, goal), 22, i);
             no_frame(answer)
@@ -234,11 +220,13 @@ fn run_steps(
     v: &[u8],
     marks: &[bool; Record::LIMIT],
     s: &[u8],
+    terms: &[u32],
     header: Entry,
     first: usize,
     column: Column,
 ) -> Judged
     requires { ⌜ Ready (now v) (now s) (now marks) header ⌝ }
+    requires { ⌜ AllNumbered (now s) (now terms) ⌝ }
     requires { ⌜ IsStep (now s) first ⌝ }
     requires { ⌜ 0 < column .first ⌝ }
     ensures { λ r. ⌜ judged r ≡ runAfter (now (v .entry)) (now (s .entry)) (literals column ∷ []) first ⌝ }
@@ -249,7 +237,7 @@ fn run_steps(
     let mut at = read_entry(s, first).w7 as usize;
     let mut steps = 1;
     while at != 0 {
-        let tested = test_step(v, marks, s, header, at, &table, &state.closed, state.depth);
+        let tested = test_step(v, marks, s, terms, header, at, &table, &state.closed, state.depth);
         let answer = tested.answer;
         let Checked::Fine = answer else {
             return judge_after(answer, 0);
@@ -261,6 +249,26 @@ fn run_steps(
         at = e.w7 as usize;
     }
     judge_after(pass_if(state.depth == 0, 24, last), steps)
+}
+
+// The same where the terms are not numbered yet.
+fn run_chain(
+    v: &[u8],
+    marks: &[bool; Record::LIMIT],
+    s: &[u8],
+    header: Entry,
+    first: usize,
+    column: Column,
+) -> Judged
+    requires { ⌜ Ready (now v) (now s) (now marks) header ⌝ }
+    requires { ⌜ IsStep (now s) first ⌝ }
+    requires { ⌜ 0 < column .first ⌝ }
+    ensures { λ r. ⌜ judged r ≡ runAfter (now (v .entry)) (now (s .entry)) (literals column ∷ []) first ⌝ }
+{
+    let mut links = [0; Index::LINKS * Entry::LIMIT];
+    let mut terms = [0; Entry::LIMIT];
+    index_terms(s, &mut links, &mut terms);
+    run_steps(v, marks, s, &terms, header, first, column)
 }
 
 // The chain: its first step is a start, the others follow.
@@ -278,7 +286,7 @@ pub fn check_chain(v: &[u8], marks: &[bool; Record::LIMIT], s: &[u8], header: En
     let Checked::Fine = begun else {
         return judge_after(begun, 0);
     };
-    run_steps(
+    run_chain(
         v,
         marks,
         s,

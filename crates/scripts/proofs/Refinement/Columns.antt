@@ -19,8 +19,8 @@ use Rattle.scripts.specs.Steps.{Extension, extension, extensionBy}
 use Rattle.scripts.specs.Format.{entries, queryOf, termAt}
 use Rattle.scripts.specs.Form.{stepFits}
 use Rattle.scripts.specs.Calculus.{usedColumn}
-use Rattle.scripts.specs.Code.Codes.{codeOf, codeAt, codeTerm}
-use Rattle.scripts.specs.Code.Numbered.{secondCode, usedNumbers}
+use Rattle.scripts.specs.Code.Codes.{origin, codeOf, codeAt, codeTerm}
+use Rattle.scripts.specs.Code.Numbered.{usedNumbers}
 use Rattle.scripts.proofs.Theorems.Form.{KeepsForm}
 use Rattle.scripts.proofs.Refinement.Terms.{code-zero}
 use Rattle.scripts.proofs.Refinement.Literals.{Code, ValidLiteral, zero-code, Small, column-small}
@@ -86,10 +86,10 @@ module _ (v s : List ℕ) (good : AcceptedFacts v) (f : KeepsForm v s) where
       cx = codeAt s (e .first)
 
       cy : ℕ
-      cy = secondCode s (e .second)
+      cy = codeAt s (e .second)
 
       cf : ℕ
-      cf = codeOf (e .owner) (e .first)
+      cf = codeOf (e .owner) (origin s (e .first))
 
       tx : SkolemTerm
       tx = termAt s (e .first)
@@ -110,7 +110,7 @@ module _ (v s : List ℕ) (good : AcceptedFacts v) (f : KeepsForm v s) where
   used-at : (owner n : ℕ) (t u p : ℕ)
       → let e : Extension ℕ = record { owner = owner; column = n; first = t; second = u; position = p } in
       Extends v s e → Pairs (Denotes s) (usedNumbers v s e) (usedColumn v (queryOf s) (extensionBy (termAt s) e))
-  used-at zero n t u p h = query-means n (codeAt s t) (secondCode s u) (codeOf 0 t) (termAt s t) (termAt s u)
+  used-at zero n t u p h = query-means n (codeAt s t) (codeAt s u) (codeOf 0 (origin s t)) (termAt s t) (termAt s u)
   used-at (suc owner) n t u p h = record-means _ (omega arith) h
 
   pub used-denotes : (i : ℕ) (e : Extension ℕ) → i ≤ entries s → stepFits v s i (extension e) ≡ true

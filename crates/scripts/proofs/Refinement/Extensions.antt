@@ -19,13 +19,12 @@ use Rattle.columns.specs.Columns.{columnAt, takesY}
 use Rattle.scripts.specs.Steps.{Extension, extension}
 use Rattle.scripts.specs.Format.{entries, queryOf, extensionOf, termAt}
 use Rattle.scripts.specs.Form.{earlierTerm, xFits, yFits, stepFits}
-use Rattle.scripts.specs.Code.Codes.{functionLimit, codeOf, codeAt, codeTerm}
-use Rattle.scripts.specs.Code.Numbered.{secondCode}
+use Rattle.scripts.specs.Code.Codes.{TermRecord, origin, functionLimit, codeOf, codeAt, codeTerm}
 use Rattle.scripts.specs.Code.Ready.{Ready, IsExtension}
 use Rattle.scripts.specs.declared.entry.Entry.{Entry}
 use Rattle.scripts.proofs.Refinement.Lines.{step-extension}
 use Rattle.scripts.proofs.Theorems.Form.{KeepsForm, keeps-form}
-use Rattle.scripts.proofs.Refinement.Terms.{TermRecord, earlier-term, code-zero, header-term, apply-valid, apply-small}
+use Rattle.scripts.proofs.Refinement.Terms.{earlier-term, code-zero, header-term, header-code, apply-valid, apply-small}
 use Rattle.scripts.proofs.Refinement.Terms.{apply-term, code-valid, code-small, code-term}
 use Rattle.scripts.proofs.Refinement.Literals.{Code, zero-code, owner-below}
 
@@ -66,12 +65,14 @@ module _ (v s : List ℕ) (good : AcceptedFacts v) (f : KeepsForm v s) where
   term-coded n t =
       record { code = (code-small v s good f n t, code-valid v s good f n t); stands = code-term v s good f n t }
 
-  pub second-coded : (n : ℕ) → (n ≡ 0) ⊎ TermRecord s n → Coded s (secondCode s n) (termAt s n)
-  second-coded zero t = record { code = zero-code s; stands = code-zero s ∙ sym (header-term v s good f) }
-  second-coded (suc n) (inl e) = absurd (omega arith)
-  second-coded (suc n) (inr t) = term-coded (suc n) t
+  -- the header stands where there is no y
+  pub second-coded : (n : ℕ) → (n ≡ 0) ⊎ TermRecord s n → Coded s (codeAt s n) (termAt s n)
+  second-coded n (inl e) =
+      rw (e, header-code v s good f, header-term v s good f) (record { code = zero-code s; stands = code-zero s })
+  second-coded n (inr t) = term-coded n t
 
-  pub apply-coded : (i n : ℕ) → 0 < i → i < functionLimit → TermRecord s n → Coded s (codeOf i n) (apply i (termAt s n))
+  pub apply-coded : (i n : ℕ) → 0 < i → i < functionLimit → TermRecord s n
+      → Coded s (codeOf i (origin s n)) (apply i (termAt s n))
   apply-coded i n p h t =
       record {
         code = (apply-small v s good f i n p h t, apply-valid v s good f i n p h t);

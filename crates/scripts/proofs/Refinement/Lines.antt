@@ -4,7 +4,6 @@
 --   unused-none                                    a kind that is not in the table has no words
 --   line-constant, function-line, function-other   which records are the constant; the rule for function terms
 --   step-start, step-extension, step-other         the rule for steps
---   repeat-same                                    a key made of kind, function and inner term
 --   link-made, link-none                           row 19 at a step, and at another record
 -- Assumes nothing.
 use Prim.Native.Nat.{ℕ, _+_, _*_, _%_, _^_, _≤_, _<_}
@@ -101,25 +100,6 @@ module _ (v s : List ℕ) (i : ℕ) (e : Entry) where
       by-kind (λ k x. (k ≡ 3 → ⊥) → (k ≡ 4 → ⊥) → true ≡ lineFits v s i (x .says e))
       (λ m n. refl, (λ m n. refl, (λ m n. refl, (λ m n. absurd (m refl), (λ m n. absurd (n refl), (λ m n. refl, tt))))))
       (λ k p m n. refl) (e .w0) h l
-
--- the lower 16 bits of equal numbers
-low-same : (a b f t : ℕ) → a < 2 ^ 16 → f < 2 ^ 16 → a + 2 ^ 16 * b ≡ f + 2 ^ 16 * t → a ≡ f
-low-same a b f t h l e =
-    let p : (a + 2 ^ 16 * b) % 2 ^ 16 ≡ a = omega arith in
-    let q : (f + 2 ^ 16 * t) % 2 ^ 16 ≡ f = omega arith in
-    sym p ∙ (ap (λ (n : ℕ). n % 2 ^ 16) e ∙ q)
-
--- Kind, function and inner term in one number: equal keys have equal parts.
-pub repeat-same : (k a b f t x y : ℕ) → k < 2 ^ 16 → a < 2 ^ 16 → f < 2 ^ 16
-    → x ≡ k + 2 ^ 16 * a + 2 ^ 32 * b → y ≡ 2 + 2 ^ 16 * f + 2 ^ 32 * t → eqb x y ≡ (eqb k 2 && (eqb a f && eqb b t))
-repeat-same k a b f t x y h l m p q = at (ℕ-discrete k 2) (ℕ-discrete a f) (ℕ-discrete b t)
-  where
-    at : Dec (k ≡ 2) → Dec (a ≡ f) → Dec (b ≡ t) → eqb x y ≡ (eqb k 2 && (eqb a f && eqb b t))
-    at (yes d) (yes e) (yes g) = rw (eq-eqb x y (omega arith), eq-eqb k 2 d, eq-eqb a f e, eq-eqb b t g)
-    at (yes d) (yes e) (no g) = rw (ne-eqb x y (λ z. g (omega arith)), eq-eqb k 2 d, eq-eqb a f e, ne-eqb b t g)
-    at (yes d) (no e) g = rw (ne-eqb x y (λ z. e (low-same a b f t l m (omega arith))), eq-eqb k 2 d, ne-eqb a f e)
-    at (no d) e g =
-        rw (ne-eqb x y (λ z. d (low-same k (a + 2 ^ 16 * b) 2 (f + 2 ^ 16 * t) h (omega arith) (omega arith))), ne-eqb k 2 d)
 
 -- Row 19 at a record that was read.
 module _ (s : List ℕ) (i : ℕ) (e : Entry) (read : e ≡ entryAt s i) (t : Bool) (told : t ≡ isStep (e .w0)) where

@@ -1,7 +1,7 @@
 -- Term records: their terms written out, and the codes of these.
---   TermRecord, earlier-term                    a record of kind 1 or 2; an earlier one, as rows 17 and 18 ask for it
+--   earlier-term                                an earlier term record, as rows 17 and 18 ask for it
 --   First, Applied                              what is told of the constant's record; of a record of kind 2
---   Valid, code-zero                            codes: 0, or a function above 0 with a term record; 0 is the constant's
+--   Valid, code-zero                            codes: 0, or a function above 0 with an origin; 0 is the constant's
 --   Inner, inner-local, line-inner              the inner term of what a record says comes before it
 --   entry-past, past-line                       records past the end say nothing
 --   term-eq, header-line, header-term           a record's term from those of earlier records; the header counts as the constant
@@ -9,10 +9,10 @@
 --   term-positive, function-positive            the header is no term record, and no function
 --   first-record, applied-record, term-record   a term record is the constant's, or of kind 2
 --   term-first, term-applied                    their terms
---   apply-valid, apply-small, apply-term        the code of a function at a term record
+--   apply-valid, apply-small, apply-term        the code of a function at the term of a record
+--   header-code, first-code, applied-code       the codes of records
 --   code-valid, code-small, code-term           the code of a term record
---   apply-unique, unique-step, term-unique      no two term records have one term
---   code-apply, code-unique, code-same          two codes are equal if their terms are
+--   code-apply, code-unique, code-same          the law of the index: two codes are equal exactly if their terms are
 -- Assumes nothing.
 use Prim.Native.Nat.{ℕ, zero, suc, _*_, _/_, _%_, _≤_, _<_}
 use native.Mathlib.Omega.{arith}
@@ -36,22 +36,18 @@ use Rattle.columns.proofs.Theorems.Literals.{sameTerm-true, sameTerm-refl}
 use Rattle.scripts.specs.Format.{entrySize, entryAt, entries, Line, blank, theConstant, applied, step, Kind, kindOf}
 use Rattle.scripts.specs.Format.{lineAt, isTerm, termOf, termAt}
 use Rattle.records.specs.Finite.{allZero}
-use Rattle.scripts.specs.Form.{unusedFits, earlierTerm, isFunction, repeats, repeated, isConstant, functionFits, termFits}
-use Rattle.scripts.specs.Code.Codes.{functionLimit, codeOf, codeAt, codeTerm}
+use Rattle.scripts.specs.Form.{earlierTerm, isFunction, isConstant, functionFits, termFits}
+use Rattle.scripts.specs.Code.Codes.{TermRecord, origin, IsOrigin, functionLimit, codeOf, lineCode, codeAt, codeTerm}
 use Rattle.scripts.proofs.Refinement.Lines.{kind-past}
+use Rattle.scripts.proofs.Refinement.Origins.{origin-same, origin-least, origin-term, origin-is}
 use Rattle.scripts.proofs.Theorems.Form.{KeepsForm}
-
-pub record TermRecord (s : List ℕ) (n : ℕ) : Type 0 where
-  pub within : n < entries s
-  pub term : isTerm (entryAt s n .w0) ≡ true
 
 pub earlier-term : (s : List ℕ) (i t : ℕ) → earlierTerm s i t ≡ true → i ≤ entries s → TermRecord s t
 earlier-term s i t e h =
     let before = ltb-true t i (both-left (ltb t i) (isTerm (entryAt s t .w0)) e) in
     record { within = omega arith; term = both-right (ltb t i) (isTerm (entryAt s t .w0)) e }
 
--- Record n is of kind 2: the function is a restriction of the vocabulary, the inner term comes before, and no record before n
--- has both.
+-- Record n is of kind 2: the function is a restriction of the vocabulary, and the inner term comes before.
 pub record Applied (v s : List ℕ) (n : ℕ) : Type 0 where
   pub kind : entryAt s n .w0 ≡ 2
   pub positive : 0 < entryAt s n .w1
@@ -59,19 +55,15 @@ pub record Applied (v s : List ℕ) (n : ℕ) : Type 0 where
   pub small : entryAt s n .w1 < functionLimit
   pub earlier : entryAt s n .w2 < n
   pub inner : TermRecord s (entryAt s n .w2)
-  pub alone : (j : ℕ) → j < n → entryAt s j .w0 ≡ 2
-      → entryAt s j .w1 ≡ entryAt s n .w1 → entryAt s j .w2 ≡ entryAt s n .w2 → ⊥
 
 -- Record n is the constant's.
 pub record First (s : List ℕ) (n : ℕ) : Type 0 where
   pub kind : entryAt s n .w0 ≡ 1
   pub number : n ≡ 1
-  pub function : entryAt s n .w1 ≡ 0
-  pub inner : entryAt s n .w2 ≡ 0
 
--- c is 0, or has a function above 0 and a term record.
+-- c is 0, or has a function above 0 and an origin.
 abbrev pub Valid : List ℕ → ℕ → Type 0
-Valid s c = (c ≡ 0) ⊎ ((0 < c % functionLimit) × TermRecord s (c / functionLimit))
+Valid s c = (c ≡ 0) ⊎ ((0 < c % functionLimit) × IsOrigin s (c / functionLimit))
 
 pub code-zero : (s : List ℕ) → codeTerm s 0 ≡ constant
 unfolding codeTerm
@@ -117,17 +109,6 @@ module _ (s : List ℕ) (n : ℕ) where
   unfolding kindOf
   line-applied e = ap (λ (k : ℕ). kindOf k .says (entryAt s n)) e
 
-  unused-first : entryAt s n .w0 ≡ 1 → unusedFits (entryAt s n) ≡ true → (entryAt s n .w1 ≡ 0) × (entryAt s n .w2 ≡ 0)
-  unfolding kindOf allZero
-  unused-first e u =
-      let r = entryAt s n in
-      let after = allZero (r .w3 ∷ r .w4 ∷ r .w5 ∷ r .w6 ∷ r .w7 ∷ []) in
-      let zeros = subst (λ (k : ℕ). allZero (kindOf k .unused r) ≡ true) e u in
-      let rest = both-right (eqb (r .w1) 0) (eqb (r .w2) 0 && after) zeros in (
-        eqb-true (r .w1) 0 (both-left (eqb (r .w1) 0) (eqb (r .w2) 0 && after) zeros),
-        eqb-true (r .w2) 0 (both-left (eqb (r .w2) 0) after rest),
-      )
-
 module _ (v s : List ℕ) (good : AcceptedFacts v) (f : KeepsForm v s) where
   header-line : lineAt s 0 ≡ blank
   header-line = ap (λ (k : Kind). k .says (entryAt s 0)) (kind-past (entryAt s 0 .w0) (omega (arith, f .header)))
@@ -140,8 +121,7 @@ module _ (v s : List ℕ) (good : AcceptedFacts v) (f : KeepsForm v s) where
   fits-inner i blank e = tt
   fits-inner i theConstant e = tt
   fits-inner i (applied k t) e =
-      let rest = both-right (isFunction v k) (earlierTerm s i t && not (repeated s i k t)) e in
-      let earlier = both-left (earlierTerm s i t) (not (repeated s i k t)) rest in
+      let earlier = both-right (isFunction v k) (earlierTerm s i t) e in
       ltb-true t i (both-left (ltb t i) (isTerm (entryAt s t .w0)) earlier)
   fits-inner i (step t) e = tt
 
@@ -166,7 +146,7 @@ module _ (v s : List ℕ) (good : AcceptedFacts v) (f : KeepsForm v s) where
   pub header-term : termAt s 0 ≡ constant
   header-term = term-eq 0 ∙ ap (λ (l : Line). termOf l (termAt s)) header-line
 
-  term-positive : (n : ℕ) → TermRecord s n → 0 < n
+  pub term-positive : (n : ℕ) → TermRecord s n → 0 < n
   term-positive zero t =
       let z : isTerm 32 ≡ true = subst (λ (k : ℕ). isTerm k ≡ true) (f .header) (t .term) in
       absurd (clash (cc))
@@ -184,25 +164,17 @@ module _ (v s : List ℕ) (good : AcceptedFacts v) (f : KeepsForm v s) where
   first-record n t e =
       let p = term-positive n t in
       let fit = subst (λ (l : Line). termFits v s n l ≡ true) (line-first s n e) (f .terms n p (t .within)) in
-      let zeros = unused-first s n e (f .unused n p (t .within)) in
-      record {
-        kind = e;
-        number = eqb-true n 1 (same-true (eqb n 1) (both-left (Bool·beq true (eqb n 1)) true fit));
-        function = zeros .0;
-        inner = zeros .1;
-      }
+      record { kind = e; number = eqb-true n 1 (same-true (eqb n 1) (both-left (Bool·beq true (eqb n 1)) true fit)) }
 
-  applied-record : (n : ℕ) → TermRecord s n → entryAt s n .w0 ≡ 2 → Applied v s n
+  pub applied-record : (n : ℕ) → TermRecord s n → entryAt s n .w0 ≡ 2 → Applied v s n
   applied-record n t e =
       let w1 = entryAt s n .w1 in
       let w2 = entryAt s n .w2 in
       let line = line-applied s n e in
       let fit = subst (λ (l : Line). termFits v s n l ≡ true) line (f .terms n (term-positive n t) (t .within)) in
       let fits = both-right (Bool·beq false (eqb n 1)) (functionFits v s n (applied w1 w2)) fit in
-      let function = both-left (isFunction v w1) (earlierTerm s n w2 && not (repeated s n w1 w2)) fits in
-      let rest = both-right (isFunction v w1) (earlierTerm s n w2 && not (repeated s n w1 w2)) fits in
-      let earlier = both-left (earlierTerm s n w2) (not (repeated s n w1 w2)) rest in
-      let clear = not-true (repeated s n w1 w2) (both-right (earlierTerm s n w2) (not (repeated s n w1 w2)) rest) in
+      let function = both-left (isFunction v w1) (earlierTerm s n w2) fits in
+      let earlier = both-right (isFunction v w1) (earlierTerm s n w2) fits in
       let below = ltb-true w1 (count v)
       (both-left (ltb w1 (count v)) (vocabulary.isRestriction (recordAt v w1 .kind)) function) in
       record {
@@ -212,10 +184,6 @@ module _ (v s : List ℕ) (good : AcceptedFacts v) (f : KeepsForm v s) where
         small = omega (arith, below, good .sized .most);
         earlier = fits-inner n (applied w1 w2) fits;
         inner = earlier-term s n w2 earlier (omega (arith, t .within));
-        alone = λ j h k a b.
-            let at = any-at (repeats s w1 w2) n clear j h in
-            let hit : repeats s w1 w2 j ≡ true = rw (eq-eqb _ 2 k, eq-eqb _ _ a, eq-eqb _ _ b) in
-            clash (cc);
       }
 
   pub term-record : (n : ℕ) → TermRecord s n → First s n ⊎ Applied v s n
@@ -231,83 +199,60 @@ module _ (v s : List ℕ) (good : AcceptedFacts v) (f : KeepsForm v s) where
   pub term-applied : (n : ℕ) → Applied v s n → termAt s n ≡ apply (entryAt s n .w1) (termAt s (entryAt s n .w2))
   term-applied n t = term-eq n ∙ ap (λ (l : Line). termOf l (termAt s)) (line-applied s n (t .kind))
 
-  -- the code of a function at a term record
+  -- the code of a function at the term of a record
   module _ (i n : ℕ) (p : 0 < i) (h : i < functionLimit) (t : TermRecord s n) where
-    pub apply-valid : Valid s (codeOf i n)
-    apply-valid = let e : n ≡ codeOf i n / functionLimit = omega arith in inr (omega arith, subst (TermRecord s) e t)
+    pub apply-valid : Valid s (codeOf i (origin s n))
+    apply-valid =
+        let e : origin s n ≡ codeOf i (origin s n) / functionLimit = omega arith in
+        inr (omega arith, subst (IsOrigin s) e (origin-is s n t))
 
-    pub apply-small : codeOf i n < termLimit
-    apply-small = omega (arith, t .within, f .sized .most)
+    pub apply-small : codeOf i (origin s n) < termLimit
+    apply-small = omega (arith, t .within, origin-least s n t, f .sized .most)
 
-    pub apply-term : codeTerm s (codeOf i n) ≡ apply i (termAt s n)
+    pub apply-term : codeTerm s (codeOf i (origin s n)) ≡ apply i (termAt s n)
     unfolding codeTerm
     apply-term =
-        let low : codeOf i n % functionLimit ≡ i = omega arith in
-        let high : codeOf i n / functionLimit ≡ n = omega arith in
-        rw (low, high, ne-eqb i 0 (λ z. omega arith))
+        let low : codeOf i (origin s n) % functionLimit ≡ i = omega arith in
+        let high : codeOf i (origin s n) / functionLimit ≡ origin s n = omega arith in
+        rw (low, high, ne-eqb i 0 (λ z. omega arith), origin-term s n t)
 
   -- the code of a term record
-  first-code : (n : ℕ) → First s n → codeAt s n ≡ 0
-  first-code n t = rw (t .function, t .inner)
+  pub header-code : codeAt s 0 ≡ 0
+  header-code = ap (lineCode s) header-line
+
+  pub first-code : (n : ℕ) → First s n → codeAt s n ≡ 0
+  first-code n t = ap (lineCode s) (line-first s n (t .kind))
+
+  pub applied-code : (n : ℕ) → Applied v s n → codeAt s n ≡ codeOf (entryAt s n .w1) (origin s (entryAt s n .w2))
+  applied-code n t = ap (lineCode s) (line-applied s n (t .kind))
+
+  -- what is true of 0 and of functions at term records is true of every term record's code
+  code-cases : (P : ℕ → SkolemTerm → Type 0) → P 0 constant
+      → ((i n : ℕ) → 0 < i → i < functionLimit → TermRecord s n → P (codeOf i (origin s n)) (apply i (termAt s n)))
+      → (n : ℕ) → TermRecord s n → P (codeAt s n) (termAt s n)
+  code-cases P none some n t = at (term-record n t)
+    where
+      at : First s n ⊎ Applied v s n → P (codeAt s n) (termAt s n)
+      at (inl r) = rw (first-code n r, term-first n r) none
+      at (inr r) =
+          rw (applied-code n r, term-applied n r)
+          (some (entryAt s n .w1) (entryAt s n .w2) (r .positive) (r .small) (r .inner))
 
   pub code-valid : (n : ℕ) → TermRecord s n → Valid s (codeAt s n)
-  code-valid n t = at (term-record n t)
-    where
-      at : First s n ⊎ Applied v s n → Valid s (codeAt s n)
-      at (inl r) = inl (first-code n r)
-      at (inr r) = apply-valid (entryAt s n .w1) (entryAt s n .w2) (r .positive) (r .small) (r .inner)
+  code-valid n t = code-cases (λ c u. Valid s c) (inl refl) apply-valid n t
 
   pub code-small : (n : ℕ) → TermRecord s n → codeAt s n < termLimit
-  code-small n t = at (term-record n t)
-    where
-      at : First s n ⊎ Applied v s n → codeAt s n < termLimit
-      at (inl r) = omega (arith, first-code n r)
-      at (inr r) = apply-small (entryAt s n .w1) (entryAt s n .w2) (r .positive) (r .small) (r .inner)
+  code-small n t = code-cases (λ c u. c < termLimit) (omega arith) apply-small n t
 
   pub code-term : (n : ℕ) → TermRecord s n → codeTerm s (codeAt s n) ≡ termAt s n
-  code-term n t = at (term-record n t)
-    where
-      at : First s n ⊎ Applied v s n → codeTerm s (codeAt s n) ≡ termAt s n
-      at (inl r) = ap (codeTerm s) (first-code n r) ∙ code-zero s ∙ sym (term-first n r)
-      at (inr r) =
-          apply-term (entryAt s n .w1) (entryAt s n .w2) (r .positive) (r .small) (r .inner) ∙ sym (term-applied n r)
+  code-term n t = code-cases (λ c u. codeTerm s c ≡ u) (code-zero s) apply-term n t
 
-  module _ (n m : ℕ) (e : termAt s n ≡ termAt s m) where
-    -- two terms are one where their parts are
-    apply-unique : Applied v s n → Applied v s m → (termAt s (entryAt s n .w2) ≡ termAt s (entryAt s m .w2)
-        → entryAt s n .w2 ≡ entryAt s m .w2) → n ≡ m
-    apply-unique a b inner =
-        let both = sym (term-applied n a) ∙ e ∙ term-applied m b in
-        let function : entryAt s n .w1 ≡ entryAt s m .w1 = cc in
-        let term : termAt s (entryAt s n .w2) ≡ termAt s (entryAt s m .w2) = cc in
-        at (decLt n m) (decLt m n) function (inner term)
-      where
-        at : Dec (n < m) → Dec (m < n) → entryAt s n .w1 ≡ entryAt s m .w1 → entryAt s n .w2 ≡ entryAt s m .w2 → n ≡ m
-        at (yes h) d p q = absurd (b .alone n h (a .kind) p q)
-        at (no g) (yes h) p q = absurd (a .alone m h (b .kind) (sym p) (sym q))
-        at (no g) (no h) p q = omega arith
-
-    unique-step : First s n ⊎ Applied v s n → First s m ⊎ Applied v s m
-        → ((i j : ℕ) → i < n → TermRecord s i → TermRecord s j → termAt s i ≡ termAt s j → i ≡ j) → n ≡ m
-    unique-step (inl a) (inl b) h = a .number ∙ sym (b .number)
-    unique-step (inl a) (inr b) h = let z = sym (term-first n a) ∙ e ∙ term-applied m b in absurd (clash (cc))
-    unique-step (inr a) (inl b) h = let z = sym (term-applied n a) ∙ e ∙ term-first m b in absurd (clash (cc))
-    unique-step (inr a) (inr b) h = apply-unique a b (h (entryAt s n .w2) (entryAt s m .w2) (a .earlier) (a .inner) (b .inner))
-
-  unique-below : (k n m : ℕ) → n < k → TermRecord s n → TermRecord s m → termAt s n ≡ termAt s m → n ≡ m
-  unique-below zero n m h t u e = absurd (omega arith)
-  unique-below (suc k) n m h t u e =
-      unique-step n m e (term-record n t) (term-record m u) (λ i j l. unique-below k i j (omega arith))
-
-  pub term-unique : (n m : ℕ) → TermRecord s n → TermRecord s m → termAt s n ≡ termAt s m → n ≡ m
-  term-unique n m = unique-below (suc n) n m (omega arith)
-
-  -- a code that is not 0 is that of a function at a term record
+  -- a code that is not 0 is that of a function at an origin
   code-apply : (c : ℕ) → 0 < c % functionLimit → codeTerm s c ≡ apply (c % functionLimit) (termAt s (c / functionLimit))
   unfolding codeTerm
   code-apply c p = rw (ne-eqb (c % functionLimit) 0 (λ z. omega arith))
 
-  code-unique : (c d : ℕ) → Valid s c → Valid s d → codeTerm s c ≡ codeTerm s d → c ≡ d
+  pub code-unique : (c d : ℕ) → Valid s c → Valid s d → codeTerm s c ≡ codeTerm s d → c ≡ d
   code-unique c d (inl a) (inl b) e = a ∙ sym b
   code-unique c d (inl a) (inr b) e =
       let z = sym (code-zero s) ∙ ap (codeTerm s) (sym a) ∙ e ∙ code-apply d (b .0) in
@@ -319,7 +264,7 @@ module _ (v s : List ℕ) (good : AcceptedFacts v) (f : KeepsForm v s) where
       let both = sym (code-apply c (a .0)) ∙ e ∙ code-apply d (b .0) in
       let function : c % functionLimit ≡ d % functionLimit = cc in
       let term : termAt s (c / functionLimit) ≡ termAt s (d / functionLimit) = cc in
-      let inner = term-unique (c / functionLimit) (d / functionLimit) (a .1) (b .1) term in
+      let inner = sym (a .1 .first) ∙ origin-same s (c / functionLimit) (d / functionLimit) term ∙ b .1 .first in
       omega arith
 
   pub code-same : (c d : ℕ) → Valid s c → Valid s d → sameTerm (codeTerm s c) (codeTerm s d) ≡ eqb c d

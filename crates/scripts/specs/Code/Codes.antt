@@ -1,20 +1,45 @@
 -- What the code computes with: terms as numbers.
-use Prim.Native.Nat.{ℕ, _+_, _*_, _/_, _%_}
-use mathlib.Core.Bool.{Bool, cond, not, _&&_}
+use Prim.Native.Nat.{ℕ, _+_, _*_, _/_, _%_, _<_}
+use mathlib.Core.Path.{_≡_}
+use mathlib.Core.Bool.{Bool, true, cond, not, _&&_}
 use mathlib.Core.List.{List}
 use lib.Dec.{eqb}
-use Rattle.columns.specs.Literals.{SkolemTerm, constant, apply}
-use Rattle.scripts.specs.Format.{entryAt, termAt}
+use Rattle.records.specs.Finite.{least}
+use Rattle.columns.specs.Literals.{SkolemTerm, constant, apply, sameTerm}
+use Rattle.scripts.specs.Format.{entryAt, entries, isTerm, Line, blank, theConstant, applied, step, lineAt, termAt}
 
--- The function below functionLimit, the record of the inner term above it; 0 is the constant.
+-- Record n is a term's.
+pub record TermRecord (s : List ℕ) (n : ℕ) : Type 0 where
+  pub within : n < entries s
+  pub term : isTerm (entryAt s n .w0) ≡ true
+
+abbrev pub isRecordOf : List ℕ → SkolemTerm → ℕ → Bool
+isRecordOf s t j = isTerm (entryAt s j .w0) && sameTerm (termAt s j) t
+
+-- The first record of the same term. One bound for all n, so that equal terms have one origin.
+unfoldable pub origin : List ℕ → ℕ → ℕ
+origin s n = least (isRecordOf s (termAt s n)) (entries s)
+
+pub record IsOrigin (s : List ℕ) (n : ℕ) : Type 0 where
+  pub term : TermRecord s n
+  pub first : origin s n ≡ n
+
+-- The function below functionLimit, the origin of the inner term above it.
 abbrev pub functionLimit : ℕ
 functionLimit = 512
 
 abbrev pub codeOf : ℕ → ℕ → ℕ
 codeOf f t = f + functionLimit * t
 
+-- The code of what a record says; 0 is the constant.
+abbrev pub lineCode : List ℕ → Line → ℕ
+lineCode s blank = 0
+lineCode s theConstant = 0
+lineCode s (applied f t) = codeOf f (origin s t)
+lineCode s (step t) = 0
+
 abbrev pub codeAt : List ℕ → ℕ → ℕ
-codeAt s n = codeOf (entryAt s n .w1) (entryAt s n .w2)
+codeAt s n = lineCode s (lineAt s n)
 
 unfoldable pub codeTerm : List ℕ → ℕ → SkolemTerm
 codeTerm s c = cond (eqb (c % functionLimit) 0) constant (apply (c % functionLimit) (termAt s (c / functionLimit)))

@@ -1,5 +1,5 @@
 -- What the code computes with: the run of Run where terms are record numbers and literals are numbers.
-use Prim.Native.Nat.{ℕ, zero, suc}
+use Prim.Native.Nat.{ℕ}
 use mathlib.Core.Bool.{false}
 use mathlib.Core.List.{List}
 use Rattle.columns.specs.Literals.{concept}
@@ -8,17 +8,12 @@ use Rattle.columns.specs.Code.Packed.{packed, packedAt}
 use Rattle.scripts.specs.Steps.{Extension}
 use Rattle.scripts.specs.Format.{queryOf}
 use Rattle.scripts.specs.Run.{Setting}
-use Rattle.scripts.specs.Code.Codes.{codeOf, codeAt, opposed}
+use Rattle.scripts.specs.Code.Codes.{origin, codeOf, codeAt, opposed}
 
--- The code of the term for y; 0 where no y stands.
-abbrev pub secondCode : List ℕ → ℕ → ℕ
-secondCode s zero = 0
-secondCode s (suc n) = codeAt s (suc n)
-
--- The column that an extension uses, at its terms.
+-- The column that an extension uses, at its terms. The code of the header, which stands where there is no y, is 0.
 abbrev pub usedNumbers : List ℕ → List ℕ → Extension ℕ → List ℕ
 usedNumbers v s e =
-    packedAt (codeAt s (e .first)) (secondCode s (e .second)) (codeOf (e .owner) (e .first))
+    packedAt (codeAt s (e .first)) (codeAt s (e .second)) (codeOf (e .owner) (origin s (e .first)))
     (columnAt v (queryOf s) (e .owner) (e .column))
 
 -- A start's column.

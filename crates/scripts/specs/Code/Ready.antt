@@ -7,6 +7,7 @@ use mathlib.Core.List.{List}
 use mathlib.Core.Logic.{_⊎_}
 use lib.ListN.{length}
 use Rattle.records.specs.Outcome.{pass}
+use Rattle.records.specs.Check.{IsAccepted}
 use Rattle.columns.specs.Code.Packed.{Marked}
 use Rattle.scripts.specs.Format.{entrySize, entryAt, entries, isStep}
 use Rattle.scripts.specs.Form.{lengthCheck, formCheck}
@@ -27,6 +28,12 @@ pub record Begun (v s : List ℕ) (marks : List Bool) (header : Entry) : Type 0 
 pub record Ready (v s : List ℕ) (marks : List Bool) (header : Entry) : Type 0 where
   pub begun : Begun v s marks header
   pub form : formCheck v s ≡ pass
+
+-- A script that keeps the form over some accepted vocabulary.
+pub record Formed (s : List ℕ) : Type 0 where
+  pub vocabulary : List ℕ
+  pub accepted : IsAccepted vocabulary
+  pub form : formCheck vocabulary s ≡ pass
 
 -- Record i is a step; a walk along the chain stands at one, or at its end.
 pub record IsStep (s : List ℕ) (i : ℕ) : Type 0 where

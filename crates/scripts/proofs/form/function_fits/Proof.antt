@@ -1,7 +1,6 @@
 -- `scripts::form::function_fits` meets its contract. At each return the tests that led there say what the conjunction is.
 -- Assumes nothing.
-use mathlib.Core.Path.{_≡_, sym, ap, _∙_}
-use mathlib.Core.Bool.{not}
+use mathlib.Core.Path.{_≡_, sym, _∙_}
 use denote.Ref.{now}
 use borrow.Author.Needs.{needs}
 use Rattle.records.proofs.Laws.Tests.{both-first-false, both-first-true}
@@ -29,18 +28,8 @@ returns-2 c = both-first-false _ _ _ (c .before .is-function .ensures) (c .if2 .
 
 returns-3 : tie.Need-returns-3
 returns-3 c =
-    both-first-true _ _ _ _ (c .before .before .before .is-function .ensures) (c .before .before .if2 .left)
-    (both-first-false _ _ _ (c .before .is-earlier-term .ensures) (c .if3 .taken))
-    ∙ applies (c .before .before .before .before)
-
-returns-4 : tie.Need-returns-4
-returns-4 c =
-    both-first-true _ _ _ _ (c .before .before .before .before .is-function .ensures) (c .before .before .before .if2 .left)
-    (both-first-true _ _ _ _ (c .before .before .is-earlier-term .ensures) (c .before .if3 .left)
-    (ap not (c .is-repeated .ensures)))
-    ∙ applies (c .before .before .before .before .before)
+    both-first-true _ _ _ _ (c .before .before .is-function .ensures) (c .before .if2 .left) (c .is-earlier-term .ensures)
+    ∙ applies (c .before .before .before)
 
 pub function-fits-spec : {M : Type 1} → statement M
-function-fits-spec =
-    tie.close
-    (tie.spec returns (λ c κs. search needs) returns-2 (λ c κs. search needs) returns-3 (λ c κs. search needs) returns-4)
+function-fits-spec = tie.close (tie.spec returns (λ c κs. search needs) returns-2 (λ c κs. search needs) returns-3)

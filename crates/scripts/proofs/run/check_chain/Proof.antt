@@ -72,8 +72,8 @@ returns-2 c =
     chain-other (now (b .args .v)) (now (b .args .s)) (form b) _ (first-at b) (first (e .before)) _ (e .read-entry .ensures)
     _ _ _ _ (c .before .enum-told4 .given .1) (p .pass-if2 .ensures) (c .judge-after2 .ensures)
 
-run-steps-requires : tie.Need-run-steps-requires
-run-steps-requires c κs =
+run-chain-requires : tie.Need-run-chain-requires
+run-chain-requires c κs =
     let g = c .before in
     let e = begun g in
     let b = start (e .before) in
@@ -89,7 +89,7 @@ returns-3 c =
     let g = c .before .before in
     let e = begun g in
     let b = start (e .before) in
-    c .run-steps .ensures
+    c .run-chain .ensures
     ∙ chain-started (now (b .args .v)) (now (b .args .s)) (form b) _ (first-at b) (first (e .before)) _
     (e .read-entry .ensures) (literals (q .result))
     (start-column (now (b .args .v)) (now (b .args .s)) (b .args .header) (b .pre .begun .read) (e .read-entry .result .w1)
@@ -101,4 +101,4 @@ check-chain-spec =
     tie.close
     (tie.spec (λ c. search needs) (λ c κs. search needs) (λ c. search needs) (λ c. search needs) (λ c κs. search needs)
     returns read-entry-requires (λ c κs. search needs) (λ c. search needs) (λ c. search needs) (λ c κs. search needs)
-    returns-2 (λ c κs. search needs) run-steps-requires returns-3)
+    returns-2 (λ c κs. search needs) run-chain-requires returns-3)

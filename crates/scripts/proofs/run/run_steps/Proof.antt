@@ -23,16 +23,16 @@ use Rattle.scripts.proofs.run.run_steps.Statement.{statement}
 use Rattle.scripts.proofs.run.run_steps.Tie as tie
 
 abbrev Inv-loop : tie.InvT-loop
-Inv-loop v marks s header first table₀ state₀ last₀ at₀ steps₀ table state last at steps =
+Inv-loop v marks s terms header first table₀ state₀ last₀ at₀ steps₀ table state last at steps =
     Walk v s (runAfter v s (framesOf table₀ state₀) first) (framesOf table state) last at steps
     × Standing table (state .closed) (state .depth)
 
 abbrev μ-loop : tie.MeasureT-loop
-μ-loop v marks s header first table₀ state₀ last₀ at₀ steps₀ table state last at steps = left (entries s) at
+μ-loop v marks s terms header first table₀ state₀ last₀ at₀ steps₀ table state last at steps = left (entries s) at
 
 -- Places: the start, after the machine was started, in the loop, after the step was tested, where it passed, after it was read.
 abbrev start : tie.After-start Inv-loop μ-loop → tie.Start Inv-loop μ-loop
-start c = c .before .before .before .before .before .before
+start c = c .before .before .before .before .before .before .before
 
 abbrev started : tie.At-loop Inv-loop μ-loop → tie.After-start Inv-loop μ-loop
 started c = c .before .before .before
@@ -65,16 +65,16 @@ empty-requires c κs = tt
 start-requires : tie.Need-start-requires Inv-loop μ-loop
 start-requires c κs =
     let t = c .before .before in
-    (c .before .empty .ensures, (t .empty-table .ensures, t .before .before .before .pre .1 .1))
+    (c .before .empty .ensures, (t .empty-table .ensures, t .before .before .before .before .pre .1 .1 .1))
 
 read-entry-requires : tie.Need-read-entry-requires Inv-loop μ-loop
-read-entry-requires c κs = omega (arith, start c .pre .1 .0 .within)
+read-entry-requires c κs = omega (arith, start c .pre .1 .1 .0 .within)
 
 loop-holds : tie.Need-loop-holds Inv-loop μ-loop
 loop-holds c =
     let m = c .before .before in
     let b = start m in (
-      walk-start (now (b .args .v)) (now (b .args .s)) (form b) _ _ _ _ (b .pre .1 .0) refl
+      walk-start (now (b .args .v)) (now (b .args .s)) (form b) _ _ _ _ (b .pre .1 .1 .0) refl
           (ap (λ (x : Entry). x .w7) (c .before .read-entry .ensures)),
       m .start .ensures .standing,
     )
@@ -82,7 +82,7 @@ loop-holds c =
 test-step-requires : tie.Need-test-step-requires Inv-loop μ-loop
 test-step-requires c κs =
     let w = c .before .before .before in
-    (begun w .pre .0, (here w, w .before .loop .inv .1))
+    (begun w .pre .0, (begun w .pre .1 .0, (here w, w .before .loop .inv .1)))
 
 judge-after-requires : tie.Need-judge-after-requires Inv-loop μ-loop
 judge-after-requires c κs = tt

@@ -27,7 +27,7 @@ use Rattle.scripts.proofs.run.test_extension.Tie as tie
 
 -- Places: the start, after the column was found, after row 21 was tried.
 abbrev start : tie.After-used-column → tie.Start
-start c = c .before .before .before
+start c = c .before .before .before .before
 
 abbrev found : tie.After-pass-if → tie.After-used-column
 found c = c .before .before .before .before
@@ -50,14 +50,14 @@ row23 c =
     require (isNil (remainderIn (numbered (now (a .v)) (now (a .s))) (named c)) || ltb (a .depth) frameLimit) 23 (a .i)
 
 used-column-requires : tie.Need-used-column-requires
-used-column-requires c κs = let p = c .before .before .pre in (p .0, p .1)
+used-column-requires c κs = c .before .before .before .pre
 
 -- the column has the position
 placed : (c : tie.After-used-column) → start c .args .e .w5 < length (literals (c .used-column .result))
 placed c =
     let b = start c in
     let e = b .args .e in
-    let x = read-extends _ _ _ _ (b .pre .0) (b .args .i) e (b .pre .1) in
+    let x = read-extends _ _ _ _ (b .pre .0) (b .args .i) e (b .pre .1 .1) in
     rw (c .used-column .ensures, length-map (columnAt (now (b .args .v)) (queryOf (now (b .args .s))) (e .w1) (e .w2)) _)
     (x .position)
 

@@ -36,7 +36,7 @@ four-five a b e h k = omega arith
 
 -- Places: the start, after row 25 was tried, where a frame is open, after the record was read, after the goal was found.
 abbrev start : tie.After-pass-if → tie.Start
-start c = c .before .before .before
+start c = c .before .before .before .before
 
 abbrev tried : tie.After-enum-told → tie.After-pass-if
 tried c = c .before .before
@@ -76,19 +76,19 @@ returns c =
     }
 
 read-entry-requires : tie.Need-read-entry-requires
-read-entry-requires c κs = omega (arith, start (tried c) .pre .1 .0 .within)
+read-entry-requires c κs = omega (arith, start (tried c) .pre .1 .1 .0 .within)
 
 sub-last : tie.Need-sub-last
 sub-last c = omega (arith, positive (c .before))
 
 element-copy-out-goal-at : tie.Need-element-copy-out-goal-at
-element-copy-out-goal-at c = omega (arith, positive (c .before), start (tried (c .before)) .pre .1 .1 .deep)
+element-copy-out-goal-at c = omega (arith, positive (c .before), start (tried (c .before)) .pre .1 .1 .1 .deep)
 
 goal-at-requires : tie.Need-goal-at-requires
 goal-at-requires c κs =
     let o = c .before .before in
     let b = start (tried o) in
-    (omega (arith, positive o, b .pre .1 .1 .deep), b .pre .1 .1 .goals (b .args .depth - 1) (omega (arith, positive o)))
+    (omega (arith, positive o, b .pre .1 .1 .1 .deep), b .pre .1 .1 .1 .goals (b .args .depth - 1) (omega (arith, positive o)))
 
 -- the goal is that of the frames
 aimed : (c : tie.After-goal-at)
@@ -105,10 +105,10 @@ many b = sym (frames-length (now (b .args .table)) (now (b .args .closed)) (b .a
 test-extension-requires : tie.Need-test-extension-requires
 test-extension-requires c κs =
     let b = begun (c .before) in
-    (b .pre .0, record { step = b .pre .1 .0; read = read (c .before) .read-entry .ensures; kind = c .match2 .keys1 })
+    (b .pre .0, (b .pre .1 .0, record { step = b .pre .1 .1 .0; read = read (c .before) .read-entry .ensures; kind = c .match2 .keys1 }))
 
 can-reduce-requires : tie.Need-can-reduce-requires
-can-reduce-requires c κs = begun (c .before) .pre .1 .1
+can-reduce-requires c κs = begun (c .before) .pre .1 .1 .1
 
 returns-2 : tie.Need-returns-2
 returns-2 c =

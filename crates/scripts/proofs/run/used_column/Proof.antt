@@ -1,36 +1,35 @@
 -- `scripts::run::used_column` meets its contract. Row 18 tells that the extension's terms are records, and its owner small.
 -- Assumes nothing.
-use Prim.Native.Nat.{ℕ, _≤_, _<_}
+use Prim.Native.Nat.{ℕ, _<_}
 use native.Mathlib.Omega.{arith}
-use mathlib.Core.Path.{_≡_, _∙_}
+use mathlib.Core.Path.{_≡_, ap, _∙_}
 use mathlib.Core.List.{List}
 use mathlib.Core.Logic.{_⊎_, inl, inr}
-use lib.ListN.{length}
 use denote.Ref.{now}
 use borrow.Author.Needs.{needs}
 use Rattle.records.proofs.Theorems.Accepted.{AcceptedFacts, accepted-vocabulary}
 use Rattle.columns.specs.Columns.{columnAt}
-use Rattle.columns.specs.Code.Packed.{packedAt, termLimit}
+use Rattle.columns.specs.Code.Packed.{packedAt}
 use Rattle.scripts.specs.Steps.{Extension}
-use Rattle.scripts.specs.Format.{entrySize, entryAt, queryIn, extensionOf}
-use Rattle.scripts.specs.Code.Codes.{codeOf, codeAt}
-use Rattle.scripts.specs.Code.Numbered.{secondCode, usedNumbers}
-use Rattle.scripts.specs.Code.Ready.{HasEntry}
+use Rattle.scripts.specs.Format.{entryAt, entries, queryIn, extensionOf}
+use Rattle.scripts.specs.Code.Codes.{TermRecord, origin, codeOf, codeAt}
+use Rattle.scripts.specs.Code.Numbered.{usedNumbers}
 use Rattle.scripts.specs.declared.entry.Entry.{Entry}
 use Rattle.scripts.proofs.Theorems.Form.{KeepsForm, keeps-form}
-use Rattle.scripts.proofs.Refinement.Terms.{TermRecord}
+use Rattle.scripts.proofs.Refinement.Origins.{origin-least}
 use Rattle.scripts.proofs.Refinement.Extensions.{Extends, read-extends, term-coded, second-coded}
+use Rattle.scripts.proofs.Invariants.Indexing.{number-code, number-second, number-origin}
 use Rattle.scripts.proofs.run.used_column.Statement.{statement}
 use Rattle.scripts.proofs.run.used_column.Tie as tie
 
--- the term for y, or the header in its place, can be read
-second-within : (s : List ℕ) (n : ℕ) → (n ≡ 0) ⊎ TermRecord s n → entrySize ≤ length s → HasEntry s n
-second-within s n (inl z) h = rw z h
-second-within s n (inr t) h = omega (arith, t .within)
+-- the term for y, or the header in its place, is in the table
+second-within : (s : List ℕ) (n : ℕ) → (n ≡ 0) ⊎ TermRecord s n → 1 < entries s → n < entries s
+second-within s n (inl z) h = omega arith
+second-within s n (inr t) h = t .within
 
 -- the column at the codes that were found
 used-as : (v s : List ℕ) (h : Entry) (e : Extension ℕ) (cx cy cf : ℕ) → h ≡ entryAt s 0 → cx ≡ codeAt s (e .first)
-    → cy ≡ secondCode s (e .second) → cf ≡ codeOf (e .owner) (e .first)
+    → cy ≡ codeAt s (e .second) → cf ≡ codeOf (e .owner) (origin s (e .first))
     → packedAt cx cy cf (columnAt v (queryIn h) (e .owner) (e .column)) ≡ usedNumbers v s e
 used-as v s h e cx cy cf r p q i = rw (r, p, q, i)
 
@@ -42,48 +41,85 @@ form c = keeps-form _ _ (c .pre .0 .form)
 
 -- what row 18 tells
 extends : (c : tie.Start) → Extends (now (c .args .v)) (now (c .args .s)) (extensionOf (c .args .e))
-extends c = read-extends _ _ _ _ (c .pre .0) (c .args .i) (c .args .e) (c .pre .1)
+extends c = read-extends _ _ _ _ (c .pre .0) (c .args .i) (c .args .e) (c .pre .1 .1)
 
-term-code-requires : tie.Need-term-code-requires
-term-code-requires c κs = omega (arith, extends (c .before .before) .first .within)
+-- Places: the start, from where the code of x, the code of y and the origin of x were found.
+abbrev at-x : tie.After-code-in → tie.Start
+at-x c = c .before .before .before .before .before
 
-second-code-requires : tie.Need-second-code-requires
-second-code-requires c κs =
-    let b = c .before .before .before in second-within _ _ (extends b .second) (form b .sized .least)
+abbrev at-y : tie.After-code-in2 → tie.Start
+at-y c = at-x (c .before .before)
 
--- the codes of the two terms
-first-small : (c : tie.After-term-code) → c .term-code .result < termLimit
-first-small c =
-    let b = c .before .before .before in
-    rw (c .term-code .ensures) (term-coded _ _ (good b) (form b) _ (extends b .first) .code .0)
+abbrev at-fx : tie.After-origin-in → tie.Start
+at-fx c = at-y (c .before .before)
 
-second-small : (c : tie.After-second-code) → c .second-code .result < termLimit
-second-small c =
+code-in-requires : tie.Need-code-in-requires
+code-in-requires c κs =
     let b = c .before .before .before .before in
-    rw (c .second-code .ensures) (second-coded _ _ (good b) (form b) _ (extends b .second) .code .0)
+    omega (arith, extends b .first .within, b .pre .1 .0 .size)
+
+code-in-requires-2 : tie.Need-code-in-requires-2
+code-in-requires-2 c κs =
+    let b = at-x (c .before) in
+    omega (arith, second-within _ _ (extends b .second) (form b .present), b .pre .1 .0 .size)
+
+origin-in-requires : tie.Need-origin-in-requires
+origin-in-requires c κs =
+    let b = at-y (c .before) in
+    omega (arith, extends b .first .within, b .pre .1 .0 .size)
+
+-- the codes of the two terms, and the origin of the first
+first-code : (c : tie.After-code-in) → c .code-in .result ≡ codeAt (now (at-x c .args .s)) (at-x c .args .e .w3)
+first-code c =
+    let b = at-x c in
+    let x = extends b .first in
+    c .code-in .ensures ∙ number-code _ _ (good b) (form b) _ _ (b .pre .1 .0) _ (x .within) x
+
+second-code : (c : tie.After-code-in2) → c .code-in2 .result ≡ codeAt (now (at-y c .args .s)) (at-y c .args .e .w4)
+second-code c =
+    let b = at-y c in
+    c .code-in2 .ensures ∙ number-second _ _ (good b) (form b) _ (b .pre .1 .0) _ (extends b .second)
+
+first-origin : (c : tie.After-origin-in) → c .origin-in .result ≡ origin (now (at-fx c .args .s)) (at-fx c .args .e .w3)
+first-origin c =
+    let b = at-fx c in
+    let x = extends b .first in
+    c .origin-in .ensures ∙ number-origin _ _ (good b) (form b) _ _ (b .pre .1 .0) _ (x .within) x
+
+origin-before : (c : tie.After-origin-in) → c .origin-in .result < entries (now (at-fx c .args .s))
+origin-before c =
+    let x = extends (at-fx c) .first in
+    omega (arith, first-origin c, origin-least _ _ x, x .within)
+
+code-of-requires : tie.Need-code-of-requires
+code-of-requires c κs = omega (arith, origin-before c, form (at-fx c) .sized .most)
 
 find-column-requires : tie.Need-find-column-requires
 find-column-requires c κs =
-    let y = c .before in
-    let b = y .before .before .before .before in
+    let o = c .before in
+    let y = o .before .before in
+    let b = at-fx o in
     let x = extends b in (
       b .pre .0 .begun .marked,
       record {
-        first = first-small (y .before);
-        second = second-small y;
-        inner = omega (arith, c .code-of .ensures, x .small, x .first .within, form b .sized .most);
+        first = rw (first-code (y .before .before)) (term-coded _ _ (good b) (form b) _ (x .first) .code .0);
+        second = rw (second-code y) (second-coded _ _ (good b) (form b) _ (x .second) .code .0);
+        inner = omega (arith, c .code-of .ensures, x .small, origin-before o, form b .sized .most);
       },
     )
 
 returns : tie.Need-returns
 returns c =
-    let y = c .before .before in
-    let b = y .before .before .before .before in
+    let o = c .before .before in
+    let y = o .before .before in
+    let b = at-fx o in
     c .find-column .ensures
     ∙ used-as (now (b .args .v)) (now (b .args .s)) (b .args .header) (extensionOf (b .args .e)) _ _ _
-    (b .pre .0 .begun .read) (y .before .term-code .ensures) (y .second-code .ensures) (c .before .code-of .ensures)
+    (b .pre .0 .begun .read) (first-code (y .before .before)) (second-code y)
+    (c .before .code-of .ensures ∙ ap (codeOf (b .args .e .w1)) (first-origin o))
 
 pub used-column-spec : {M : Type 1} → statement M
 used-column-spec =
     tie.close
-    (tie.spec term-code-requires second-code-requires (λ c κs. search needs) find-column-requires returns)
+    (tie.spec (λ c. search needs) code-in-requires (λ c. search needs) code-in-requires-2 (λ c. search needs) origin-in-requires
+    code-of-requires find-column-requires returns)

@@ -1,0 +1,278 @@
+-- The index of terms, record by record.
+--   number-code, number-origin     what a number of the table tells of its term
+--   table-next, table-end          the table of numbers, one record further; all records
+--   index-start                    no record but the constant's is numbered
+--   index-other, index-known       a record that is no function term; one whose term has an origin
+--   index-new, index-entered       one that is an origin; one that was entered
+-- Assumes nothing.
+use Prim.Native.Nat.{ℕ, zero, suc, _+_, _*_, _/_, _%_, _≤_, _<_}
+use native.Mathlib.Omega.{arith}
+use native.Mathlib.Decide.{ℕ-discrete}
+use mathlib.Core.Path.{_≡_, refl, sym, ap, subst, _∙_}
+use mathlib.Core.List.{List}
+use mathlib.Core.Logic.{_⊎_, inl, inr}
+use lib.ListN.{length, getD, set, length-set}
+use lib.Seq.{getD-set-same, getD-set-other}
+use Rattle.records.proofs.Laws.Filling.{set-each}
+use Rattle.records.proofs.Theorems.Accepted.{AcceptedFacts}
+use Rattle.columns.specs.Code.Packed.{termLimit}
+use Rattle.scripts.specs.Format.{entryAt, entries, termAt}
+use Rattle.scripts.specs.Code.Codes.{TermRecord, origin, IsOrigin, functionLimit, codeOf, codeAt, codeTerm}
+use Rattle.scripts.specs.Code.Index.{numberOf, codeIn, originIn, NumberedBelow, AllNumbered, linkCount, linked, Rising, Met}
+use Rattle.scripts.specs.Code.Index.{Found, Entered, known, new, IndexedBelow}
+use Rattle.scripts.specs.declared.entry.Entry.{Entry}
+use Rattle.scripts.proofs.Laws.SearchTree.{ended-code, came-over, way-within, found-none, kept-met, new-met}
+use Rattle.scripts.proofs.Theorems.Form.{KeepsForm}
+use Rattle.scripts.proofs.Refinement.Origins.{origin-least, origin-is, origin-of, origin-own}
+use Rattle.scripts.proofs.Refinement.Terms.{First, Applied, term-record, applied-record, code-valid, code-small, code-term}
+use Rattle.scripts.proofs.Refinement.Terms.{term-positive, header-code, first-code, applied-code, code-unique}
+
+-- the origin of a record that was entered does not come after it
+pub entered-before : (s links terms : List ℕ) (code i : ℕ) → IndexedBelow s links terms i → (after : List ℕ) (first : ℕ)
+    → Entered links terms code i after first → first ≤ i
+entered-before s links terms code i x after first (known slot found p) = omega (arith, x .before slot p)
+entered-before s links terms code i x after first (new slot found e) = omega arith
+
+module _ (v s : List ℕ) (good : AcceptedFacts v) (f : KeepsForm v s) where
+  -- what the table tells of a term record
+  module _ (terms : List ℕ) (i : ℕ) (t : NumberedBelow s terms i) (n : ℕ) (h : n < i) (r : TermRecord s n) where
+    pub number-code : codeIn terms n ≡ codeAt s n
+    number-code = rw (t .numbers n h r) (omega (arith, code-small v s good f n r))
+
+    pub number-origin : originIn terms n ≡ origin s n
+    number-origin = rw (t .numbers n h r) (omega (arith, code-small v s good f n r))
+
+  -- of the term for y: no number stands at the header
+  pub number-second : (terms : List ℕ) → AllNumbered s terms → (n : ℕ) → (n ≡ 0) ⊎ TermRecord s n → codeIn terms n ≡ codeAt s n
+  number-second terms t n (inl e) = rw (e, t .header, header-code v s good f)
+  number-second terms t n (inr r) = number-code terms (entries s) t n (r .within) r
+
+  -- equal terms have equal codes, and the other way round
+  terms-coded : (n m : ℕ) → TermRecord s n → TermRecord s m → termAt s n ≡ termAt s m → codeAt s n ≡ codeAt s m
+  terms-coded n m t u e =
+      code-unique v s good f (codeAt s n) (codeAt s m) (code-valid v s good f n t) (code-valid v s good f m u)
+      (code-term v s good f n t ∙ e ∙ sym (code-term v s good f m u))
+
+  codes-termed : (n m : ℕ) → TermRecord s n → TermRecord s m → codeAt s n ≡ codeAt s m → termAt s n ≡ termAt s m
+  codes-termed n m t u e =
+      sym (code-term v s good f n t) ∙ ap (codeTerm s) e ∙ code-term v s good f m u
+
+  -- a function term that was read: o is what the table has for its inner term, c its code from that
+  module _ (terms : List ℕ) (i : ℕ) (t : NumberedBelow s terms i) (within : i < entries s) (e : Entry) (read : e ≡ entryAt s i)
+      (kind : e .w0 ≡ 2) where
+    pub read-kind : entryAt s i .w0 ≡ 2
+    read-kind = sym (ap (λ (y : Entry). y .w0) read) ∙ kind
+
+    pub read-term : TermRecord s i
+    read-term = record { within = within; term = rw read-kind }
+
+    read-applied : Applied v s i
+    read-applied = applied-record v s good f i read-term read-kind
+
+    pub inner-before : e .w2 < i
+    inner-before = rw read (read-applied .earlier)
+
+    module _ (o : ℕ) (told : o ≡ originIn terms (e .w2)) where
+      inner-origin : o ≡ origin s (entryAt s i .w2)
+      inner-origin =
+          told ∙ rw read (number-origin terms i t (entryAt s i .w2) (read-applied .earlier) (read-applied .inner))
+
+      pub inner-small : o < i
+      inner-small =
+          omega (arith, inner-origin, origin-least s (entryAt s i .w2) (read-applied .inner), read-applied .earlier)
+
+      module _ (c : ℕ) (made : c ≡ codeOf (e .w1) o) where
+        pub read-code : c ≡ codeAt s i
+        read-code = made ∙ rw (read, inner-origin) (sym (applied-code v s good f i read-applied))
+
+        pub code-inner : c / functionLimit < i
+        code-inner =
+            let small : e .w1 < functionLimit = rw read (read-applied .small) in
+            omega (arith, made, small, inner-small)
+
+  module _ (links terms : List ℕ) (i : ℕ) (x : IndexedBelow s links terms i) (later : 1 < i) where
+    -- a record that is no function term is none
+    pub index-other : (entryAt s i .w0 ≡ 2 → ⊥) → IndexedBelow s links terms (i + 1)
+    index-other other =
+        record {
+          table = record {
+            size = x .table .size;
+            header = x .table .header;
+            numbers = λ n h t. numbers n t (ℕ-discrete n i) h;
+          };
+          rising = x .rising;
+          before = λ slot p. omega (arith, x .before slot p);
+          nodes = x .nodes;
+          met = λ n h k o. met n k o (ℕ-discrete n i) h;
+        }
+      where
+        none : TermRecord s i → ⊥
+        none t = at (term-record v s good f i t)
+          where
+            at : First s i ⊎ Applied v s i → ⊥
+            at (inl a) = omega (arith, a .number)
+            at (inr a) = other (a .kind)
+
+        numbers : (n : ℕ) → TermRecord s n → Dec (n ≡ i) → n < i + 1 → getD terms n 0 ≡ numberOf (codeAt s n) (origin s n)
+        numbers n t (yes e) h = absurd (none (subst (TermRecord s) e t))
+        numbers n t (no d) h = x .table .numbers n (omega arith) t
+
+        met : (n : ℕ) → entryAt s n .w0 ≡ 2 → IsOrigin s n → Dec (n ≡ i) → n < i + 1 → Met links (codeAt s n) n
+        met n k o (yes e) h = absurd (other (subst (λ (j : ℕ). entryAt s j .w0 ≡ 2) e k))
+        met n k o (no d) h = x .met n (omega arith) k o
+
+    -- record i is a function term, of that code
+    module _ (code : ℕ) (t : TermRecord s i) (c : code ≡ codeAt s i) where
+      -- the table, once the record's number is in it
+      numbered : (j : ℕ) → origin s i ≡ j → NumberedBelow s (set terms i (numberOf code j)) (i + 1)
+      numbered j e =
+          record {
+            size = rw (length-set terms i (numberOf code j)) (x .table .size);
+            header = getD-set-other terms i 0 (numberOf code j) 0 (λ z. omega arith) ∙ x .table .header;
+            numbers = λ n h u. at n u (ℕ-discrete n i) h;
+          }
+        where
+          at : (n : ℕ) → TermRecord s n → Dec (n ≡ i) → n < i + 1
+              → getD (set terms i (numberOf code j)) n 0 ≡ numberOf (codeAt s n) (origin s n)
+          at n u (yes q) h =
+              rw (q, getD-set-same terms i (numberOf code j) 0 (omega (arith, t .within, x .table .size)), c, e) refl
+          at n u (no d) h = getD-set-other terms i n (numberOf code j) 0 d ∙ x .table .numbers n (omega arith) u
+
+      rising-table : (number : ℕ) → Rising links (set terms i number)
+      rising-table number =
+          let same = length-set terms i number in
+          record {
+            size = rw same (x .rising .size);
+            later = x .rising .later;
+            within = λ slot p. rw same (x .rising .within slot p);
+          }
+
+      -- the search ended at a record
+      known-origin : (slot : ℕ) → Found links terms code slot → 0 < linked links slot → origin s i ≡ linked links slot
+      known-origin slot found p =
+          let j = linked links slot in
+          let o = x .nodes slot p in
+          let same = ended-code links terms code slot (found .ended) p in
+          let own = number-code terms i (x .table) j (x .before slot p) (o .term) in
+          origin-of s j i o (codes-termed j i (o .term) t (sym own ∙ same ∙ c))
+
+      index-known : (slot : ℕ) → Found links terms code slot → (p : 0 < linked links slot)
+          → IndexedBelow s links (set terms i (numberOf code (linked links slot))) (i + 1)
+      index-known slot found p =
+          record {
+            table = numbered (linked links slot) first;
+            rising = rising-table (numberOf code (linked links slot));
+            before = λ q h. omega (arith, x .before q h);
+            nodes = x .nodes;
+            met = λ n h k o. at n k o (ℕ-discrete n i) h;
+          }
+        where
+          first : origin s i ≡ linked links slot
+          first = known-origin slot found p
+
+          at : (n : ℕ) → entryAt s n .w0 ≡ 2 → IsOrigin s n → Dec (n ≡ i) → n < i + 1 → Met links (codeAt s n) n
+          at n k o (yes e) h =
+              let own = subst (λ (j : ℕ). origin s j ≡ j) e (o .first) in
+              absurd (omega (arith, x .before slot p, first, own))
+          at n k o (no d) h = x .met n (omega arith) k o
+
+      -- the search ended at no record
+      module _ (kind : entryAt s i .w0 ≡ 2) (slot : ℕ) (found : Found links terms code slot) (empty : linked links slot ≡ 0) where
+        applied : Applied v s i
+        applied = applied-record v s good f i t kind
+
+        -- an origin of the same term is of kind 2, as the constant is no function term
+        new-origin : origin s i ≡ i
+        new-origin = origin-own s i t none
+          where
+            none : (j : ℕ) → j < i → IsOrigin s j → termAt s j ≡ termAt s i → ⊥
+            none j h o e =
+                let same = terms-coded j i (o .term) t e in
+                let own = number-code terms i (x .table) j h (o .term) in
+                at (term-record v s good f j (o .term)) (own ∙ same ∙ sym c) (same ∙ sym c)
+              where
+                at : First s j ⊎ Applied v s j → codeIn terms j ≡ code → codeAt s j ≡ code → ⊥
+                at (inl a) p q =
+                    omega (arith, q, first-code v s good f j a, c, applied-code v s good f i applied, applied .positive)
+                at (inr a) p q =
+                    found-none links terms code slot j found empty
+                    (subst (λ (k : ℕ). Met links k j) q (x .met j h (a .kind) o)) (omega (arith, a .earlier)) p
+
+        -- the slot belongs to an earlier record
+        slot-before : slot < linkCount * i
+        slot-before =
+            let w2 = entryAt s i .w2 in
+            let inner : code / functionLimit ≡ origin s w2 =
+            rw (c, applied-code v s good f i applied) (omega (arith, applied .small)) in
+            let small : code / functionLimit < i = omega (arith, inner, origin-least s w2 (applied .inner), applied .earlier) in
+            rw (found .came .place)
+            (way-within links terms code i (found .steps) small (x .before)
+            (came-over links terms code slot (found .steps) (found .came)))
+
+        room : slot < length links
+        room = omega (arith, slot-before, x .rising .size, t .within, x .table .size)
+
+        -- what holds of record i at the slot, and of each link before, holds of each link
+        each : (P : ℕ → ℕ → Type 0) → P slot i → ((q : ℕ) → 0 < linked links q → P q (linked links q))
+            → (q : ℕ) → 0 < linked (set links slot i) q → P q (linked (set links slot i) q)
+        each P here there =
+            set-each (λ q j. 0 < j → P q j) links slot i 0 room (λ h. here) (λ q d. there q)
+
+        index-new : IndexedBelow s (set links slot i) (set terms i (numberOf code i)) (i + 1)
+        index-new =
+            record {
+              table = numbered i new-origin;
+              rising = record {
+                size = rw (length-set links slot i, length-set terms i (numberOf code i)) (x .rising .size);
+                later = each (λ q j. q < linkCount * j) slot-before (x .rising .later);
+                within = each (λ q j. j < length (set terms i (numberOf code i)))
+                    (rw (length-set terms i (numberOf code i)) (omega (arith, t .within, x .table .size)))
+                    (rising-table (numberOf code i) .within);
+              };
+              before = each (λ q j. j < i + 1) (omega arith) (λ q h. omega (arith, x .before q h));
+              nodes = each (λ q j. IsOrigin s j) (record { term = t; first = new-origin }) (x .nodes);
+              met = λ n h k o. at n k o (ℕ-discrete n i) h;
+            }
+          where
+            at : (n : ℕ) → entryAt s n .w0 ≡ 2 → IsOrigin s n → Dec (n ≡ i) → n < i + 1
+                → Met (set links slot i) (codeAt s n) n
+            at n k o (yes e) h =
+                subst (λ (j : ℕ). Met (set links slot i) (codeAt s j) j) (sym e)
+                (subst (λ (k : ℕ). Met (set links slot i) k i) c (new-met links slot i empty terms code found room))
+            at n k o (no d) h =
+                kept-met links slot i empty (codeAt s n) n
+                (omega (arith, applied-record v s good f n (o .term) k .earlier)) (x .met n (omega arith) k o)
+
+      pub index-entered : entryAt s i .w0 ≡ 2 → (after : List ℕ) (first : ℕ) → Entered links terms code i after first
+          → IndexedBelow s after (set terms i (numberOf code first)) (i + 1)
+      index-entered kind after first (known slot found p) = index-known slot found p
+      index-entered kind after first (new slot found empty) = index-new kind slot found empty
+
+  -- the tables as they come, but for the constant
+  pub index-start : (links terms : List ℕ) → entries s ≤ length terms → length links ≡ linkCount * length terms
+      → ((slot : ℕ) → linked links slot ≡ 0) → getD terms 0 0 ≡ 0
+      → IndexedBelow s links (set terms 1 (numberOf 0 1)) 2
+  index-start links terms size room empty header =
+      record {
+        table = record {
+          size = rw (length-set terms 1 (numberOf 0 1)) size;
+          header = getD-set-other terms 1 0 (numberOf 0 1) 0 (λ z. omega arith) ∙ header;
+          numbers = λ n h t. at n t (term-record v s good f n t) h;
+        };
+        rising = record {
+          size = rw (length-set terms 1 (numberOf 0 1)) room;
+          later = λ q h. absurd (omega (arith, h, empty q));
+          within = λ q h. absurd (omega (arith, h, empty q));
+        };
+        before = λ q h. absurd (omega (arith, h, empty q));
+        nodes = λ q h. absurd (omega (arith, h, empty q));
+        met = λ n h k o. let a = applied-record v s good f n (o .term) k in
+            absurd (omega (arith, h, a .earlier, term-positive v s good f (entryAt s n .w2) (a .inner)));
+      }
+    where
+      at : (n : ℕ) → TermRecord s n → First s n ⊎ Applied v s n → n < 2
+          → getD (set terms 1 (numberOf 0 1)) n 0 ≡ numberOf (codeAt s n) (origin s n)
+      at n t (inl a) h =
+          let own = origin-own s n t (λ j l o e. omega (arith, l, a .number, term-positive v s good f j (o .term))) in
+          rw (first-code v s good f n a, own, a .number) (getD-set-same terms 1 (numberOf 0 1) 0 (omega (arith, t .within, size)))
+      at n t (inr a) h = absurd (omega (arith, h, a .earlier, term-positive v s good f (entryAt s n .w2) (a .inner)))

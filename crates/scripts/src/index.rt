@@ -1,0 +1,126 @@
+// The index of terms: each term record gets the first record of the same term, its origin.
+use crate::entry::Entry;
+use crate::entry::read_entry;
+ghost use mathlib.Core.Path.{_≡_};
+ghost use Prim.Native.Nat.{ℕ, _+_, _*_, _<_, _≤_, _/_};
+ghost use lib.ListN.{length, getD};
+ghost use Rattle.columns.specs.Code.Packed.{termLimit};
+ghost use Rattle.scripts.specs.Format.{entries};
+ghost use Rattle.scripts.specs.Code.Codes.{functionLimit, codeOf};
+ghost use Rattle.scripts.specs.Code.Index.{numberOf, codeIn, originIn, AllNumbered, linkCount, linked, Rising, passes};
+ghost use Rattle.scripts.specs.Code.Index.{Found, Entered, IndexedBelow};
+ghost use Rattle.scripts.specs.Code.Ready.{HasEntry, Formed};
+
+pub struct Index {}
+
+impl Index {
+    // Functions of a vocabulary have 9 bits.
+    pub const FUNCTIONS: u32 = 512;
+    // Codes of terms have 20 bits.
+    pub const CODES: u32 = 1048576;
+    // Links of a record: to the root of a tree, and to two children.
+    pub const LINKS: usize = 3;
+}
+
+// Function f at the term whose origin is record t, as a number (specs/Code/Codes.antt).
+pub fn code_of(f: u16, t: u32) -> u32
+    requires { ⌜ functionLimit * t < termLimit ⌝ }
+    ensures { λ r. ⌜ r ≡ codeOf f t ⌝ }
+{
+    f as u32 + Index::FUNCTIONS * t
+}
+
+// The code of record n's term, and its origin, by the table of terms.
+pub fn code_in(terms: &[u32], n: usize) -> u32
+    requires { ⌜ n < length (now terms) ⌝ }
+    ensures { λ r. ⌜ r ≡ codeIn (now (terms .entry)) n ⌝ }
+{
+    terms[n] % Index::CODES
+}
+
+pub fn origin_in(terms: &[u32], n: usize) -> u32
+    requires { ⌜ n < length (now terms) ⌝ }
+    ensures { λ r. ⌜ r ≡ originIn (now (terms .entry)) n ⌝ }
+{
+    terms[n] / Index::CODES
+}
+
+// Whether a search for a code goes on at a slot: its record is of another code.
+fn passes_slot(links: &[u16], terms: &[u32], code: u32, slot: usize) -> bool
+    requires { ⌜ Rising (now links) (now terms) ⌝ }
+    requires { ⌜ slot < length (now links) ⌝ }
+    ensures { λ r. ⌜ r ≡ passes (now (links .entry)) (now (terms .entry)) code slot ⌝ }
+{
+    let node = links[slot] as usize;
+    if node == 0 {
+        return false;
+    }
+    code_in(terms, node) != code
+}
+
+// The slot where the search for a code ends: its record has the code, or it has none.
+fn find_slot(links: &[u16], terms: &[u32], code: u32) -> usize
+    requires { ⌜ Rising (now links) (now terms) ⌝ }
+    requires { ⌜ code / functionLimit < length (now terms) ⌝ }
+    ensures { λ r. ⌜ Found (now (links .entry)) (now (terms .entry)) code r ⌝ }
+{
+    let mut slot = Index::LINKS * ((code / Index::FUNCTIONS) as usize);
+    let mut rest = code;
+    let mut passing = passes_slot(links, terms, code, slot);
+    while passing {
+        slot = Index::LINKS * (links[slot] as usize) + 1 + (rest % 2) as usize;
+        rest /= 2;
+        passing = passes_slot(links, terms, code, slot);
+    }
+    slot
+}
+
+// The origin of the term of record i, by its code: the record that the search finds; where it finds none, record i, which is
+// entered.
+fn enter_term(links: &mut [u16], terms: &[u32], code: u32, i: u16) -> u16
+    requires { ⌜ Rising (now links) (now terms) ⌝ }
+    requires { ⌜ code / functionLimit < length (now terms) ⌝ }
+    ensures { λ r. ⌜ Entered (now (links .entry)) (now (terms .entry)) code i (now (links .exit)) r ⌝ }
+{
+    let slot = find_slot(links, terms, code);
+    let found = links[slot];
+    if found != 0 {
+        return found;
+    }
+    links[slot] = i;
+    i
+}
+
+// Record i, if it is a function term.
+fn index_term(s: &[u8], links: &mut [u16], terms: &mut [u32], i: usize)
+    requires { ⌜ Formed (now s) ⌝ }
+    requires { ⌜ HasEntry (now s) i ⌝ }
+    requires { ⌜ 1 < i ⌝ }
+    requires { ⌜ IndexedBelow (now s) (now links) (now terms) i ⌝ }
+    ensures { λ _. ⌜ IndexedBelow (now (s .entry)) (now (links .exit)) (now (terms .exit)) (i + 1) ⌝ }
+{
+    let e = read_entry(s, i);
+    if e.w0 == 2 {
+        let code = code_of(e.w1, origin_in(terms, e.w2 as usize));
+        let origin = enter_term(links, terms, code, i as u16);
+        terms[i] = code + Index::CODES * (origin as u32);
+    }
+}
+
+// The table of terms of a script that keeps the form; both tables come empty.
+pub fn index_terms(s: &[u8], links: &mut [u16], terms: &mut [u32])
+    requires { ⌜ Formed (now s) ⌝ }
+    requires { ⌜ entries (now s) ≤ length (now terms) ⌝ }
+    requires { ⌜ length (now links) ≡ linkCount * length (now terms) ⌝ }
+    requires { ⌜ ((slot : ℕ) → linked (now links) slot ≡ 0) ⌝ }
+    requires { ⌜ getD (now terms) 0 0 ≡ 0 ⌝ }
+    ensures { λ _. ⌜ AllNumbered (now (s .entry)) (now (terms .exit)) ⌝ }
+{
+    let records = s.len() / Entry::SIZE;
+    terms[1] = Index::CODES;
+    let mut i = 2;
+    while i < records {
+        index_term(s, links, terms, i);
+        i += 1;
+    }
+}
