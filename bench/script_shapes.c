@@ -333,8 +333,8 @@ static void make_modal(struct maker *maker)
     prove_modal_tree(maker, 8, false);
 }
 
-/* Each second time that a step names a term, it has a new record: hardly a step finds the term of
- * its goal under the record by which the goal was made. */
+/* Each second time that a step names a function term, it has a new record, so that most comparisons
+ * are of different records. */
 static void make_renewed(struct maker *maker)
 {
     maker->renewed = 2;
