@@ -73,12 +73,13 @@ static bool agree_on_shapes(const struct proof *shapes, unsigned *seen)
     return true;
 }
 
-static bool agree_on_random(unsigned *seen)
+static bool agree_on_random(unsigned *seen, unsigned *repeats)
 {
     static struct proof proof;
 
     for (int i = 0; i < RANDOM; i++) {
         make_random_proof(&proof);
+        *repeats += proof.repeats > 0;
         if (i % 2 == 1)
             damage(&proof);
         if (!agree_on(&proof, seen)) {
@@ -93,12 +94,13 @@ static bool agree(const struct proof *shapes)
 {
     static const int refusals[] = {1, 2, 3, 4, 5, 6, 7, 8, NO_TERM, 13, 14, 15, 16, 17, 18, 19,
                                    20, 21, 22, 23, 24, ALL_CLOSED};
-    unsigned seen[256] = {0};
+    unsigned seen[256] = {0}, repeats = 0;
 
-    if (!agree_on_shapes(shapes, seen) || !agree_on_random(seen))
+    if (!agree_on_shapes(shapes, seen) || !agree_on_random(seen, &repeats))
         return false;
-    printf("The answers agree on %d scripts, %d damages of them and %d random ones.\n",
-           SHAPES, SHAPES * DAMAGES, RANDOM);
+    printf("The answers agree on %d scripts, %d damages of them and %d random ones, "
+           "%u of these with repeated terms.\n",
+           SHAPES, SHAPES * DAMAGES, RANDOM, repeats);
     printf("Accepted: %u;", seen[ACCEPTED]);
     return print_refusals(PROGRAM, seen, refusals, sizeof refusals / sizeof *refusals);
 }

@@ -7,6 +7,7 @@ struct script {
     const uint8_t *vocabulary, *bytes;
     size_t vocabulary_count, count; /* records */
     bool chained[MAX_RECORDS];      /* the statements on the chain */
+    const uint16_t *origins;        /* of the term records, once the form is known to be right */
 };
 
 static uint16_t word(const struct script *script, size_t number, size_t index)
@@ -84,18 +85,6 @@ static bool is_earlier_term(const struct script *script, size_t term, size_t num
     return term >= 1 && term < number && !is_step(script, term);
 }
 
-static bool is_repeated(const struct script *script, size_t number)
-{
-    uint16_t function = word(script, number, 1), inner = word(script, number, 2);
-
-    for (size_t i = 1; i < number; i++) {
-        if (word(script, i, 0) == FUNCTION && word(script, i, 1) == function
-            && word(script, i, 2) == inner)
-            return true;
-    }
-    return false;
-}
-
 static bool function_fits(const struct script *script, size_t number)
 {
     uint16_t function = word(script, number, 1);
@@ -104,8 +93,7 @@ static bool function_fits(const struct script *script, size_t number)
         return false;
     uint8_t kind = read_record(script->vocabulary, function).kind;
     return (kind == SOME || kind == ALL)
-        && is_earlier_term(script, word(script, number, 2), number)
-        && !is_repeated(script, number);
+        && is_earlier_term(script, word(script, number, 2), number);
 }
 
 static bool extension_fits(const struct script *script, size_t number)
@@ -180,23 +168,74 @@ static uint64_t check_form(const struct script *script)
     return pack_answer(ACCEPTED, 0);
 }
 
-/* --- literals --- */
+/* --- terms --- */
 
-/* Since no term has two records, terms are equal if function and inner record are. */
-struct term {
-    uint16_t function, inner; /* the constant: 0, 0 */
+/* A term may have several records; its origin is the first of them. The origins that apply
+ * functions to one inner term are a digital search tree: the next bit of the function, from the
+ * lowest on, tells which child of a node comes next. Functions have 9 bits, so that no way is
+ * longer than 10 nodes. */
+struct node {
+    uint16_t function;
+    uint16_t root;     /* of the tree for this record as inner term; 0: none */
+    uint16_t child[2];
 };
+
+/* The link that leads to the term's origin, or would: then it is 0. */
+static uint16_t *find_link(struct node *nodes, uint16_t function, uint16_t inner)
+{
+    uint16_t *link = &nodes[inner].root;
+
+    for (unsigned rest = function; *link != 0; rest >>= 1) {
+        struct node *node = &nodes[*link];
+
+        if (node->function == function)
+            break;
+        link = &node->child[rest & 1];
+    }
+    return link;
+}
+
+/* A node is set up as its record becomes an origin: a short script pays for no long table. */
+static void find_origins(const struct script *script, uint16_t *origins)
+{
+    struct node nodes[MAX_SCRIPT_RECORDS];
+
+    origins[0] = 0; /* what stands for the inner term of the constant */
+    origins[1] = 1;
+    nodes[1] = (struct node){0};
+    for (size_t i = 2; i < script->count; i++) {
+        if (is_step(script, i))
+            continue;
+        uint16_t function = word(script, i, 1);
+        uint16_t *link = find_link(nodes, function, origins[word(script, i, 2)]);
+
+        if (*link == 0) {
+            *link = (uint16_t)i;
+            nodes[i] = (struct node){.function = function};
+        }
+        origins[i] = *link;
+    }
+}
+
+/* A number for the term, which need not have a record: the same for the same term only. */
+static uint32_t term_code(const struct script *script, uint16_t function, uint16_t inner)
+{
+    return function + (uint32_t)MAX_RECORDS * script->origins[inner];
+}
+
+/* The constant's words are zero, and so is its code. */
+static uint32_t term_at(const struct script *script, uint16_t number)
+{
+    return term_code(script, word(script, number, 1), word(script, number, 2));
+}
+
+/* --- literals --- */
 
 struct literal {
     bool negated, is_role;
     uint16_t predicate;
-    struct term first, second; /* no second: 0, 0 */
+    uint32_t first, second; /* codes of terms; no second: 0 */
 };
-
-static struct term term_at(const struct script *script, uint16_t number)
-{
-    return (struct term){word(script, number, 1), word(script, number, 2)};
-}
 
 static uint16_t predicate_of(enum predicate predicate, uint16_t number, struct record owner)
 {
@@ -212,7 +251,6 @@ static struct literal make_literal(const struct script *script, size_t step, str
                                    struct pattern pattern)
 {
     uint16_t number = word(script, step, 1), x = word(script, step, 3), y = word(script, step, 4);
-    struct term of_owner = {number, x};
     struct literal literal = {
         .negated = pattern.negated,
         .is_role = pattern.predicate == ROLE,
@@ -222,28 +260,23 @@ static struct literal make_literal(const struct script *script, size_t step, str
     switch (pattern.arguments) {
     case X: literal.first = term_at(script, x); break;
     case Y: literal.first = term_at(script, y); break;
-    case FX: literal.first = of_owner; break;
+    case FX: literal.first = term_code(script, number, x); break;
     case X_Y:
         literal.first = term_at(script, x);
         literal.second = term_at(script, y);
         break;
     case X_FX:
         literal.first = term_at(script, x);
-        literal.second = of_owner;
+        literal.second = term_code(script, number, x);
         break;
     }
     return literal;
 }
 
-static bool same_term(struct term a, struct term b)
-{
-    return a.function == b.function && a.inner == b.inner;
-}
-
 static bool are_complements(const struct literal *a, const struct literal *b)
 {
     return a->negated != b->negated && a->is_role == b->is_role && a->predicate == b->predicate
-        && same_term(a->first, b->first) && same_term(a->second, b->second);
+        && a->first == b->first && a->second == b->second;
 }
 
 /* --- chain --- */
@@ -411,5 +444,11 @@ uint64_t plain_check_script(const uint8_t *vocabulary, size_t vocabulary_len,
 
     mark_chain(&script);
     uint64_t form = check_form(&script);
-    return form != ACCEPTED ? form : run_chain(&script);
+    if (form != ACCEPTED)
+        return form;
+    uint16_t origins[MAX_SCRIPT_RECORDS];
+
+    find_origins(&script, origins);
+    script.origins = origins;
+    return run_chain(&script);
 }

@@ -114,6 +114,12 @@ void put_role_record(struct maker *maker, unsigned role, unsigned term, unsigned
 
 /* --- records of the script --- */
 
+bool has_function(const struct input *input, unsigned number)
+{
+    return number < count_of(input)
+        && (kind_of(input, number) == SOME || kind_of(input, number) == ALL);
+}
+
 uint8_t *script_record(struct proof *proof, size_t number)
 {
     return proof->bytes + SCRIPT_RECORD_BYTES * number;
@@ -141,22 +147,51 @@ static unsigned append(struct maker *maker, const unsigned *words)
     return number;
 }
 
-static bool is_term_record(const uint8_t *record, unsigned function, unsigned inner)
+/* The first record of the function term, or 0. */
+static unsigned find_term(const struct maker *maker, unsigned function, unsigned inner)
 {
-    return read_u16(record) == FUNCTION && read_u16(record + 2) == function
-        && read_u16(record + 4) == inner;
+    for (unsigned i = 2; i < script_count(maker->proof); i++) {
+        const uint8_t *record = script_record(maker->proof, i);
+
+        if (read_u16(record) == FUNCTION && read_u16(record + 2) == function
+            && maker->origin[read_u16(record + 4)] == maker->origin[inner])
+            return i;
+    }
+    return 0;
+}
+
+unsigned append_term(struct maker *maker, unsigned function, unsigned inner)
+{
+    unsigned first = find_term(maker, function, inner);
+    unsigned number = append(maker, (unsigned[]){FUNCTION, function, inner, 0, 0, 0});
+
+    maker->origin[number] = first == 0 ? number : first;
+    maker->latest[maker->origin[number]] = number;
+    maker->proof->repeats += first != 0;
+    return number;
 }
 
 unsigned term_record(struct maker *maker, unsigned function, unsigned inner)
 {
-    for (unsigned i = 2; i < script_count(maker->proof); i++) {
-        if (is_term_record(script_record(maker->proof, i), function, inner))
-            return i;
-    }
-    return append(maker, (unsigned[]){FUNCTION, function, inner, 0, 0, 0});
+    unsigned first = find_term(maker, function, inner);
+
+    return first == 0 ? append_term(maker, function, inner) : first;
 }
 
-/* Steps off the chain, and terms that nothing speaks of. */
+/* A record of the same term, now and then a new one: by the last record of its inner term, so that
+ * it differs from the others where that is new too. The constant has only one. */
+static unsigned rename_term(struct maker *maker, unsigned term)
+{
+    const uint8_t *record = script_record(maker->proof, term);
+
+    if (term <= 1 || maker->renewed == 0 || ++maker->named % maker->renewed != 0)
+        return term;
+    unsigned inner = maker->origin[read_u16(record + 4)];
+
+    return append_term(maker, read_u16(record + 2), maker->latest[inner]);
+}
+
+/* Steps off the chain, and terms, new or not, that nothing speaks of. */
 static void put_idle(struct maker *maker)
 {
     const struct input *input = &maker->proof->input;
@@ -172,8 +207,8 @@ static void put_idle(struct maker *maker)
     default:
         if (read_u16(script_record(maker->proof, inner)) > FUNCTION)
             inner = 1;
-        if (kind_of(input, number) == SOME || kind_of(input, number) == ALL)
-            term_record(maker, number, inner);
+        if (has_function(input, number))
+            append_term(maker, number, inner);
     }
 }
 
@@ -194,6 +229,8 @@ static void put_step(struct maker *maker, const unsigned *words)
 static void extend(struct maker *maker, unsigned owner, unsigned column, unsigned x, unsigned y,
                    unsigned position)
 {
+    x = rename_term(maker, x);
+    y = rename_term(maker, y);
     put_step(maker, (unsigned[]){EXTENSION, owner, column, x, y, position});
 }
 
@@ -321,11 +358,13 @@ static void prove(struct maker *maker, unsigned number, enum value want, unsigne
 void begin_script(struct maker *maker, unsigned a, unsigned b)
 {
     maker->proof->len = 0;
-    maker->proof->steps = maker->proof->frames = 0;
+    maker->proof->steps = maker->proof->frames = maker->proof->repeats = 0;
     maker->last = 0;
     maker->overflowed = false;
+    maker->named = 0;
     append(maker, (unsigned[]){SCRIPT_HEADER, a, b, 0, 0, 0});
     append(maker, (unsigned[]){CONSTANT, 0, 0, 0, 0, 0});
+    maker->origin[1] = maker->latest[1] = 1;
 }
 
 void prove_query(struct maker *maker, unsigned column)

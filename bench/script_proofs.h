@@ -19,6 +19,7 @@ struct proof {
     size_t len;
     uint8_t bytes[SCRIPT_ROOM];
     unsigned steps, frames; /* on the chain; most open at once, were there no limit */
+    unsigned repeats;       /* records of terms that had one, as the script was made */
     double reach;           /* millions of instructions */
 };
 
@@ -42,9 +43,13 @@ struct maker {
     /* A record that is full by a statement: some role to a full term, so that the role leads
      * somewhere everywhere; or all role to an empty one, so that it leads nowhere. */
     unsigned role_record[MAX_ROLES];
-    unsigned last;   /* step */
-    bool idle;       /* put idle records between the steps */
-    bool overflowed; /* the script does not fit */
+    unsigned last;    /* step */
+    bool idle;        /* put idle records between the steps */
+    bool overflowed;  /* the script does not fit */
+    unsigned named;   /* times that steps have named function terms */
+    unsigned renewed; /* each so-manieth time under a new record; 0: never */
+    unsigned origin[MAX_SCRIPT_RECORDS]; /* the first record of the same term */
+    unsigned latest[MAX_SCRIPT_RECORDS]; /* for a first record, the last of the same term */
 };
 
 enum value opposite(enum value value);
@@ -65,8 +70,14 @@ unsigned put_statement(struct maker *maker, unsigned a, unsigned b);
 /* A script with nothing but header and constant. */
 void begin_script(struct maker *maker, unsigned a, unsigned b);
 
-/* The number of the function term, appended if there is none. */
+/* Has the vocabulary a function of that number? */
+bool has_function(const struct input *input, unsigned number);
+
+/* The first record of the function term, appended if there is none. */
 unsigned term_record(struct maker *maker, unsigned function, unsigned inner);
+
+/* Appends a record of the function term, be there one or not. */
+unsigned append_term(struct maker *maker, unsigned function, unsigned inner);
 
 /* Appends the start by a query column and the proof of its term, which is empty (column 0) or
  * full (column 1). */

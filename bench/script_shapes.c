@@ -274,35 +274,74 @@ static unsigned put_modal(struct maker *maker, unsigned term, unsigned turn)
     }
 }
 
+struct leaves {
+    unsigned name;
+    bool clashes;              /* among the terms, so that reductions compare terms too */
+    unsigned clash[EMPTY + 1]; /* of each value */
+};
+
+static unsigned put_leaf_term(struct maker *maker, const struct leaves *leaves, unsigned term,
+                              unsigned turn)
+{
+    enum value value = value_of(maker, term);
+
+    if (leaves->clashes && turn % 8 == 5)
+        return put_term(maker, both_kind(value), leaves->clash[value], term);
+    return put_modal(maker, term, turn);
+}
+
 static unsigned modal_leaf(struct maker *maker, void *parts, unsigned frame, enum value value)
 {
-    unsigned name = *(unsigned *)parts;
-    unsigned term = put_term(maker, frame % 2 ? SOME : ALL, BARE, name);
+    const struct leaves *leaves = parts;
+    unsigned term = put_term(maker, frame % 2 ? SOME : ALL, BARE, leaves->name);
 
     /* below the last: two frames for the pair of the bare role, three for its record */
     for (unsigned turn = frame; turn + 5 < MAX_FRAMES; turn++)
-        term = put_modal(maker, term, turn);
+        term = put_leaf_term(maker, leaves, term, turn);
     return value_of(maker, term) == value ? term : put_term(maker, NOT, term, 0);
 }
 
-static void make_modal(struct maker *maker)
+static void put_clashes(struct maker *maker, struct leaves *leaves)
 {
-    unsigned name, top, bottom, tree_term, one, other;
-    struct tree tree = {modal_leaf, &name, 0};
+    unsigned negation = put_term(maker, NOT, leaves->name, 0);
 
-    name = put_name(maker);
-    top = put_constant(maker, FULL);
-    bottom = put_constant(maker, EMPTY);
+    leaves->clashes = true;
+    leaves->clash[FULL] = put_term(maker, OR, leaves->name, negation);
+    leaves->clash[EMPTY] = put_term(maker, AND, leaves->name, negation);
+}
+
+static void prove_modal_tree(struct maker *maker, unsigned count, bool clashes)
+{
+    struct leaves leaves = {.name = put_name(maker)};
+    struct tree tree = {modal_leaf, &leaves, 0};
+    unsigned top = put_constant(maker, FULL), bottom = put_constant(maker, EMPTY);
+    unsigned tree_term, one, other;
+
     put_role_record(maker, SERIAL, top, top);
     put_role_record(maker, BARE, bottom, top);
-    tree_term = put_tree(maker, &tree, 8, 4, FULL);
+    if (clashes)
+        put_clashes(maker, &leaves);
+    tree_term = put_tree(maker, &tree, count, 4, FULL);
     /* Below another function all the terms are others. */
     one = put_term(maker, ALL, PLAIN, tree_term);
     other = put_term(maker, ALL, BARE + 1, tree_term);
     prove_full(maker, fill_script(maker, put_term(maker, AND, one, other), 0));
 }
 
-/* --- the repeat rule --- */
+static void make_modal(struct maker *maker)
+{
+    prove_modal_tree(maker, 8, false);
+}
+
+/* Each second time that a step names a function term, it has a new record, so that most comparisons
+ * are of different records. */
+static void make_renewed(struct maker *maker)
+{
+    maker->renewed = 2;
+    prove_modal_tree(maker, 5, true);
+}
+
+/* --- the term rule --- */
 
 static unsigned put_functions(struct maker *maker)
 {
@@ -353,6 +392,47 @@ static void make_no_step(struct maker *maker)
     put_wide(maker, MAX_SCRIPT_RECORDS);
 }
 
+/* The worst known of the search for the first record of a term: each search meets as many records
+ * as it can, that is all before it, or 10. The first 9 functions have the lowest 0 to 8 bits of
+ * another and not the bit after these, so that each stands on the way to all that come later. The
+ * tenth is repeated: a new term would meet 9 at most. */
+static void make_long_search(struct maker *maker)
+{
+    const unsigned function = 0x155;
+
+    put_functions(maker);
+    for (unsigned bit = 1; bit < MAX_RECORDS; bit *= 2)
+        append_term(maker, function ^ bit, 1);
+    while (script_count(maker->proof) < MAX_SCRIPT_RECORDS - 2)
+        append_term(maker, function, 1);
+    prove_query(maker, 1);
+}
+
+/* --- small: what a call costs whatever the script, tables that are to be zeroed above all --- */
+
+/* Case 7 of paper 01. */
+static void make_sample(struct maker *maker)
+{
+    unsigned one = put_name(maker), two = put_name(maker), three = put_name(maker);
+    unsigned both = put_term(maker, AND, one, two);
+
+    maker->facts[both] = (struct fact){.value = FULL, .given = BY_QUERY};
+    maker->facts[three] =
+        (struct fact){.value = FULL, .statement = put_statement(maker, both, three)};
+    chain_statements(&maker->proof->input);
+    begin_script(maker, both, three);
+    prove_query(maker, 1);
+}
+
+/* Case 9. */
+static void make_sample_function(struct maker *maker)
+{
+    unsigned bottom = put_constant(maker, EMPTY);
+
+    begin_script(maker, put_term(maker, SOME, 0, bottom), bottom);
+    prove_query(maker, 0);
+}
+
 /* --- all of them --- */
 
 static const struct plan {
@@ -364,10 +444,14 @@ static const struct plan {
     {"deep", make_deep, 1, 2046},
     {"flat", make_flat, 1, 2046},
     {"reductions", make_reductions, 1, 2046},
-    {"terms and roles", make_modal, 25, 1308},
-    {"2,044 terms, nested", make_nested, 25, 2},
-    {"2,044 terms, 504 functions", make_wide, 25, 2},
-    {"2,046 terms, no step (20)", make_no_step, 25, 0},
+    {"terms and roles", make_modal, 1, 1308},
+    {"terms and roles, repeats", make_renewed, 1, 1128},
+    {"2,044 terms, nested", make_nested, 1, 2},
+    {"2,044 terms, 504 functions", make_wide, 1, 2},
+    {"2,044 terms, longest search", make_long_search, 1, 2},
+    {"2,046 terms, no step (20)", make_no_step, 1, 0},
+    {"small: 5 records", make_sample, 0.0015, 3},
+    {"small: 6 records, a function", make_sample_function, 0.0015, 3},
 };
 
 static void begin_maker(struct maker *maker, struct proof *proof, const char *name)
@@ -418,6 +502,18 @@ static void put_random_record(struct maker *maker)
     }
 }
 
+/* Below some roles and in pairs, so that many steps speak of the same nested terms. */
+static unsigned put_below_roles(struct maker *maker, unsigned term)
+{
+    for (size_t left = below(8); left > 0 && !maker->facts[term].local; left--) {
+        if (below(3) == 0)
+            term = put_term(maker, both_kind(value_of(maker, term)), term, term);
+        else
+            term = put_modal(maker, term, (unsigned)below(ROLES));
+    }
+    return term;
+}
+
 /* A term with that value, if need be by a not. */
 static unsigned some_proved(struct maker *maker, enum value value)
 {
@@ -426,6 +522,7 @@ static unsigned some_proved(struct maker *maker, enum value value)
     do
         number = some_term(&maker->proof->input);
     while (value_of(maker, number) == OPEN);
+    number = put_below_roles(maker, number);
     return value_of(maker, number) == value ? number : put_term(maker, NOT, number, 0);
 }
 
@@ -450,25 +547,67 @@ static void put_random_vocabulary(struct maker *maker, enum value given)
         put_random_record(maker);
 }
 
+static unsigned put_random_root(struct maker *maker, enum value value)
+{
+    unsigned root = some_proved(maker, value);
+
+    return below(8) == 0 ? put_high(maker, root) : root;
+}
+
+/* As many functions as there can be; the root is one of those that are applied to the constant. */
+static unsigned put_crowd(struct maker *maker, enum value value)
+{
+    unsigned term = put_constant(maker, value), first;
+    enum kind kind = value == FULL ? ALL : SOME;
+
+    for (size_t left = 1 + below(4); left > 0; left--)
+        term = put_term(maker, kind, PLAIN, term);
+    first = (unsigned)count_of(&maker->proof->input);
+    while (maker->proof->input.len < MAX_BYTES)
+        put_term(maker, kind, (unsigned)below(4), term);
+    return first + (unsigned)below(MAX_RECORDS - first);
+}
+
+/* A function with the same lowest bits, so that the search for one may pass the other. */
+static unsigned near(unsigned function, unsigned bits)
+{
+    return (function ^ (unsigned)below(MAX_RECORDS) << bits) % MAX_RECORDS;
+}
+
+/* Terms that nothing speaks of, in such an order that the search for the root's is long. */
+static void crowd_script(struct maker *maker, unsigned root)
+{
+    for (unsigned bits = 0; bits < 9; bits++) {
+        for (size_t left = below(6); left > 0; left--) {
+            unsigned function = near(root, bits);
+
+            if (has_function(&maker->proof->input, function))
+                append_term(maker, function, 1);
+        }
+    }
+}
+
 void make_random_proof(struct proof *proof)
 {
     static struct maker maker;
     unsigned column = (unsigned)below(2);
     enum value value = column == 0 ? EMPTY : FULL;
+    bool crowded = below(8) == 0;
 
     do {
         begin_maker(&maker, proof, "a random script");
         maker.idle = below(2);
+        maker.renewed = (unsigned)below(4);
         put_random_vocabulary(&maker, value);
-        unsigned root = some_proved(&maker, value);
+        unsigned root = crowded ? put_crowd(&maker, value) : put_random_root(&maker, value);
 
-        if (below(8) == 0)
-            root = put_high(&maker, root);
         chain_statements(&proof->input);
         if (column == 0)
             begin_script(&maker, root, 1);
         else
             begin_script(&maker, 1, root);
+        if (crowded)
+            crowd_script(&maker, root);
         prove_query(&maker, column);
     } while (maker.overflowed);
     proof->input.expected =
@@ -569,6 +708,32 @@ static void append_step(struct proof *proof)
     proof->len += SCRIPT_RECORD_BYTES;
 }
 
+/* The number of a function term's record, or 0. */
+static unsigned some_function(struct proof *proof)
+{
+    unsigned count = (unsigned)script_count(proof), first = (unsigned)below(count);
+
+    for (unsigned i = first; i < first + count; i++) {
+        if (read_u16(script_record(proof, i % count)) == FUNCTION)
+            return i % count;
+    }
+    return 0;
+}
+
+/* Another function or inner term, for a term whose other records and steps may speak of the old. */
+static void damage_term(struct proof *proof)
+{
+    unsigned number = some_function(proof), other = some_function(proof);
+    uint8_t *bytes = script_record(proof, number);
+
+    if (number == 0)
+        return;
+    if (below(2))
+        write_u16(bytes + 2, near(read_u16(bytes + 2), (unsigned)below(9)));
+    else
+        write_u16(bytes + 4, other < number ? other : 1);
+}
+
 static void repeat_script_record(struct proof *proof)
 {
     uint8_t *from = some_script_record(proof), *to = some_script_record(proof);
@@ -598,13 +763,14 @@ static void damage_length(struct proof *proof)
 
 static void damage_once(struct proof *proof)
 {
-    switch (below(11)) {
+    switch (below(12)) {
     case 0: damage_field(&proof->input); break;
     case 1: skip_statement(&proof->input); break;
     case 2: append_step(proof); break;
     case 3: repeat_script_record(proof); break;
     case 4: repeat_record(&proof->input); break;
-    case 5: case 6: case 7: damage_step(proof); break;
+    case 5: damage_term(proof); break;
+    case 6: case 7: case 8: damage_step(proof); break;
     default: damage_word(proof);
     }
 }
