@@ -20,6 +20,8 @@ impl Index {
     pub const CODES: u32 = 1048576;
     // Links of a record: to the root of a tree, and to two children.
     pub const LINKS: usize = 3;
+    // Few records, for which there are small tables.
+    pub const FEW: usize = 64;
 }
 
 // Function f at the term whose origin is record t, as a number (specs/Code/Codes.antt).

@@ -22,16 +22,16 @@ use records::fields::Record;
 ghost use mathlib.Core.Path.{_≡_};
 ghost use mathlib.Core.Bool.{true, _||_};
 ghost use mathlib.Core.List.{[], _∷_};
-ghost use Prim.Native.Nat.{_<_};
+ghost use Prim.Native.Nat.{_≤_, _<_};
 ghost use lib.ListN.{length};
 ghost use lib.Dec.{ltb};
 ghost use Rattle.columns.specs.Code.Packed.{literals};
-ghost use Rattle.scripts.specs.Format.{extensionOf};
+ghost use Rattle.scripts.specs.Format.{entries, extensionOf};
 ghost use Rattle.scripts.specs.Calculus.{frameLimit};
 ghost use Rattle.records.specs.Finite.{isNil};
 ghost use Rattle.scripts.specs.Run.{extendBy};
 ghost use Rattle.scripts.specs.Code.Codes.{opposed};
-ghost use Rattle.scripts.specs.Code.Index.{AllNumbered};
+ghost use Rattle.scripts.specs.Code.Index.{AllNumbered, fewEntries};
 ghost use Rattle.scripts.specs.Code.Machine.{places, framesFrom, framesOf, Standing, Shows};
 ghost use Rattle.scripts.specs.Code.Numbered.{usedNumbers};
 ghost use Rattle.scripts.specs.Code.Tested.{reducesTo, ExtensionTested, TestedAt, runAfter, chainOutcome};
@@ -251,8 +251,8 @@ fn run_steps(
     judge_after(pass_if(state.depth == 0, 24, last), steps)
 }
 
-// The same where the terms are not numbered yet.
-fn run_chain(
+// The same where the terms are not numbered yet, in tables for any script.
+fn run_many(
     v: &[u8],
     marks: &[bool; Record::LIMIT],
     s: &[u8],
@@ -269,6 +269,46 @@ fn run_chain(
     let mut terms = [0; Entry::LIMIT];
     index_terms(s, &mut links, &mut terms);
     run_steps(v, marks, s, &terms, header, first, column)
+}
+
+// In tables for few records: to zero those of any script takes as long as a small call.
+fn run_few(
+    v: &[u8],
+    marks: &[bool; Record::LIMIT],
+    s: &[u8],
+    header: Entry,
+    first: usize,
+    column: Column,
+) -> Judged
+    requires { ⌜ Ready (now v) (now s) (now marks) header ⌝ }
+    requires { ⌜ IsStep (now s) first ⌝ }
+    requires { ⌜ 0 < column .first ⌝ }
+    requires { ⌜ entries (now s) ≤ fewEntries ⌝ }
+    ensures { λ r. ⌜ judged r ≡ runAfter (now (v .entry)) (now (s .entry)) (literals column ∷ []) first ⌝ }
+{
+    let mut links = [0; Index::LINKS * Index::FEW];
+    let mut terms = [0; Index::FEW];
+    index_terms(s, &mut links, &mut terms);
+    run_steps(v, marks, s, &terms, header, first, column)
+}
+
+fn run_chain(
+    v: &[u8],
+    marks: &[bool; Record::LIMIT],
+    s: &[u8],
+    header: Entry,
+    first: usize,
+    column: Column,
+) -> Judged
+    requires { ⌜ Ready (now v) (now s) (now marks) header ⌝ }
+    requires { ⌜ IsStep (now s) first ⌝ }
+    requires { ⌜ 0 < column .first ⌝ }
+    ensures { λ r. ⌜ judged r ≡ runAfter (now (v .entry)) (now (s .entry)) (literals column ∷ []) first ⌝ }
+{
+    if s.len() > Entry::SIZE * Index::FEW {
+        return run_many(v, marks, s, header, first, column);
+    }
+    run_few(v, marks, s, header, first, column)
 }
 
 // The chain: its first step is a start, the others follow.
