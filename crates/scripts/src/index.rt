@@ -2,12 +2,11 @@
 use crate::entry::Entry;
 use crate::entry::read_entry;
 ghost use mathlib.Core.Path.{_≡_};
-ghost use Prim.Native.Nat.{ℕ, _+_, _*_, _<_, _≤_, _/_};
-ghost use lib.ListN.{length, getD};
+ghost use Prim.Native.Nat.{_+_, _*_, _/_, _<_};
+ghost use lib.ListN.{length};
 ghost use Rattle.columns.specs.Code.Packed.{termLimit};
-ghost use Rattle.scripts.specs.Format.{entries};
 ghost use Rattle.scripts.specs.Code.Codes.{functionLimit, codeOf};
-ghost use Rattle.scripts.specs.Code.Index.{numberOf, codeIn, originIn, AllNumbered, linkCount, linked, Rising, passes};
+ghost use Rattle.scripts.specs.Code.Index.{numberOf, codeIn, originIn, AllNumbered, Blank, Rising, passes};
 ghost use Rattle.scripts.specs.Code.Index.{Found, Entered, IndexedBelow};
 ghost use Rattle.scripts.specs.Code.Ready.{HasEntry, Formed};
 
@@ -109,13 +108,10 @@ fn index_term(s: &[u8], links: &mut [u16], terms: &mut [u32], i: usize)
     }
 }
 
-// The table of terms of a script that keeps the form; both tables come empty.
+// The table of terms of a script that keeps the form.
 pub fn index_terms(s: &[u8], links: &mut [u16], terms: &mut [u32])
     requires { ⌜ Formed (now s) ⌝ }
-    requires { ⌜ entries (now s) ≤ length (now terms) ⌝ }
-    requires { ⌜ length (now links) ≡ linkCount * length (now terms) ⌝ }
-    requires { ⌜ ((slot : ℕ) → linked (now links) slot ≡ 0) ⌝ }
-    requires { ⌜ getD (now terms) 0 0 ≡ 0 ⌝ }
+    requires { ⌜ Blank (now s) (now links) (now terms) ⌝ }
     ensures { λ _. ⌜ AllNumbered (now (s .entry)) (now (terms .exit)) ⌝ }
 {
     let records = s.len() / Entry::SIZE;

@@ -31,7 +31,7 @@ ghost use Rattle.scripts.specs.Calculus.{frameLimit};
 ghost use Rattle.records.specs.Finite.{isNil};
 ghost use Rattle.scripts.specs.Run.{extendBy};
 ghost use Rattle.scripts.specs.Code.Codes.{opposed};
-ghost use Rattle.scripts.specs.Code.Index.{AllNumbered, fewEntries};
+ghost use Rattle.scripts.specs.Code.Index.{AllNumbered, fewEntries, Blank};
 ghost use Rattle.scripts.specs.Code.Machine.{places, framesFrom, framesOf, Standing, Shows};
 ghost use Rattle.scripts.specs.Code.Numbered.{usedNumbers};
 ghost use Rattle.scripts.specs.Code.Tested.{reducesTo, ExtensionTested, TestedAt, runAfter, chainOutcome};
@@ -251,7 +251,28 @@ fn run_steps(
     judge_after(pass_if(state.depth == 0, 24, last), steps)
 }
 
-// The same where the terms are not numbered yet, in tables for any script.
+// The same where the terms are not numbered yet: tables for them are lent.
+fn run_numbering(
+    v: &[u8],
+    marks: &[bool; Record::LIMIT],
+    s: &[u8],
+    header: Entry,
+    first: usize,
+    column: Column,
+    links: &mut [u16],
+    terms: &mut [u32],
+) -> Judged
+    requires { ⌜ Ready (now v) (now s) (now marks) header ⌝ }
+    requires { ⌜ IsStep (now s) first ⌝ }
+    requires { ⌜ 0 < column .first ⌝ }
+    requires { ⌜ Blank (now s) (now links) (now terms) ⌝ }
+    ensures { λ r. ⌜ judged r ≡ runAfter (now (v .entry)) (now (s .entry)) (literals column ∷ []) first ⌝ }
+{
+    index_terms(s, links, terms);
+    run_steps(v, marks, s, terms, header, first, column)
+}
+
+// In tables for any script.
 fn run_many(
     v: &[u8],
     marks: &[bool; Record::LIMIT],
@@ -267,8 +288,7 @@ fn run_many(
 {
     let mut links = [0; Index::LINKS * Entry::LIMIT];
     let mut terms = [0; Entry::LIMIT];
-    index_terms(s, &mut links, &mut terms);
-    run_steps(v, marks, s, &terms, header, first, column)
+    run_numbering(v, marks, s, header, first, column, &mut links, &mut terms)
 }
 
 // In tables for few records: to zero those of any script takes as long as a small call.
@@ -288,8 +308,7 @@ fn run_few(
 {
     let mut links = [0; Index::LINKS * Index::FEW];
     let mut terms = [0; Index::FEW];
-    index_terms(s, &mut links, &mut terms);
-    run_steps(v, marks, s, &terms, header, first, column)
+    run_numbering(v, marks, s, header, first, column, &mut links, &mut terms)
 }
 
 fn run_chain(

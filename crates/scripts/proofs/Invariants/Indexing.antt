@@ -11,21 +11,31 @@ use native.Mathlib.Decide.{ℕ-discrete}
 use mathlib.Core.Path.{_≡_, refl, sym, ap, subst, _∙_}
 use mathlib.Core.List.{List}
 use mathlib.Core.Logic.{_⊎_, inl, inr}
-use lib.ListN.{length, getD, set, length-set}
+use lib.ListN.{length, getD, set, replicate, length-set, length-replicate}
 use lib.Seq.{getD-set-same, getD-set-other}
-use Rattle.records.proofs.Laws.Filling.{set-each}
+use Rattle.records.proofs.Laws.Filling.{set-each, zeros}
 use Rattle.records.proofs.Theorems.Accepted.{AcceptedFacts}
 use Rattle.columns.specs.Code.Packed.{termLimit}
 use Rattle.scripts.specs.Format.{entryAt, entries, termAt}
 use Rattle.scripts.specs.Code.Codes.{TermRecord, origin, IsOrigin, functionLimit, codeOf, codeAt, codeTerm}
-use Rattle.scripts.specs.Code.Index.{numberOf, codeIn, originIn, NumberedBelow, AllNumbered, linkCount, linked, Rising, Met}
-use Rattle.scripts.specs.Code.Index.{Found, Entered, known, new, IndexedBelow}
+use Rattle.scripts.specs.Code.Index.{numberOf, codeIn, originIn, NumberedBelow, AllNumbered, linkCount, linked, Blank, Rising}
+use Rattle.scripts.specs.Code.Index.{Met, Found, Entered, known, new, IndexedBelow}
 use Rattle.scripts.specs.declared.entry.Entry.{Entry}
 use Rattle.scripts.proofs.Laws.SearchTree.{ended-code, came-over, way-within, found-none, kept-met, new-met}
 use Rattle.scripts.proofs.Theorems.Form.{KeepsForm}
 use Rattle.scripts.proofs.Refinement.Origins.{origin-least, origin-is, origin-of, origin-own}
 use Rattle.scripts.proofs.Refinement.Terms.{First, Applied, term-record, applied-record, code-valid, code-small, code-term}
 use Rattle.scripts.proofs.Refinement.Terms.{term-positive, header-code, first-code, applied-code, code-unique}
+
+-- tables of zeros
+pub blank-tables : (s : List ℕ) (n : ℕ) → entries s ≤ n → Blank s (replicate (linkCount * n) 0) (replicate n 0)
+blank-tables s n h =
+    record {
+      room = rw (length-replicate {A = ℕ} n 0) h;
+      size = rw (length-replicate {A = ℕ} n 0) (length-replicate {A = ℕ} (linkCount * n) 0);
+      empty = zeros (linkCount * n);
+      header = zeros n 0;
+    }
 
 -- the origin of a record that was entered does not come after it
 pub entered-before : (s links terms : List ℕ) (code i : ℕ) → IndexedBelow s links terms i → (after : List ℕ) (first : ℕ)
@@ -249,23 +259,21 @@ module _ (v s : List ℕ) (good : AcceptedFacts v) (f : KeepsForm v s) where
       index-entered kind after first (new slot found empty) = index-new kind slot found empty
 
   -- the tables as they come, but for the constant
-  pub index-start : (links terms : List ℕ) → entries s ≤ length terms → length links ≡ linkCount * length terms
-      → ((slot : ℕ) → linked links slot ≡ 0) → getD terms 0 0 ≡ 0
-      → IndexedBelow s links (set terms 1 (numberOf 0 1)) 2
-  index-start links terms size room empty header =
+  pub index-start : (links terms : List ℕ) → Blank s links terms → IndexedBelow s links (set terms 1 (numberOf 0 1)) 2
+  index-start links terms b =
       record {
         table = record {
-          size = rw (length-set terms 1 (numberOf 0 1)) size;
-          header = getD-set-other terms 1 0 (numberOf 0 1) 0 (λ z. omega arith) ∙ header;
+          size = rw (length-set terms 1 (numberOf 0 1)) (b .room);
+          header = getD-set-other terms 1 0 (numberOf 0 1) 0 (λ z. omega arith) ∙ b .header;
           numbers = λ n h t. at n t (term-record v s good f n t) h;
         };
         rising = record {
-          size = rw (length-set terms 1 (numberOf 0 1)) room;
-          later = λ q h. absurd (omega (arith, h, empty q));
-          within = λ q h. absurd (omega (arith, h, empty q));
+          size = rw (length-set terms 1 (numberOf 0 1)) (b .size);
+          later = λ q h. absurd (omega (arith, h, b .empty q));
+          within = λ q h. absurd (omega (arith, h, b .empty q));
         };
-        before = λ q h. absurd (omega (arith, h, empty q));
-        nodes = λ q h. absurd (omega (arith, h, empty q));
+        before = λ q h. absurd (omega (arith, h, b .empty q));
+        nodes = λ q h. absurd (omega (arith, h, b .empty q));
         met = λ n h k o. let a = applied-record v s good f n (o .term) k in
             absurd (omega (arith, h, a .earlier, term-positive v s good f (entryAt s n .w2) (a .inner)));
       }
@@ -274,5 +282,5 @@ module _ (v s : List ℕ) (good : AcceptedFacts v) (f : KeepsForm v s) where
           → getD (set terms 1 (numberOf 0 1)) n 0 ≡ numberOf (codeAt s n) (origin s n)
       at n t (inl a) h =
           let own = origin-own s n t (λ j l o e. omega (arith, l, a .number, term-positive v s good f j (o .term))) in
-          rw (first-code v s good f n a, own, a .number) (getD-set-same terms 1 (numberOf 0 1) 0 (omega (arith, t .within, size)))
+          rw (first-code v s good f n a, own, a .number) (getD-set-same terms 1 (numberOf 0 1) 0 (omega (arith, t .within, b .room)))
       at n t (inr a) h = absurd (omega (arith, h, a .earlier, term-positive v s good f (entryAt s n .w2) (a .inner)))

@@ -41,6 +41,13 @@ linkCount = 3
 abbrev pub linked : List ℕ → ℕ → ℕ
 linked links slot = getD links slot 0
 
+-- Tables in which no record is numbered or linked yet, with room for those of a script.
+pub record Blank (s links terms : List ℕ) : Type 0 where
+  pub room : entries s ≤ length terms
+  pub size : length links ≡ linkCount * length terms
+  pub empty : (slot : ℕ) → linked links slot ≡ 0
+  pub header : getD terms 0 0 ≡ 0
+
 -- The slot of the link after n records on the way to a code.
 unfoldable pub slotAt : List ℕ → ℕ → ℕ → ℕ
 slotAt links code zero = linkCount * (code / functionLimit)

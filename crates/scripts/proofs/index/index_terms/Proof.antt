@@ -32,13 +32,13 @@ form : (b : tie.Start Inv-loop μ-loop) → KeepsForm (b .pre .0 .vocabulary) (n
 form b = keeps-form _ _ (b .pre .0 .form)
 
 slice-write-terms : tie.Need-slice-write-terms Inv-loop μ-loop
-slice-write-terms c = let b = c .before .before .before in omega (arith, form b .present, b .pre .1 .0)
+slice-write-terms c = let b = c .before .before .before in omega (arith, form b .present, b .pre .1 .room)
 
 loop-holds : tie.Need-loop-holds Inv-loop μ-loop
 loop-holds c =
     let b = c .before .before .before in
-    let p = b .pre .1 in (
-      index-start _ _ (good b) (form b) (now (b .args .links)) (now (b .args .terms)) (p .0) (p .1 .0) (p .1 .1 .0) (p .1 .1 .1),
+    (
+      index-start _ _ (good b) (form b) _ _ (b .pre .1),
       omega arith,
       omega (arith, form b .present),
       refl,
