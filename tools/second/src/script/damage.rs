@@ -235,7 +235,6 @@ impl Plan {
 
     /// Puts a fault in, where the record can have it; for row 17 it may be a repeat, which is none.
     fn put_in(&mut self, script: &mut Script, (row, place): Fault) -> Put {
-        let again = if row == 17 { repeats(script, place) } else { Vec::new() };
         if row == 19 {
             let next = self.random.pick(&wrong_nexts(script, place)).unwrap_or(1);
             let Some(records) = relinked(script, place, next) else {
@@ -244,6 +243,7 @@ impl Plan {
             script.records = records;
             return Put::Fault;
         }
+        let again = if row == 17 { repeats(script, place) } else { Vec::new() };
         let Some(record) = self.random.pick(&[ways(row, script, place), again.clone()].concat()) else {
             return Put::Nothing;
         };

@@ -42,7 +42,7 @@ impl Plan {
     /// Samples 7 and 9 with repeats.
     pub fn repeated_samples(&mut self) {
         self.equal_records();
-        self.idle_records();
+        self.scattered_records();
         self.wrong_records();
         self.second_constants();
     }
@@ -65,12 +65,20 @@ impl Plan {
         }
     }
 
-    /// Sample 9 with more records of f2(a) that nothing names: before, among and after its steps.
-    fn idle_records(&mut self) {
+    /// Sample 9 with more records of f2(a) before, among and after its steps. The last step names the first
+    /// record, so that nothing names the others, or the last, which has to stand before it.
+    fn scattered_records(&mut self) {
         for (count, at) in [1, 3].into_iter().flat_map(|count| (3..=6).map(move |at| (count, at))) {
-            let mut records = sample_9(2, 2);
-            records.splice(at..at, vec![AGAIN; count]);
-            self.add_records(&sample_4().bytes(), &chained(&records), "accepted 3");
+            let late = if at == 6 {
+                refused(18, 5)
+            } else {
+                "accepted 3".to_string()
+            };
+            for (x, meant) in [(2, "accepted 3"), (at + count - 1, &late)] {
+                let mut records = sample_9(2, x as u16);
+                records.splice(at..at, vec![AGAIN; count]);
+                self.add_records(&sample_4().bytes(), &chained(&records), meant);
+            }
         }
     }
 
@@ -256,9 +264,9 @@ impl Plan {
             self.jump(jump, 60, 0, 2);
         }
         // With one record of each term, the parts below the level in which they differ have two.
-        let [same, .., other] = &JUMPS;
+        let [_, same, .., other] = &JUMPS;
         self.jump(same, DEEPEST, 0, 2);
-        self.jump(other, DEEPEST / 6, DEEPEST / 12, 1);
+        self.jump(other, DEEPEST / 10, DEEPEST / 20, 1);
     }
 
     /// A jump with a t of so many functions, of 3 and 5, and so many records of each term. The other t

@@ -23,7 +23,7 @@ const MORE: usize = 4;
 
 /// Once in how many scripts one is rewritten, and once in how many accepted ones one is damaged too: of
 /// the stored cases.
-const STORED: (usize, usize) = (4, 12);
+const STORED: (usize, usize) = (4, 14);
 /// The same of the cases of another seed.
 const SEEDED: (usize, usize) = (2, 4);
 
