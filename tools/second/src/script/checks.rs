@@ -1,9 +1,10 @@
-//! What the cases have to show before they are used: the lines for which they were made, and
-//! acceptance of nothing but inclusions.
+//! What the cases have to show before they are used: the lines for which they were made, the same
+//! answer by the first records of their terms, and acceptance of nothing but inclusions.
 
 use crate::comparison::atoms;
 use crate::script::families::inclusions;
-use crate::script::file::line;
+use crate::script::file::{line, Case};
+use crate::script::merged::check_merged;
 use crate::script::plan::Planned;
 use crate::script::records::{at, decode, QUERY_A, QUERY_B};
 use crate::vocabulary::records::records;
@@ -12,19 +13,30 @@ use crate::vocabulary::Refusal;
 /// Vocabularies with more atoms do not have their types tried, for their time.
 const MOST_ATOMS: usize = 8;
 
-/// What is wrong with a case and its answer, or nothing.
-pub fn fault(planned: &Planned, answer: Result<usize, Refusal>) -> Option<String> {
-    let line = line(answer);
-    if !planned.meant.is_empty() && line != planned.meant {
-        return Some(format!("is {line}, meant {}", planned.meant));
-    }
-    let case = &planned.case;
-    let few = || atoms(&records(&case.vocabulary)).len() <= MOST_ATOMS;
-    if answer.is_err() || !few() {
-        return None;
-    }
+/// Whether an answer is that to a script of good form: accepted, or refused along its chain.
+pub fn keeps_form(answer: Result<usize, Refusal>) -> bool {
+    answer.map_or_else(|refusal| refusal.number >= 20, |_| true)
+}
+
+/// Whether the query of a case holds; true where the types are too many to be tried.
+fn may_hold(case: &Case) -> bool {
     let header = at(&decode(&case.script), 0);
     let query = [header[QUERY_A], header[QUERY_B]];
-    let holds = inclusions(&case.vocabulary).contains(&query);
-    (!holds).then(|| format!("is {line}, but the query does not hold"))
+    let many = atoms(&records(&case.vocabulary)).len() > MOST_ATOMS;
+    many || inclusions(&case.vocabulary).contains(&query)
+}
+
+/// What is wrong with a case and its answer, or nothing.
+pub fn fault(planned: &Planned, answer: Result<usize, Refusal>) -> Option<String> {
+    let Planned { case, meant } = planned;
+    let told = line(answer);
+    if !meant.is_empty() && told != *meant {
+        return Some(format!("is {told}, meant {meant}"));
+    }
+    if answer.is_ok() && !may_hold(case) {
+        return Some(format!("is {told}, but the query does not hold"));
+    }
+    let merged = keeps_form(answer).then(|| check_merged(case));
+    let other = merged.filter(|merged| *merged != answer).map(line);
+    other.map(|other| format!("is {told}, but {other} by the first records of its terms"))
 }

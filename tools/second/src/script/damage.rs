@@ -3,7 +3,7 @@
 
 use crate::cases::beginning;
 use crate::random::Seed;
-use crate::script::faults::{ways, wrong_headers, wrong_nexts};
+use crate::script::faults::{repeats, ways, wrong_headers, wrong_nexts};
 use crate::script::plan::{refused, Base, Plan};
 use crate::script::records::{
     is_step, replace, set, with, Script, Words, FIRST, KIND, NEXT, QUERY_A, QUERY_B, RECORD_BYTES, REDUCTION, TERM,
@@ -28,6 +28,16 @@ const FEW: usize = 11;
 /// A refusal of the form: its row, and the place of the record that meets it.
 type Fault = (u8, usize);
 
+/// What was put into a script.
+enum Put {
+    /// Nothing, since the record cannot have it.
+    Nothing,
+    /// A repeat of a term record.
+    Repeat,
+    /// A fault.
+    Fault,
+}
+
 /// Where a fault stands in the order of the table: 15 to 18 record by record, then 19.
 fn order((row, place): Fault) -> (bool, usize, u8) {
     (row == 19, place, row)
@@ -48,13 +58,18 @@ impl Plan {
         self.headers(&bases);
         self.every_way(&bases);
         for (i, base) in bases.iter().enumerate() {
-            self.one_of_each(base);
-            self.repeat(base);
-            self.chain_faults(base);
-            self.mixtures(base, 2 + i % 2);
-            self.any_word(base);
+            self.damages(base, 2 + i % 2);
         }
         self.refused_vocabularies(&bases, seed);
+    }
+
+    /// The damages of one script, one of them by so many faults together.
+    pub fn damages(&mut self, base: &Base, together: usize) {
+        self.one_of_each(base);
+        self.repeat(base);
+        self.chain_faults(base);
+        self.mixtures(base, together);
+        self.any_word(base);
     }
 
     /// Row 13 next to its limits, whatever the records hold.
@@ -125,14 +140,23 @@ impl Plan {
             for place in 0..script.records.len() {
                 self.wrong_links(base, &script, place);
             }
-            for (place, row) in (1..script.records.len()).flat_map(|p| (15..=18).map(move |r| (p, r))) {
-                for wrong in ways(row, &script, place) {
-                    let mut records = script.records.clone();
-                    replace(&mut records, place, wrong);
-                    self.add_records(&base.vocabulary, &records, &refused(row, place));
+            for place in 1..script.records.len() {
+                let rows = (15..=18).flat_map(|row| ways(row, &script, place).into_iter().map(move |way| (way, row)));
+                for (wrong, row) in rows {
+                    self.with_record(base, place, wrong, &refused(row, place));
+                }
+                for again in repeats(&script, place) {
+                    self.with_record(base, place, again, "");
                 }
             }
         }
+    }
+
+    /// The script with another record at a place.
+    fn with_record(&mut self, base: &Base, place: usize, record: Words, meant: &str) {
+        let mut records = base.writer.records.clone();
+        replace(&mut records, place, record);
+        self.add_records(&base.vocabulary, &records, meant);
     }
 
     /// Every way to meet row 19 at a place.
@@ -153,13 +177,14 @@ impl Plan {
         }
     }
 
-    /// Row 17: a script with one of its term records once more, at its end.
+    /// A script with one of its term records once more, at its end.
     fn repeat(&mut self, base: &Base) {
         let mut records = base.writer.records.clone();
         let terms: Vec<Words> = records.iter().filter(|r| r[KIND] == TERM).copied().collect();
         if let (Some(term), true) = (self.random.pick(&terms), self.random.chance(4)) {
             records.push(term);
-            self.add_records(&base.vocabulary, &records, &refused(17, base.len()));
+            let meant = format!("accepted {}", base.writer.chain.len());
+            self.add_records(&base.vocabulary, &records, &meant);
         }
     }
 
@@ -184,14 +209,16 @@ impl Plan {
         faults.sort_by_key(|fault| std::cmp::Reverse(order(*fault)));
         faults.dedup();
         let mut script = base.script();
-        let mut first = None;
-        for fault in faults {
-            if self.put_in(&mut script, fault) {
-                first = Some(fault);
+        let mut meant = None;
+        for (row, place) in faults {
+            match self.put_in(&mut script, (row, place)) {
+                Put::Nothing => {}
+                Put::Repeat => meant = Some(meant.unwrap_or_default()),
+                Put::Fault => meant = Some(refused(row, place)),
             }
         }
-        if let Some((row, place)) = first {
-            self.add_records(&base.vocabulary, &script.records, &refused(row, place));
+        if let Some(meant) = meant {
+            self.add_records(&base.vocabulary, &script.records, &meant);
         }
     }
 
@@ -206,25 +233,26 @@ impl Plan {
         self.random.pick(&places).unwrap_or(1)
     }
 
-    /// Puts a fault in, where the record can have it. Answers whether it can.
-    fn put_in(&mut self, script: &mut Script, (row, place): Fault) -> bool {
-        let changed = match row {
-            19 => {
-                let next = self.random.pick(&wrong_nexts(script, place)).unwrap_or(1);
-                relinked(script, place, next)
-            }
-            _ => {
-                let wrong = self.random.pick(&ways(row, script, place));
-                wrong.map(|record| {
-                    let mut records = script.records.clone();
-                    replace(&mut records, place, record);
-                    records
-                })
-            }
+    /// Puts a fault in, where the record can have it; for row 17 it may be a repeat, which is none.
+    fn put_in(&mut self, script: &mut Script, (row, place): Fault) -> Put {
+        if row == 19 {
+            let next = self.random.pick(&wrong_nexts(script, place)).unwrap_or(1);
+            let Some(records) = relinked(script, place, next) else {
+                return Put::Nothing;
+            };
+            script.records = records;
+            return Put::Fault;
+        }
+        let again = if row == 17 { repeats(script, place) } else { Vec::new() };
+        let Some(record) = self.random.pick(&[ways(row, script, place), again.clone()].concat()) else {
+            return Put::Nothing;
         };
-        let done = changed.is_some();
-        script.records = changed.unwrap_or_else(|| script.records.clone());
-        done
+        replace(&mut script.records, place, record);
+        if again.contains(&record) {
+            Put::Repeat
+        } else {
+            Put::Fault
+        }
     }
 
     /// A script with one word changed, whatever comes of it.

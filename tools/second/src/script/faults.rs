@@ -53,10 +53,15 @@ fn wrong_terms(script: &Script, place: usize) -> Vec<Words> {
     if record[KIND] == TERM {
         wrong.extend(each(record, FUNCTION, &no_functions(script)));
         wrong.extend(each(record, INNER, &no_terms_before(script, place)));
-        let earlier = script.records.iter().take(place).skip(1);
-        wrong.extend(earlier.filter(|r| r[KIND] == TERM));
     }
     wrong
+}
+
+/// The records that a term record may repeat.
+pub fn repeats(script: &Script, place: usize) -> Vec<Words> {
+    let before = if script.word(place, KIND) == TERM { place } else { 0 };
+    let earlier = script.records.iter().take(before).skip(1);
+    earlier.filter(|r| r[KIND] == TERM).copied().collect()
 }
 
 /// The numbers of the vocabulary's records for which a test holds.

@@ -75,16 +75,12 @@ pub fn unused(kind: u16) -> &'static [usize] {
 }
 
 /// Row 17: record 1 and no other is the constant; a term applies the function of a restriction to
-/// an earlier term record, and repeats no earlier record.
+/// an earlier term record, and may repeat an earlier one.
 fn keeps_term_rule(script: &Script, place: usize) -> bool {
     let record = script.record(place);
     let is_constant = record[KIND] == CONSTANT;
     let is_place = place == usize::from(CONSTANT_PLACE);
-    let formed = || {
-        is_restriction(script, record[FUNCTION])
-            && is_term_before(script, record[INNER], place)
-            && !is_repeat(script, place)
-    };
+    let formed = || is_restriction(script, record[FUNCTION]) && is_term_before(script, record[INNER], place);
     is_constant == is_place && (record[KIND] != TERM || formed())
 }
 
@@ -98,14 +94,6 @@ fn is_restriction(script: &Script, number: u16) -> bool {
 pub fn is_term_before(script: &Script, number: u16, place: usize) -> bool {
     let number = usize::from(number);
     (1..place).contains(&number) && [CONSTANT, TERM].contains(&script.word(number, KIND))
-}
-
-/// Whether a term record stands before this one already.
-pub fn is_repeat(script: &Script, place: usize) -> bool {
-    let term = |record: &[u16; 8]| [record[KIND], record[FUNCTION], record[INNER]];
-    let own = term(&script.record(place));
-    let mut before = script.records.iter().take(place).skip(1);
-    before.any(|earlier| term(earlier) == own)
 }
 
 /// Row 18: a start's column is 0 or 1; an extension's column and position exist, and its terms

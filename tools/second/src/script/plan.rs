@@ -40,8 +40,8 @@ pub struct Plan {
     pub random: Random,
 }
 
-/// All cases. With a seed of its own a run leaves out the samples and the terms without a record, which
-/// are the same in every run.
+/// All cases. With a seed of its own a run leaves out the samples, with repeats too, and the terms
+/// without a record, which are the same in every run.
 pub fn all(seed: Seed) -> Vec<Planned> {
     let mut plan = Plan {
         cases: Vec::new(),
@@ -60,7 +60,10 @@ pub fn all(seed: Seed) -> Vec<Planned> {
     plan.long();
     if seed.is_none() {
         plan.unrecorded();
+        plan.repeated_samples();
     }
+    plan.deep_repeats();
+    plan.rewritten(seed);
     plan.cases
 }
 

@@ -161,6 +161,21 @@ impl Script {
         record.and_then(|words| words.get(word)).copied().unwrap_or(0)
     }
 
+    /// The term records, by number.
+    pub fn term_records(&self) -> impl Iterator<Item = u16> + '_ {
+        let numbered = (0..).zip(&self.records).skip(1);
+        let terms = numbered.filter(|(_, record)| [CONSTANT, TERM].contains(&record[KIND]));
+        terms.map(|(number, _)| number)
+    }
+
+    /// The function of a term and the record that it is applied to; zeros for the constant.
+    pub fn outer(&self, term: Term) -> [u16; 2] {
+        match term {
+            Term::Record(record) => [FUNCTION, INNER].map(|word| self.word(record.into(), word)),
+            Term::Applied { function, inner } => [function, inner],
+        }
+    }
+
     /// The functions of a term, from the outermost to the constant.
     pub fn written_out(&self, term: Term) -> Vec<u16> {
         let (mut functions, mut record) = match term {

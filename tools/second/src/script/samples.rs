@@ -9,7 +9,7 @@ use crate::script::records::{
 use crate::script::writer::Writer;
 
 /// Records with the steps among them chained in order.
-fn chained(records: &[Words]) -> Vec<Words> {
+pub fn chained(records: &[Words]) -> Vec<Words> {
     let mut chained = records.to_vec();
     let mut holder = (0, FIRST);
     for (place, record) in records.iter().enumerate().skip(1) {
@@ -22,7 +22,7 @@ fn chained(records: &[Words]) -> Vec<Words> {
 }
 
 /// Sample 7.
-fn sample_7() -> Vec<Words> {
+pub fn sample_7() -> Vec<Words> {
     chained(&[
         step(HEADER, &[4, 3]),
         step(CONSTANT, &[]),
@@ -33,7 +33,7 @@ fn sample_7() -> Vec<Words> {
 }
 
 /// Sample 9, with its term record at a place, and x of the last step.
-fn sample_9(term: usize, x: u16) -> Vec<Words> {
+pub fn sample_9(term: usize, x: u16) -> Vec<Words> {
     let mut records = vec![
         step(HEADER, &[2, 1]),
         step(CONSTANT, &[]),

@@ -6,7 +6,7 @@ use crate::script::columns::{Argument, Column, Literal, Matrix};
 use crate::script::plan::{refused, Base, Plan};
 use crate::script::prover::opposed;
 use crate::script::records::{
-    replace, set, step, with, Script, Words, COLUMN, CONSTANT_PLACE, EXTENSION, FIRST, FRAME, KIND, NEXT, OWNER,
+    replace, set, step, with, Script, Term, Words, COLUMN, CONSTANT_PLACE, EXTENSION, FIRST, FRAME, KIND, NEXT, OWNER,
     POSITION, REDUCTION, START, TERM, X, Y,
 };
 use crate::vocabulary::records::{at as vocabulary_record, Record};
@@ -190,7 +190,7 @@ fn other_functions(script: &Script, place: usize) -> Vec<Words> {
     like.map(|owner| with(record, OWNER, owner)).collect()
 }
 
-/// An extension that connects, with each other term record for a variable that its literal has.
+/// An extension that connects, with each record of another term for a variable that its literal has.
 fn other_terms(script: &Script, place: usize) -> Vec<Words> {
     let record = script.record(place);
     let Some((literal, _)) = connected(script, place) else {
@@ -203,7 +203,8 @@ fn other_terms(script: &Script, place: usize) -> Vec<Words> {
     let mut wrong = Vec::new();
     for term in terms.map(|p| p as u16).chain([CONSTANT_PLACE]) {
         for (word, has) in [(X, has_x), (Y, has_y)] {
-            if has && term != script.word(place, word) {
+            let written = |number| script.written_out(Term::Record(number));
+            if has && written(term) != written(script.word(place, word)) {
                 wrong.push(with(record, word, term));
             }
         }

@@ -1,8 +1,9 @@
 //! How many cases of the script check there are of each sort, and how many tell each error.
 
 use crate::script::call::{check_by, check_script};
-use crate::script::checks::fault;
-use crate::script::errors::ERRORS;
+use crate::script::checks::{fault, keeps_form};
+use crate::script::errors;
+use crate::script::merged::has_repeat;
 use crate::script::plan::Planned;
 use crate::script::records::{at, chain, decode, COLUMN, EXTENSION, KIND, MOST_RECORDS, OWNER, POSITION, RECORD_BYTES};
 use crate::table::Table;
@@ -13,7 +14,7 @@ use std::collections::BTreeSet;
 /// The refusals that cases have to meet, and how many cases have to.
 const REFUSALS: [(std::ops::RangeInclusive<u8>, usize); 3] = [(1..=8, 3), (10..=10, 30), (13..=25, 25)];
 /// How many cases have to tell each error.
-const TELLING: usize = 2;
+const TELLING: usize = 3;
 
 /// How many literals the columns have: of kinds 1, 2, 4 to 9, and of the query.
 const LITERALS: usize = 1 + 1 + 4 + 4 * 7 + 2 + 2;
@@ -26,7 +27,7 @@ type Answer = Result<usize, Refusal>;
 type Sort = (&'static str, usize, fn(&Planned, usize) -> bool);
 
 /// The sorts of accepted cases.
-const SORTS: [Sort; 6] = [
+const SORTS: [Sort; 7] = [
     ("accepted", 300, |_, _| true),
     ("accepted, 2 to 9 steps", 100, |_, n| (2..10).contains(&n)),
     ("accepted, 10 to 99 steps", 60, |_, n| (10..100).contains(&n)),
@@ -37,6 +38,9 @@ const SORTS: [Sort; 6] = [
     ("accepted, records off the chain", 100, |planned, n| {
         let records = decode(&planned.case.script);
         chain(&records).len() == n && n + 2 < records.len()
+    }),
+    ("accepted, a term under several records", 60, |planned, _| {
+        has_repeat(&decode(&planned.case.script))
     }),
 ];
 
@@ -87,12 +91,14 @@ pub fn table(cases: &[Planned]) -> Table {
         let with = pairs().filter(|(p, a)| a.is_ok_and(|steps| is_one(p, steps)));
         table.add(name, with.count(), least);
     }
+    let repeated = pairs().filter(|(p, a)| keeps_form(**a) && has_repeat(&decode(&p.case.script)));
+    table.add("of good form, a term under several records", repeated.count(), 300);
     table.add(
         "different literals of columns connected",
         connected(cases, &answers),
         LITERALS,
     );
-    for (name, wrong) in ERRORS {
+    for (name, wrong) in errors::all() {
         let told = pairs().filter(|(p, a)| check_by(*wrong, &p.case.vocabulary, &p.case.script) != **a);
         table.add(&format!("would change by: {name}"), told.count(), TELLING);
     }

@@ -5,11 +5,11 @@
 use crate::random::Random;
 use crate::script::call::{check_by, check_script};
 use crate::script::checks::fault;
-use crate::script::errors::ERRORS;
+use crate::script::errors;
 use crate::script::plan::{Plan, Planned};
 use crate::script::rules::{Paper, Rules};
 use crate::script::{decode, encode, lines, Case};
-use crate::tests::paper::{complements, header, refusal, script, scripts};
+use crate::tests::paper::{complements, header, levels, nested, refusal, script, scripts};
 use crate::tests::stored;
 
 /// The cases of some groups.
@@ -59,6 +59,28 @@ fn frames() {
     }
 }
 
+/// A term may have several records, equal ones and others of its inner term, and is the same by each of them; the
+/// constant has one. 3 is some of 2, which is some of bottom: records 2 and 3 are f3(a), 4 and 5 are f2(f3(a)).
+#[test]
+fn repeated_terms() {
+    let vocabulary = levels();
+    for (x, last) in [(2, 4), (2, 5), (3, 4), (3, 5)] {
+        assert_eq!(check_script(&vocabulary, &nested([2, 3], [x, last])), Ok(4));
+    }
+    for last in [1, 2, 3] {
+        assert_eq!(
+            check_script(&vocabulary, &nested([2, 3], [3, last])),
+            Err(refusal(21, 9))
+        );
+    }
+    assert_eq!(check_script(&vocabulary, &nested([2, 1], [3, 5])), Err(refusal(21, 9)));
+    let mut again = nested([2, 3], [2, 5]);
+    again.extend(script(&[[2, 2, 2, 0, 0, 0, 0, 0]]));
+    assert_eq!(check_script(&vocabulary, &again), Ok(4));
+    again.extend(script(&[[1, 0, 0, 0, 0, 0, 0, 0]]));
+    assert_eq!(check_script(&vocabulary, &again), Err(refusal(17, 11)));
+}
+
 /// The cases made of the samples are each made for an answer, and get it. Samples 7 to 9 are among them.
 #[test]
 fn planned_samples() {
@@ -94,6 +116,23 @@ fn faults_are_found() {
     );
 }
 
+/// An answer that another way to tell equal terms does not bear out is found out.
+#[test]
+fn other_terms_are_found() {
+    let planned = Planned {
+        case: Case {
+            vocabulary: levels(),
+            script: nested([2, 3], [3, 4]),
+        },
+        meant: String::new(),
+    };
+    assert_eq!(fault(&planned, Ok(4)), None);
+    assert_eq!(
+        fault(&planned, Err(refusal(21, 9))),
+        Some("is refused 21 9, but accepted 4 by the first records of its terms".to_string())
+    );
+}
+
 /// Each wrong script check answers otherwise in some case; the paper's, by the same path, in none.
 #[test]
 fn errors_are_told() {
@@ -105,6 +144,8 @@ fn errors_are_told() {
         plan.walks();
         plan.high_towers();
         plan.unrecorded();
+        plan.deep_repeats();
+        plan.rewritten(None);
     });
     let answered: Vec<_> = cases
         .iter()
@@ -114,7 +155,7 @@ fn errors_are_told() {
         let mut all = answered.iter();
         all.any(|(case, right)| check_by(rules, &case.vocabulary, &case.script) != *right)
     };
-    let untold = ERRORS.iter().filter(|(_, wrong)| !told(*wrong));
+    let untold = errors::all().filter(|(_, wrong)| !told(*wrong));
     assert_eq!(untold.map(|(name, _)| *name).collect::<Vec<_>>(), Vec::<&str>::new());
     assert!(!told(&Paper));
 }

@@ -107,3 +107,25 @@ pub fn complements(count: u16) -> (Vec<u8>, Vec<u8>) {
     }
     (vocabulary(0, 0, &records), script(&words))
 }
+
+/// Bottom, some of it, and some of that.
+pub fn levels() -> Vec<u8> {
+    vocabulary(0, 1, &[[2, 0, 0, 0], [7, 0, 1, 0], [7, 0, 2, 0]])
+}
+
+/// The script over them for the last within bottom. Records 2 and 3 are both f3(a); 4 and 5 are f2 of two records that
+/// are given. So are the two that its last steps name for x.
+pub fn nested(inner: [u16; 2], named: [u16; 2]) -> Vec<u8> {
+    script(&[
+        [32, 3, 1, 6, 0, 0, 0, 0],
+        [1, 0, 0, 0, 0, 0, 0, 0],
+        [2, 3, 1, 0, 0, 0, 0, 0],
+        [2, 3, 1, 0, 0, 0, 0, 0],
+        [2, 2, inner[0], 0, 0, 0, 0, 0],
+        [2, 2, inner[1], 0, 0, 0, 0, 0],
+        [3, 0, 0, 0, 0, 0, 0, 7],
+        [4, 3, 1, 1, 0, 0, 0, 8],
+        [4, 2, 1, named[0], 0, 0, 0, 9],
+        [4, 1, 0, named[1], 0, 0, 0, 0],
+    ])
+}

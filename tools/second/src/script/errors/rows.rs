@@ -1,30 +1,15 @@
-//! Script checks that are wrong in one point, so that the table can say how many cases tell each
-//! from the right one. "Errors near at hand" of the paper and its imitations are among them.
+//! Checks that are wrong in a row of the table, in the frames, in signs and predicates, or altogether.
 
 use crate::comparison::atoms;
 use crate::script::chain::{complements, run, run_steps, Frame, Goal, Machine};
-use crate::script::columns::{mentions, Argument, Predicate};
-use crate::script::form::{self, check_form, check_header, check_query, check_records, is_repeat, may_follow, unused};
+use crate::script::columns::{mentions, Argument};
+use crate::script::form::{self, check_form, check_header, check_query, check_records, may_follow, unused};
 use crate::script::records::{
-    chain, is_step, Script, Term, COLUMN, EXTENSION, FIRST, FRAME, FUNCTION, INNER, KIND, NEXT, OWNER, REDUCTION, TERM,
-    Y,
+    chain, is_step, Script, Term, COLUMN, EXTENSION, FIRST, FRAME, KIND, NEXT, OWNER, REDUCTION, Y,
 };
 use crate::script::rules::{Paper, Rules};
 use crate::vocabulary::records::Record;
 use crate::vocabulary::{refuse_if, Refusal};
-
-/// Wrong checks: for each its name, what it is called, and the rule that it replaces.
-macro_rules! wrong {
-    ($($name:literal $error:ident { $($rule:item)* })*) => {
-        /// The wrong script checks.
-        pub const ERRORS: &[(&str, &dyn Rules)] = &[$(($name, &$error)),*];
-        $(
-            #[doc = $name]
-            struct $error;
-            impl Rules for $error { $($rule)* }
-        )*
-    };
-}
 
 /// How many steps the check tests that waves the later ones through.
 const TESTED: usize = 3;
@@ -33,32 +18,6 @@ const TESTED: usize = 3;
 fn same_atom(script: &Script, l: &Goal, m: &Goal) -> bool {
     let same = |(s, t): (&Term, &Term)| script.written_out(*s) == script.written_out(*t);
     l.predicate == m.predicate && l.arguments.iter().zip(&m.arguments).all(same)
-}
-
-/// Whether a term has a record of its own, at any place of the script.
-fn has_record(script: &Script, term: Term) -> bool {
-    let Term::Applied { function, inner } = term else {
-        return true;
-    };
-    let mut terms = script.records.iter().filter(|r| r[KIND] == TERM);
-    terms.any(|r| [r[FUNCTION], r[INNER]] == [function, inner])
-}
-
-/// How many of two terms have no record.
-fn unrecorded(script: &Script, s: Term, t: Term) -> usize {
-    [s, t].into_iter().filter(|term| !has_record(script, *term)).count()
-}
-
-/// Whether two terms are functions of the same term.
-fn same_inner(script: &Script, s: Term, t: Term) -> bool {
-    let [s, t] = [s, t].map(|term| script.written_out(term));
-    s.get(1..).is_some_and(|inner| t.get(1..) == Some(inner))
-}
-
-/// Whether one of two terms is a function of the other.
-fn one_inside(script: &Script, s: Term, t: Term) -> bool {
-    let [s, t] = [s, t].map(|term| script.written_out(term));
-    s.get(1..) == Some(t.as_slice()) || t.get(1..) == Some(s.as_slice())
 }
 
 /// Rows 15 to 18 that apply anywhere, the smallest number first.
@@ -127,80 +86,6 @@ wrong! {
     "a chain without steps accepted" NoStep {
         fn run(&self, script: &Script) -> Result<usize, Refusal> {
             if chain(&script.records).is_empty() { Ok(0) } else { run(self, script) }
-        }
-    }
-    "terms compared by function alone" FunctionAlone {
-        fn same_term(&self, script: &Script, s: Term, t: Term) -> bool {
-            script.written_out(s).first() == script.written_out(t).first()
-        }
-    }
-    "terms compared by their depth" DepthAlone {
-        fn same_term(&self, script: &Script, s: Term, t: Term) -> bool {
-            script.written_out(s).len() == script.written_out(t).len()
-        }
-    }
-    "terms compared by record" ByRecord {
-        fn same_term(&self, _: &Script, s: Term, t: Term) -> bool {
-            s == t
-        }
-    }
-    "terms not compared" AnyTerm {
-        fn same_term(&self, _: &Script, _: Term, _: Term) -> bool {
-            true
-        }
-    }
-    "two terms without a record: function not compared" UnrecordedFunctions {
-        fn same_term(&self, script: &Script, s: Term, t: Term) -> bool {
-            let wrong = unrecorded(script, s, t) == 2 && same_inner(script, s, t);
-            wrong || Paper.same_term(script, s, t)
-        }
-    }
-    "two terms without a record: not compared" UnrecordedTerms {
-        fn same_term(&self, script: &Script, s: Term, t: Term) -> bool {
-            unrecorded(script, s, t) == 2 || Paper.same_term(script, s, t)
-        }
-    }
-    "a term without a record and one with: function not compared" UnrecordedFunction {
-        fn same_term(&self, script: &Script, s: Term, t: Term) -> bool {
-            let wrong = unrecorded(script, s, t) == 1 && same_inner(script, s, t);
-            wrong || Paper.same_term(script, s, t)
-        }
-    }
-    "a term without a record: inner term not compared" UnrecordedInner {
-        fn same_term(&self, script: &Script, s: Term, t: Term) -> bool {
-            let wrong = unrecorded(script, s, t) > 0 && FunctionAlone.same_term(script, s, t);
-            wrong || Paper.same_term(script, s, t)
-        }
-    }
-    "a term without a record taken as its inner term" UnrecordedAsInner {
-        fn same_term(&self, script: &Script, s: Term, t: Term) -> bool {
-            let wrong = unrecorded(script, s, t) == 1 && one_inside(script, s, t);
-            wrong || Paper.same_term(script, s, t)
-        }
-    }
-    "a term without a record: not compared" AnyUnrecorded {
-        fn same_term(&self, script: &Script, s: Term, t: Term) -> bool {
-            unrecorded(script, s, t) > 0 || Paper.same_term(script, s, t)
-        }
-    }
-    "a term without a record: not compared in roles" AnyUnrecordedRole {
-        fn connection(&self, script: &Script, column: &[Goal], at: usize, goal: &Goal) -> Option<usize> {
-            match goal.predicate {
-                Predicate::Role(_) => AnyUnrecorded.connection(script, column, at, goal),
-                Predicate::Member(_) => Paper.connection(script, column, at, goal),
-            }
-        }
-    }
-    "a term without a record: not compared in reductions" AnyUnrecordedReduced {
-        fn reduces(&self, script: &Script, frame: &Frame, goal: &Goal) -> bool {
-            AnyUnrecorded.reduces(script, frame, goal)
-        }
-    }
-    "a role's second term not compared" FirstTerm {
-        fn connection(&self, script: &Script, column: &[Goal], at: usize, goal: &Goal) -> Option<usize> {
-            let arguments = |l: &Goal| l.arguments.iter().take(1).copied().collect();
-            let first = |l: &Goal| Goal { arguments: arguments(l), ..l.clone() };
-            complements(self, script, &first(column.get(at)?), &first(goal)).then_some(at)
         }
     }
     "signs not compared" AnySign {
@@ -344,12 +229,6 @@ wrong! {
     "24 at the script's last step" LastStep {
         fn last(&self, script: &Script, _: &[usize]) -> usize {
             all_steps(script).last().unwrap_or(0)
-        }
-    }
-    "repeated terms allowed" Repeats {
-        fn applies(&self, row: u8, script: &Script, place: usize) -> bool {
-            let repeats = script.word(place, KIND) == TERM && is_repeat(script, place);
-            form::applies(row, script, place) && !(row == 17 && repeats)
         }
     }
     "15 to 18 by number, not by record" ByNumber {
