@@ -4,6 +4,7 @@
 use super::{agreed, run, Shown};
 use crate::files::Name;
 use crate::input::Input;
+use crate::script::Entry;
 use crate::stored::script_cases;
 use crate::text::vocabulary::Written;
 use crate::text::{Assembled, Kind, Line};
@@ -475,6 +476,75 @@ fn a_reduction_compares_terms_written_out() {
         why(NESTED, script, (22, 8)),
         "C5(a), the goal of that frame, is not the complement of the goal ¬C5(f9(a)): its terms are (a), the goal's (f9(a))"
     );
+}
+
+/// A script with each of its function terms under one to three records, whose inner terms are any records of theirs, and
+/// each step naming any of them; with the new number of each record.
+fn with_repeats(script: &[script::Words], mut random: impl FnMut(usize) -> usize) -> (Vec<script::Words>, Vec<u16>) {
+    let (mut repeated, mut places): (Vec<script::Words>, Vec<Vec<u16>>) = (Vec::new(), Vec::new());
+    for words in script {
+        let entry = Entry::read(*words);
+        let copies = match entry {
+            Some(Entry::Function(..)) => 1 + random(3),
+            _ => 1,
+        };
+        let mut numbers = Vec::new();
+        for _ in 0..copies {
+            let choice = random(1 << 16);
+            let of = |term: u16| match places.get(usize::from(term)) {
+                Some(all) => all[choice % all.len()],
+                None => term,
+            };
+            numbers.push(repeated.len() as u16);
+            repeated.push(entry.map_or(*words, |entry| entry.with_terms(of).words(words[7])));
+        }
+        places.push(numbers);
+    }
+    let moved: Vec<u16> = places.into_iter().map(|numbers| numbers[0]).collect();
+    for (number, words) in repeated.iter_mut().enumerate() {
+        let link = if number == 0 { 3 } else { 7 };
+        words[link] = moved[usize::from(words[link])];
+    }
+    (repeated, moved)
+}
+
+/// What a trace says, but for the numbers of records.
+fn without_records(shown: &Shown) -> Vec<&str> {
+    let lines = shown.text.lines();
+    lines
+        .filter(|line| !line.starts_with("step ") && !line.contains('#'))
+        .collect()
+}
+
+#[test]
+fn repeats_change_neither_verdict_nor_trace() {
+    let mut seed = 0x51f3_u32;
+    let mut random = |bound: usize| {
+        seed = seed.wrapping_mul(1_664_525).wrapping_add(1_013_904_223);
+        (seed >> 8) as usize % bound
+    };
+    let mut with = 0;
+    for (i, (vocabulary, script)) in script_cases().iter().enumerate() {
+        let verdict = check_script(vocabulary, script);
+        let Some(shown) = of(vocabulary, script, verdict).expect("agreement") else {
+            continue;
+        };
+        let records = script::read(script);
+        let (repeated, moved) = with_repeats(&records, &mut random);
+        if repeated.len() == records.len() || repeated.len() > judge::SCRIPT_RECORDS {
+            continue;
+        }
+        with += 1;
+        let bytes: Vec<u8> = repeated.iter().flat_map(script::bytes).collect();
+        let expected = verdict.map_err(|refusal| Refusal {
+            place: moved[refusal.place as usize].into(),
+            ..refusal
+        });
+        assert_eq!(check_script(vocabulary, &bytes), expected, "case {i}");
+        let again = of(vocabulary, &bytes, expected).expect("agreement").expect("a trace");
+        assert_eq!(without_records(&again), without_records(&shown), "case {i}");
+    }
+    assert!(with > 300, "{with}");
 }
 
 #[test]
