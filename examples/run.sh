@@ -38,6 +38,9 @@ examples() {
         cmp "$example/terms.vocabulary" "$root/examples/$example/terms.vocabulary"
         cmp "$example/proof.script" "$root/examples/$example/proof.script"
     done
+    run 0 desk assemble cat-owner/repeated.text -o cat-owner/repeated.script
+    run 0 desk verify cat-owner/terms.vocabulary cat-owner/repeated.script
+    cmp cat-owner/repeated.script "$root/examples/cat-owner/repeated.script"
     run 0 desk show relief/terms.vocabulary
     run 0 desk compare relief/terms.vocabulary 11 12 --words relief/terms.text
     run 1 desk compare relief/terms.vocabulary 11 14 --words relief/terms.text

@@ -94,7 +94,7 @@ uint64_t judge_classify(const uint8_t *vocabulary, size_t vocabulary_len, uint8_
 /* The script check: does this script prove that its header's A lies within its B, over this vocabulary? Accepted:
  * judge_steps. Nothing is written. Refusals 1 to 8, 13, 14, 10, 15 to 25; with 20 to 25 the script keeps the form, and
  * its chain is no derivation of at most 64 open frames; after 23 it may well be one of more. No refusal says that A
- * does not lie within B. */
+ * does not lie within B. A term may stand under several records, and is the same term in each. */
 uint64_t judge_check_script(const uint8_t *vocabulary, size_t vocabulary_len, const uint8_t *script, size_t script_len);
 
 /* ---- Answers, taken apart; unused bits are 0 ---- */

@@ -234,7 +234,8 @@ says it: there has to be one.
   reduce 2                        a reduction against frame 2
   raw W0 W1 W2 W3 W4 W5 W6 W7     any record, by its words; the header as 'script raw ..'
 
-T is a, f6(T) or #2, the term of record 2 of the script.
+T is a, f6(T) or #2, the term of record 2 of the script. A term may stand under several records, and is the same term in
+each; written out, it stands for the first of them.
 
 Statements, and steps, are chained in the order of their lines. 'off' before one leaves it out of the chain; its link is
 0. Any other link is written at the end of the line: 'first N' in the header, 'next N' in a statement or step. A raw

@@ -1,5 +1,7 @@
 //! Scripts as records, for display: which are accepted is the library's to say.
 
+use std::collections::HashMap;
+
 /// The eight words of a record.
 pub type Words = [u16; 8];
 
@@ -88,6 +90,19 @@ impl Entry {
         }
     }
 
+    /// The same with other term records: for the inner term of a function, and for x and y of an extension.
+    pub fn with_terms(self, term: impl Fn(u16) -> u16) -> Entry {
+        match self {
+            Entry::Function(function, inner) => Entry::Function(function, term(inner)),
+            Entry::Extend(e) => Entry::Extend(Extension {
+                x: term(e.x),
+                y: term(e.y),
+                ..e
+            }),
+            Entry::Constant | Entry::Start(_) | Entry::Reduce(_) => self,
+        }
+    }
+
     /// Whether it is a step.
     pub fn is_step(self) -> bool {
         matches!(self, Entry::Start(_) | Entry::Extend(_) | Entry::Reduce(_))
@@ -103,4 +118,31 @@ pub fn chained(records: &[Words]) -> Vec<bool> {
         let [.., next] = get(number);
         next
     })
+}
+
+/// For each record the first that says the same term: function and inner term are the same, all the way to the
+/// constant. A record that says no term is its own first.
+pub fn firsts(records: &[Words]) -> Vec<u16> {
+    let (mut firsts, mut said): (Vec<u16>, HashMap<Words, u16>) = (Vec::new(), HashMap::new());
+    for (number, words) in (0..=u16::MAX).zip(records) {
+        let term = Entry::read(*words).filter(|entry| number > 0 && !entry.is_step());
+        let written = term.map(|term| term.with_terms(|inner| first_of(&firsts, inner)).words(0));
+        firsts.push(written.map_or(number, |written| *said.entry(written).or_insert(number)));
+    }
+    firsts
+}
+
+/// The first of a record, which is itself where none is known.
+fn first_of(firsts: &[u16], number: u16) -> u16 {
+    firsts.get(usize::from(number)).copied().unwrap_or(number)
+}
+
+/// The records of a script with each term named by its first record, so that equal numbers are equal terms.
+pub fn merged(records: &[Words]) -> Vec<Words> {
+    let firsts = firsts(records);
+    let named = |words: &Words| match (Entry::read(*words), words) {
+        (Some(entry), [.., next]) => entry.with_terms(|term| first_of(&firsts, term)).words(*next),
+        (None, _) => *words,
+    };
+    records.iter().map(named).collect()
 }

@@ -201,7 +201,8 @@ pub fn relation(taxonomy: &[u8], names: usize, first: usize, second: usize) -> R
 
 /// The script check: the number of steps of a script that proves what its header asks. It is accepted exactly when it
 /// keeps the form and its chain is a derivation of at most [`FRAMES`] open frames. A refusal does not say that what it
-/// asks is false; after [`Rule::Frames`] its chain may well be a derivation of more frames.
+/// asks is false; after [`Rule::Frames`] its chain may well be a derivation of more frames. A term may stand under several
+/// records, and is the same term in each.
 pub fn check_script(vocabulary: &[u8], script: &[u8]) -> Result<u32, Refusal> {
     // SAFETY: as above.
     value(unsafe { library::judge_check_script(vocabulary.as_ptr(), vocabulary.len(), script.as_ptr(), script.len()) })

@@ -230,6 +230,18 @@ fn the_stored_vocabularies_are_answered_as_expected() {
     assert!(cases.0.is_empty() && expected.lines().count() > 4_000);
 }
 
+/// Record 10 of the script says the term of record 2.
+#[test]
+fn a_term_may_stand_under_several_records_and_the_constant_may_not() {
+    let vocabulary = include_bytes!("../../../examples/cat-owner/terms.vocabulary");
+    let mut script = *include_bytes!("../../../examples/cat-owner/repeated.script");
+    assert_eq!(script[2 * 16..3 * 16], script[10 * 16..11 * 16]);
+    assert_eq!(judge::check_script(vocabulary, &script), Ok(15));
+    script.copy_within(16..2 * 16, 10 * 16);
+    let refusal = judge::check_script(vocabulary, &script).unwrap_err();
+    assert_eq!((refusal.rule.number(), refusal.place), (17, 10));
+}
+
 #[test]
 fn the_stored_scripts_are_answered_as_expected() {
     let mut cases = Cases(include_bytes!("../../../crates/script_cases/stdin"));

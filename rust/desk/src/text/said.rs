@@ -57,6 +57,8 @@ pub enum Says {
 #[derive(Default)]
 pub struct Said {
     first: HashMap<Term, u16>,
+    /// The first record that says the term of one that repeats it.
+    repeats: HashMap<u16, u16>,
     perhaps: HashSet<Term>,
     anything: bool,
 }
@@ -67,13 +69,21 @@ impl Said {
         match says {
             Says::Nothing => (),
             Says::Term(term) if term.is_known() => {
-                self.first.entry(term).or_insert(number);
+                let first = *self.first.entry(term).or_insert(number);
+                if first != number {
+                    self.repeats.insert(number, first);
+                }
             }
             Says::Term(term) => {
                 self.perhaps.insert(term);
             }
             Says::Anything => self.anything = true,
         }
+    }
+
+    /// The first record that says what this one says, as far as lines have been read.
+    pub fn first(&self, number: u16) -> u16 {
+        self.repeats.get(&number).copied().unwrap_or(number)
     }
 
     /// The first record that says a term.

@@ -3,14 +3,16 @@
 use super::cursor::{Cursor, Fault};
 use super::records::{read_link, Form, Linked, Unread};
 use super::said::{Said, Says, Term};
-use super::{find, link_words, linked_line, whole, WRITTEN_OUT};
-use crate::script::{bytes, chained, Entry, Extension, Words, HEADER_WORD};
+use super::{link_words, linked_line, whole, WRITTEN_OUT};
+use crate::script::{bytes, chained, firsts, Entry, Extension, Words, HEADER_WORD};
 use base::chain::default_link;
 
 /// A script with the text of each term record.
 pub struct Written {
     records: Vec<Words>,
     chained: Vec<bool>,
+    /// The first record that says the term of each.
+    firsts: Vec<u16>,
     terms: Vec<String>,
 }
 
@@ -19,6 +21,7 @@ impl Written {
     pub fn new(records: Vec<Words>) -> Written {
         let mut written = Written {
             chained: chained(&records),
+            firsts: firsts(&records),
             records,
             terms: Vec::new(),
         };
@@ -33,14 +36,20 @@ impl Written {
         self.records.get(number).copied().unwrap_or_default()
     }
 
-    /// The text of a term: written out where it is short and no earlier record says the same.
+    fn first(&self, term: u16) -> u16 {
+        self.firsts.get(usize::from(term)).copied().unwrap_or(term)
+    }
+
+    /// The text of a term: written out where it is short and no earlier record says the same term.
     fn term_text(&self, number: usize) -> Option<String> {
-        let words = self.get(number);
-        let entry = Entry::read(words).filter(|entry| number > 0 && !entry.is_step())?;
-        if find(&self.records, &entry.words(0)) != Some(number) {
+        let entry = Entry::read(self.get(number)).filter(|entry| number > 0 && !entry.is_step())?;
+        let is_first = u16::try_from(number).is_ok_and(|own| self.first(own) == own);
+        let is_of_earlier = !matches!(entry, Entry::Function(_, inner) if usize::from(inner) >= number);
+        if !is_first || !is_of_earlier {
             return None;
         }
-        Some(self.entry_text(number, entry)).filter(|text| text.len() <= WRITTEN_OUT)
+        let text = self.entry_text(number, entry.with_terms(|inner| self.first(inner)));
+        Some(text).filter(|text| text.len() <= WRITTEN_OUT)
     }
 
     /// A term as the record `number` names it: written out only where it comes before.
@@ -51,7 +60,7 @@ impl Written {
         }
     }
 
-    /// A term, written out where it is short and else named by its record.
+    /// A term, written out where it is short and its first record is given, and else named by the record.
     pub fn named(&self, term: u16) -> String {
         self.term(usize::MAX, term)
     }
@@ -189,9 +198,9 @@ fn read_record(line: &mut Cursor, said: &Said) -> Result<Linked<Words>, Unread> 
     match line.choose(&WORDS, NO_RECORD)? {
         "raw" => {
             let record = read_raw(line)?;
-            Ok(Linked::unchained(record, raw_says(record)))
+            Ok(Linked::unchained(record, raw_says(record, said)))
         }
-        "a" => Ok(term_record(Term::new(CONSTANT, 0, 0))),
+        "a" => Ok(term_record(Term::new(CONSTANT, 0, 0), said)),
         "off" => {
             let steps = ["start", "extend", "reduce"];
             let word = line.choose(&steps, "a step is expected here: start, extend or reduce")?;
@@ -205,22 +214,31 @@ fn read_record(line: &mut Cursor, said: &Said) -> Result<Linked<Words>, Unread> 
 fn read_whole_function(line: &mut Cursor, said: &Said) -> Result<Linked<Words>, Unread> {
     let says = Says::Term(Term::of_kind(FUNCTION));
     let term = read_function(line, said, 1).map_err(|fault| Unread { fault, says })?;
-    Ok(term_record(term))
+    Ok(term_record(term, said))
 }
 
 /// The record of a term.
-fn term_record(term: Term) -> Linked<Words> {
+fn term_record(term: Term, said: &Said) -> Linked<Words> {
     let (a, b) = term.numbers();
-    Linked::unchained([term.kind.into(), a, b, 0, 0, 0, 0, 0], Says::Term(term))
+    let words = [term.kind.into(), a, b, 0, 0, 0, 0, 0];
+    Linked::unchained(words, Says::Term(of_first(term, said)))
 }
 
 /// What a record says that is given by its words.
-fn raw_says(words: Words) -> Says {
+fn raw_says(words: Words, said: &Said) -> Says {
     match words {
         [kind, a, b, 0, 0, 0, 0, 0] => {
-            u8::try_from(kind).map_or(Says::Nothing, |kind| Says::Term(Term::new(kind, a, b)))
+            u8::try_from(kind).map_or(Says::Nothing, |kind| Says::Term(of_first(Term::new(kind, a, b), said)))
         }
         _ => Says::Nothing,
+    }
+}
+
+/// A term with its inner term named by the first record that says it, so that one term is one value.
+fn of_first(term: Term, said: &Said) -> Term {
+    Term {
+        b: term.b.map(|inner| said.first(inner)),
+        ..term
     }
 }
 
@@ -275,11 +293,11 @@ fn read_function(line: &mut Cursor, said: &Said, nesting: usize) -> Result<Term,
     })
 }
 
-/// The record of a term: `#2`, or a term that an earlier record says.
+/// The record of a term: `#2`, or the first that says a term, written out.
 fn term(line: &mut Cursor, said: &Said, nesting: usize) -> Result<Option<u16>, Fault> {
     said.reference(line, nesting, "#2", |line| {
         if line.is_lettered('f') {
-            return read_function(line, said, nesting);
+            return Ok(of_first(read_function(line, said, nesting)?, said));
         }
         line.choose(&["a"], NO_TERM)?;
         Ok(Term::new(CONSTANT, 0, 0))

@@ -110,6 +110,60 @@ fn records_of_random_bytes_come_back_from_their_texts() {
     }
 }
 
+/// Terms that are repeated, some of them by other inner records; a step off the chain names each.
+const REPEATS: &str = "\
+script #1 within #1
+1: a
+2: f3(a)
+3: f3(a)
+4: f4(#3)
+5: f4(f3(a))
+6: f3(#5)
+7: f3(f4(f3(a)))
+8: off extend owner 3 column 2 x a y f3(a) at 0
+9: off extend owner 3 column 2 x #3 y f4(f3(a)) at 0
+10: off extend owner 3 column 2 x #5 y f3(f4(f3(a))) at 0
+11: off extend owner 3 column 2 x #7 y a at 0
+";
+
+#[test]
+fn a_term_may_have_several_records_and_is_written_out_for_the_first() {
+    let (bytes, _) = assemble(REPEATS).unwrap();
+    assert_eq!(round_trip(&bytes, true), REPEATS);
+    let records = read_script(&bytes);
+    let functions: Vec<[u16; 2]> = records[2..8].iter().map(|words| [words[1], words[2]]).collect();
+    assert_eq!(functions, [[3, 1], [3, 1], [4, 3], [4, 2], [3, 5], [3, 4]]);
+    let steps: Vec<[u16; 2]> = records[8..].iter().map(|words| [words[3], words[4]]).collect();
+    assert_eq!(steps, [[1, 2], [3, 4], [5, 6], [7, 1]]);
+    // By whatever inner record a term is written, it stands for the first record that says it.
+    for inner in ["f4(#2)", "f4(#3)", "#4"] {
+        let other = REPEATS.replace("y f4(f3(a))", &format!("y {inner}"));
+        assert_eq!(assemble(&other).unwrap().0, bytes, "{inner}");
+    }
+}
+
+#[test]
+fn random_terms_come_back_from_their_texts() {
+    let mut random = Random(0x7e53);
+    for _ in 0..4_000 {
+        let count = 2 + random.below(14);
+        let mut words: Vec<[u16; 8]> = vec![[32, 1, 1, 0, 0, 0, 0, 0], [1, 0, 0, 0, 0, 0, 0, 0]];
+        for number in 2..=count {
+            // Mostly an inner term that is earlier, and rarely a second constant.
+            let bound = if random.below(12) == 0 { count + 2 } else { number };
+            let term = [2, 3 + random.below(2) as u16, random.below(bound) as u16];
+            let [kind, function, inner] = if random.below(16) == 0 { [1, 0, 0] } else { term };
+            words.push([kind, function, inner, 0, 0, 0, 0, 0]);
+        }
+        for number in 0..=count {
+            let (x, y) = (number as u16, random.below(count + 1) as u16);
+            words.push([4, 3, 2, x, y, 0, 0, 0]);
+        }
+        let bytes: Vec<u8> = words.iter().flat_map(crate::script::bytes).collect();
+        round_trip(&bytes, true);
+    }
+}
+
 /// Pieces that mutations put into a text.
 const PIECES: [&str; 46] = [
     " ",

@@ -30,7 +30,7 @@ pub fn of(vocabulary: &Written, script: &Input, verdict: Result<u32, Refusal>) -
     if verdict.is_err_and(|refusal| !refusal.rule.is_of_chain()) {
         return Ok(None);
     }
-    let records = script::read(&script.bytes);
+    let records = script::merged(&script::read(&script.bytes));
     let trace = run::replay(vocabulary.vocabulary(), &records);
     agreed(&trace, verdict)?;
     let words = Words {
@@ -46,7 +46,7 @@ pub fn of(vocabulary: &Written, script: &Input, verdict: Result<u32, Refusal>) -
 
 /// Why the chain of a script that keeps the form is refused; nothing where the replay comes to another refusal.
 pub fn reason(vocabulary: &[u8], script: &[u8], refusal: Refusal) -> Option<String> {
-    let records = script::read(script);
+    let records = script::merged(&script::read(script));
     let vocabulary = Written::new(Vocabulary::read(vocabulary));
     let trace = run::replay(vocabulary.vocabulary(), &records);
     let why = trace.refused.filter(|_| trace.agrees(Err(refusal)))?;

@@ -5,8 +5,7 @@ use crate::script::{chained, Entry, Extension, Words};
 use base::vocabulary::Vocabulary;
 use judge::Refusal;
 
-/// A term. One that a record says is always named by that record, and no two records say the same (17), so that
-/// equal values are equal terms.
+/// A term. One that a record says is always named by the first that says it, so that equal values are equal terms.
 #[derive(Clone, Copy, Debug, PartialEq, Eq)]
 pub enum Term {
     /// The term of a script record.
@@ -102,7 +101,7 @@ impl Trace {
     }
 }
 
-/// Replays a script that keeps the form.
+/// Replays a script that keeps the form, in which each term is named by its first record (`script::merged`).
 pub fn replay(vocabulary: &Vocabulary, script: &[Words]) -> Trace {
     let [_, a, b, ..] = script.first().copied().unwrap_or_default();
     let mut machine = Machine {

@@ -4,6 +4,7 @@
 use super::{agreed, run, Shown};
 use crate::files::Name;
 use crate::input::Input;
+use crate::script::Entry;
 use crate::stored::script_cases;
 use crate::text::vocabulary::Written;
 use crate::text::{Assembled, Kind, Line};
@@ -38,6 +39,11 @@ fn in_words(vocabulary: &str, script: &str) -> Shown {
     super::of(&written, &input(&script.bytes, script.lines), verdict)
         .expect("agreement")
         .expect("a trace")
+}
+
+/// The records of a script, as they are replayed.
+fn merged(script: &[u8]) -> Vec<script::Words> {
+    script::merged(&script::read(script))
 }
 
 /// The bytes of a text.
@@ -77,7 +83,7 @@ fn the_replay_agrees_with_the_library_on_every_case() {
         let number = verdict.map_or_else(|refusal| refusal.rule.number(), |_| 0);
         let keeps_form = number == 0 || number >= 20;
         if keeps_form {
-            let trace = run::replay(&Vocabulary::read(vocabulary), &script::read(script));
+            let trace = run::replay(&Vocabulary::read(vocabulary), &merged(script));
             assert!(trace.agrees(verdict), "case {i}: {:?}, {verdict:?}", trace.answer());
             *replayed.entry(number).or_default() += 1;
         }
@@ -85,7 +91,7 @@ fn the_replay_agrees_with_the_library_on_every_case() {
         assert_eq!(shown.is_some(), keeps_form, "case {i}");
     }
     let expected = [
-        (0, 488),
+        (0, 523),
         (20, 202),
         (21, 777),
         (22, 824),
@@ -103,7 +109,7 @@ fn a_trace_has_every_step_and_a_reason_where_it_is_refused() {
         let Some(shown) = of(vocabulary, script, verdict).expect("agreement") else {
             continue;
         };
-        let steps = run::replay(&Vocabulary::read(vocabulary), &script::read(script)).steps;
+        let steps = run::replay(&Vocabulary::read(vocabulary), &merged(script)).steps;
         let headings = shown.text.lines().filter(|line| line.starts_with("step "));
         assert_eq!(headings.count(), steps.len(), "case {i}");
         assert_eq!(
@@ -121,7 +127,7 @@ fn a_trace_has_every_step_and_a_reason_where_it_is_refused() {
 #[test]
 fn a_replay_that_differs_is_an_error_in_desk() {
     let (vocabulary, script) = (assembled(V), assembled("script #4 within #3\na\nstart 1\n"));
-    let trace = run::replay(&Vocabulary::read(&vocabulary), &script::read(&script));
+    let trace = run::replay(&Vocabulary::read(&vocabulary), &merged(&script));
     let refusal = |number, place| {
         Err(Refusal {
             rule: Rule::of(number),
@@ -401,6 +407,164 @@ fn a_long_term_is_named_by_its_record() {
     let without = script.replace("f2(#15)\n", "");
     let named = shown(BOTTOM, &without, (21, 17)).text;
     assert!(named.contains(&format!("{{C2({long}), ¬C1(f2(#15))}}")), "{named}");
+}
+
+/// Restrictions of each sort, one of them nested, with what goals at their functions' terms can be connected to.
+const NESTED: &str = "vocabulary roles 1
+owl:Nothing
+ObjectSomeValuesFrom(r0 owl:Nothing)
+ObjectSomeValuesFrom(r0 #2)
+c1
+ObjectComplementOf(c1)
+ObjectUnionOf(#4 #5)
+ObjectAllValuesFrom(r0 #6)
+owl:Thing
+ObjectAllValuesFrom(r0 c1)
+SubClassOf(#9 #5)
+";
+
+#[test]
+fn a_term_is_the_same_under_each_of_its_records() {
+    // Record 4 says f2(f3(a)) by the inner record 3, and step 3 leaves the same term by the inner record 2.
+    let script = "script #3 within #1\na\nf3(a)\nf3(a)\nf2(#3)\nf2(#2)\nstart 0\nextend owner 3 column 1 x a at 0\n\
+                  extend owner 2 column 1 x #2 at 0\nextend owner 1 column 0 x ";
+    let expected = "\
+query: term 3, ObjectSomeValuesFrom(r0 ObjectSomeValuesFrom(r0 owl:Nothing)), within term 1, owl:Nothing
+step 1, record 6: start with query column 0
+  column {¬C3(a)}
+> frame 0: ¬C3(a)
+step 2, record 7: extend by owner 3, ObjectSomeValuesFrom(r0 ObjectSomeValuesFrom(r0 owl:Nothing)), column 1, x = a
+  goal ¬C3(a), against C3(a) at position 0 of {C3(a), ¬C2(f3(a))}
+  frame 0: ¬C3(a)
+> frame 1: ¬C2(f3(a))
+step 3, record 8: extend by owner 2, ObjectSomeValuesFrom(r0 owl:Nothing), column 1, x = f3(a)
+  goal ¬C2(f3(a)), against C2(f3(a)) at position 0 of {C2(f3(a)), ¬C1(f2(f3(a)))}
+  frame 0: ¬C3(a)
+  frame 1: ¬C2(f3(a))
+> frame 2: ¬C1(f2(f3(a)))
+step 4, record 9: extend by owner 1, owl:Nothing, column 0, x = f2(f3(a))
+  goal ¬C1(f2(f3(a))), against C1(f2(f3(a))) at position 0 of {C1(f2(f3(a)))}
+  all is closed
+";
+    for record in ["#4", "#5"] {
+        for inner in ["x #2", "x #3"] {
+            let script = format!("{}{record} at 0\n", script.replace("x #2", inner));
+            assert_eq!(shown(NESTED, &script, (0, 4)).text, expected, "{record}, {inner}");
+        }
+    }
+    let refused = format!("{script}#3 at 0\n");
+    assert_eq!(
+        why(NESTED, &refused, (21, 9)),
+        "C1(f3(a)) at the position is not the complement of the goal ¬C1(f2(f3(a))): \
+         its terms are (f3(a)), the goal's (f2(f3(a)))"
+    );
+}
+
+#[test]
+fn a_reduction_compares_terms_written_out() {
+    // Everything lies within "all r0 to c1 or not c1": each step has a record of f7(a) of its own.
+    let script = "script #8 within #7\na\nf7(a)\nf7(a)\nf7(a)\nstart 1\nextend owner 7 column 1 x a at 0\n\
+                  extend owner 6 column 0 x #2 at 0\nextend owner 5 column 1 x #3 at 1\n\
+                  extend owner 6 column 1 x #4 at 1\nreduce ";
+    let text = shown(NESTED, &format!("{script}1\n"), (0, 6)).text;
+    let line = "\n  goal ¬C6(f7(a)), against C6(f7(a)), the goal of frame 1\n  all is closed\n";
+    assert!(text.ends_with(line), "{text}");
+    // The frame named has C5(a), the goal is ¬C5(f9(a)) by the second record of f9(a).
+    let script = "script #8 within #5\na\nf9(a)\nf9(a)\nstart 1\nextend owner 10 column 0 x a at 1\n\
+                  extend owner 9 column 1 x a at 0\nextend owner 5 column 1 x #3 at 1\nreduce 0\n";
+    assert_eq!(
+        why(NESTED, script, (22, 8)),
+        "C5(a), the goal of that frame, is not the complement of the goal ¬C5(f9(a)): its terms are (a), the goal's (f9(a))"
+    );
+}
+
+/// A script with each of its function terms under one to three records, whose inner terms are any records of theirs, and
+/// each step naming any of them; with the new number of each record.
+fn with_repeats(script: &[script::Words], mut random: impl FnMut(usize) -> usize) -> (Vec<script::Words>, Vec<u16>) {
+    let (mut repeated, mut places): (Vec<script::Words>, Vec<Vec<u16>>) = (Vec::new(), Vec::new());
+    for words in script {
+        let entry = Entry::read(*words);
+        let copies = match entry {
+            Some(Entry::Function(..)) => 1 + random(3),
+            _ => 1,
+        };
+        let mut numbers = Vec::new();
+        for _ in 0..copies {
+            let choice = random(1 << 16);
+            let of = |term: u16| match places.get(usize::from(term)) {
+                Some(all) => all[choice % all.len()],
+                None => term,
+            };
+            numbers.push(repeated.len() as u16);
+            repeated.push(entry.map_or(*words, |entry| entry.with_terms(of).words(words[7])));
+        }
+        places.push(numbers);
+    }
+    let moved: Vec<u16> = places.into_iter().map(|numbers| numbers[0]).collect();
+    for (number, words) in repeated.iter_mut().enumerate() {
+        let link = if number == 0 { 3 } else { 7 };
+        words[link] = moved[usize::from(words[link])];
+    }
+    (repeated, moved)
+}
+
+/// What a trace says, but for the numbers of records.
+fn without_records(shown: &Shown) -> Vec<&str> {
+    let lines = shown.text.lines();
+    lines
+        .filter(|line| !line.starts_with("step ") && !line.contains('#'))
+        .collect()
+}
+
+#[test]
+fn repeats_change_neither_verdict_nor_trace() {
+    let mut seed = 0x51f3_u32;
+    let mut random = |bound: usize| {
+        seed = seed.wrapping_mul(1_664_525).wrapping_add(1_013_904_223);
+        (seed >> 8) as usize % bound
+    };
+    let mut with = 0;
+    for (i, (vocabulary, script)) in script_cases().iter().enumerate() {
+        let verdict = check_script(vocabulary, script);
+        let Some(shown) = of(vocabulary, script, verdict).expect("agreement") else {
+            continue;
+        };
+        let records = script::read(script);
+        let (repeated, moved) = with_repeats(&records, &mut random);
+        if repeated.len() == records.len() || repeated.len() > judge::SCRIPT_RECORDS {
+            continue;
+        }
+        with += 1;
+        let bytes: Vec<u8> = repeated.iter().flat_map(script::bytes).collect();
+        let expected = verdict.map_err(|refusal| Refusal {
+            place: moved[refusal.place as usize].into(),
+            ..refusal
+        });
+        assert_eq!(check_script(vocabulary, &bytes), expected, "case {i}");
+        let again = of(vocabulary, &bytes, expected).expect("agreement").expect("a trace");
+        assert_eq!(without_records(&again), without_records(&shown), "case {i}");
+    }
+    assert!(with > 300, "{with}");
+}
+
+#[test]
+fn a_long_term_is_named_by_its_first_record() {
+    // Records 3 and 4 are f2(a), 5 and 6 are f2(f2(a)), up to 31 and 32; each inner term is the second of its two.
+    let mut script = "script #2 within #2\na\noff start 0\nf2(a)\nf2(a)\n".to_string();
+    for inner in 2..=15 {
+        script.push_str(&format!("f2(#{0})\nf2(#{0})\n", 2 * inner));
+    }
+    script.push_str("start 1\nextend owner 2 column 1 x #30 at 0\n");
+    let named = shown(BOTTOM, &script, (21, 34)).text;
+    let long = format!("{}a{}", "f2(".repeat(14), ")".repeat(14));
+    assert!(named.contains(&format!("{{C2({long}), ¬C1(#31)}}")), "{named}");
+    assert!(named.contains(&format!("x = {long}\n")), "{named}");
+    let over = script.replace("x #30", "x #32");
+    let named = shown(BOTTOM, &over, (21, 34)).text;
+    assert!(
+        named.contains("x = #31\n") && named.contains("{C2(#31), ¬C1(f2(#31))}"),
+        "{named}"
+    );
 }
 
 /// A vocabulary with a some restriction and an all restriction, each of whose records but 4 is called something.

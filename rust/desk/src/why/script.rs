@@ -134,8 +134,7 @@ impl Checked {
 
     /// What is wrong with a term of a function.
     fn function(&self, number: usize) -> Option<Reason> {
-        let words = self.get(number);
-        let [_, function, inner, ..] = words;
+        let [_, function, inner, ..] = self.get(number);
         let owner = usize::from(function);
         if let Some(absent) = vocabulary::absent(&self.vocabulary, owner) {
             return Some(Reason::foreign(absent));
@@ -145,16 +144,7 @@ impl Checked {
             let only = "only restrictions (kinds 7 and 8) have one";
             return Some(Reason::foreign(format!("{named}, has no function; {only}")));
         }
-        if let Some(reason) = self.no_term("the inner term", inner, number) {
-            return Some(reason);
-        }
-        let earlier = self
-            .script
-            .iter()
-            .take(number)
-            .skip(1)
-            .position(|other| *other == words)?;
-        Some(Reason::own(format!("it is a repeat of script record {}", earlier + 1)))
+        self.no_term("the inner term", inner, number)
     }
 
     /// 19

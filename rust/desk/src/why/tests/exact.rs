@@ -215,7 +215,16 @@ const TERMS: &[(&str, u32, Expected)] = &[
         2,
         own("the inner term is script record 7, and the script ends at record 2"),
     ),
-    ("a\nf3(a)\nf4(a)\nf3(a)\n", 4, own("it is a repeat of script record 2")),
+    (
+        "a\nf3(a)\nf3(a)\nf4(#3)\na\n",
+        5,
+        own("it is a second constant; the constant a is script record 1 only"),
+    ),
+    (
+        "a\nf3(a)\nf3(a)\nf2(#3)\n",
+        4,
+        foreign("record 2, a name, has no function; only restrictions (kinds 7 and 8) have one"),
+    ),
 ];
 
 #[test]
