@@ -26,7 +26,7 @@ ghost use Prim.Native.Nat.{_≤_, _<_};
 ghost use lib.ListN.{length};
 ghost use lib.Dec.{ltb};
 ghost use Rattle.columns.specs.Code.Packed.{literals};
-ghost use Rattle.scripts.specs.Format.{entries, extensionOf};
+ghost use Rattle.scripts.specs.Format.{entryAt, entries, extensionOf};
 ghost use Rattle.scripts.specs.Calculus.{frameLimit};
 ghost use Rattle.records.specs.Finite.{isNil};
 ghost use Rattle.scripts.specs.Run.{extendBy};
@@ -221,23 +221,33 @@ fn run_steps(
     marks: &[bool; Record::LIMIT],
     s: &[u8],
     terms: &[u32],
-    header: Entry,
     first: usize,
     column: Column,
 ) -> Judged
-    requires { ⌜ Ready (now v) (now s) (now marks) header ⌝ }
+    requires { ⌜ Ready (now v) (now s) (now marks) (entryAt (now s) 0) ⌝ }
     requires { ⌜ AllNumbered (now s) (now terms) ⌝ }
     requires { ⌜ IsStep (now s) first ⌝ }
     requires { ⌜ 0 < column .first ⌝ }
     ensures { λ r. ⌜ judged r ≡ runAfter (now (v .entry)) (now (s .entry)) (literals column ∷ []) first ⌝ }
 {
+    let header = read_entry(s, 0);
     let mut table = empty_table();
     let mut state = Machine::empty().start(&mut table, column);
     let mut last = first;
     let mut at = read_entry(s, first).w7 as usize;
     let mut steps = 1;
     while at != 0 {
-        let tested = test_step(v, marks, s, terms, header, at, &table, &state.closed, state.depth);
+        let tested = test_step(
+            v,
+            marks,
+            s,
+            terms,
+            header,
+            at,
+            &table,
+            &state.closed,
+            state.depth,
+        );
         let answer = tested.answer;
         let Checked::Fine = answer else {
             return judge_after(answer, 0);
@@ -251,25 +261,25 @@ fn run_steps(
     judge_after(pass_if(state.depth == 0, 24, last), steps)
 }
 
-// The same where the terms are not numbered yet: tables for them are lent.
+// The same where the terms are not numbered yet: tables for them are lent. The header is read again: kept until here, its
+// words would take registers from the loops of the form.
 fn run_numbering(
     v: &[u8],
     marks: &[bool; Record::LIMIT],
     s: &[u8],
-    header: Entry,
     first: usize,
     column: Column,
     links: &mut [u16],
     terms: &mut [u32],
 ) -> Judged
-    requires { ⌜ Ready (now v) (now s) (now marks) header ⌝ }
+    requires { ⌜ Ready (now v) (now s) (now marks) (entryAt (now s) 0) ⌝ }
     requires { ⌜ IsStep (now s) first ⌝ }
     requires { ⌜ 0 < column .first ⌝ }
     requires { ⌜ Blank (now s) (now links) (now terms) ⌝ }
     ensures { λ r. ⌜ judged r ≡ runAfter (now (v .entry)) (now (s .entry)) (literals column ∷ []) first ⌝ }
 {
     index_terms(s, links, terms);
-    run_steps(v, marks, s, terms, header, first, column)
+    run_steps(v, marks, s, terms, first, column)
 }
 
 // In tables for any script.
@@ -277,18 +287,17 @@ fn run_many(
     v: &[u8],
     marks: &[bool; Record::LIMIT],
     s: &[u8],
-    header: Entry,
     first: usize,
     column: Column,
 ) -> Judged
-    requires { ⌜ Ready (now v) (now s) (now marks) header ⌝ }
+    requires { ⌜ Ready (now v) (now s) (now marks) (entryAt (now s) 0) ⌝ }
     requires { ⌜ IsStep (now s) first ⌝ }
     requires { ⌜ 0 < column .first ⌝ }
     ensures { λ r. ⌜ judged r ≡ runAfter (now (v .entry)) (now (s .entry)) (literals column ∷ []) first ⌝ }
 {
     let mut links = [0; Index::LINKS * Entry::LIMIT];
     let mut terms = [0; Entry::LIMIT];
-    run_numbering(v, marks, s, header, first, column, &mut links, &mut terms)
+    run_numbering(v, marks, s, first, column, &mut links, &mut terms)
 }
 
 // In tables for few records: to zero those of any script takes as long as a small call.
@@ -296,11 +305,10 @@ fn run_few(
     v: &[u8],
     marks: &[bool; Record::LIMIT],
     s: &[u8],
-    header: Entry,
     first: usize,
     column: Column,
 ) -> Judged
-    requires { ⌜ Ready (now v) (now s) (now marks) header ⌝ }
+    requires { ⌜ Ready (now v) (now s) (now marks) (entryAt (now s) 0) ⌝ }
     requires { ⌜ IsStep (now s) first ⌝ }
     requires { ⌜ 0 < column .first ⌝ }
     requires { ⌜ entries (now s) ≤ fewEntries ⌝ }
@@ -308,26 +316,25 @@ fn run_few(
 {
     let mut links = [0; Index::LINKS * Index::FEW];
     let mut terms = [0; Index::FEW];
-    run_numbering(v, marks, s, header, first, column, &mut links, &mut terms)
+    run_numbering(v, marks, s, first, column, &mut links, &mut terms)
 }
 
 fn run_chain(
     v: &[u8],
     marks: &[bool; Record::LIMIT],
     s: &[u8],
-    header: Entry,
     first: usize,
     column: Column,
 ) -> Judged
-    requires { ⌜ Ready (now v) (now s) (now marks) header ⌝ }
+    requires { ⌜ Ready (now v) (now s) (now marks) (entryAt (now s) 0) ⌝ }
     requires { ⌜ IsStep (now s) first ⌝ }
     requires { ⌜ 0 < column .first ⌝ }
     ensures { λ r. ⌜ judged r ≡ runAfter (now (v .entry)) (now (s .entry)) (literals column ∷ []) first ⌝ }
 {
     if s.len() > Entry::SIZE * Index::FEW {
-        return run_many(v, marks, s, header, first, column);
+        return run_many(v, marks, s, first, column);
     }
-    run_few(v, marks, s, header, first, column)
+    run_few(v, marks, s, first, column)
 }
 
 // The chain: its first step is a start, the others follow.
@@ -345,12 +352,5 @@ pub fn check_chain(v: &[u8], marks: &[bool; Record::LIMIT], s: &[u8], header: En
     let Checked::Fine = begun else {
         return judge_after(begun, 0);
     };
-    run_chain(
-        v,
-        marks,
-        s,
-        header,
-        first,
-        query_column(header.w1, header.w2, e.w1),
-    )
+    run_chain(v, marks, s, first, query_column(header.w1, header.w2, e.w1))
 }

@@ -117,8 +117,10 @@ module _ (links : List ℕ) (slot i : ℕ) (empty : linked links slot ≡ 0) whe
       record {
         steps = m .steps;
         over = kept-over code (m .steps) (m .over);
-        here = rw (kept-slot code (m .steps) (m .over) (m .steps) (omega arith),
-          kept-link (slotAt links code (m .steps)) (rw (m .here) p)) (m .here);
+        here = rw (
+          kept-slot code (m .steps) (m .over) (m .steps) (omega arith),
+          kept-link (slotAt links code (m .steps)) (rw (m .here) p),
+        ) (m .here);
       }
 
   pub new-met : (terms : List ℕ) (code : ℕ) → Found links terms code slot → slot < length links → Met (set links slot i) code i

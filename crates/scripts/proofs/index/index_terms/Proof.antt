@@ -36,8 +36,7 @@ slice-write-terms c = let b = c .before .before .before in omega (arith, form b 
 
 loop-holds : tie.Need-loop-holds Inv-loop μ-loop
 loop-holds c =
-    let b = c .before .before .before in
-    (
+    let b = c .before .before .before in (
       index-start _ _ (good b) (form b) _ _ (b .pre .1),
       omega arith,
       omega (arith, form b .present),
@@ -55,8 +54,7 @@ loop-again : tie.Need-loop-again Inv-loop μ-loop
 loop-again c =
     let x = c .before .before .before .before in
     let w = x .before .before .before in
-    let l = w .before .loop in
-    (
+    let l = w .before .loop in (
       x .index-term .ensures,
       omega (arith, l .inv .1),
       omega (arith, w .loop-test .taken),

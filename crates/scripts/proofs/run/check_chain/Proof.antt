@@ -3,14 +3,14 @@
 -- Assumes nothing.
 use Prim.Native.Nat.{_≤_}
 use native.Mathlib.Omega.{arith}
-use mathlib.Core.Path.{_≡_, ap, _∙_}
+use mathlib.Core.Path.{_≡_, ap, subst, _∙_}
 use denote.Ref.{now}
 use borrow.Author.Needs.{needs}
 use borrow.Author.Tests.{eqb-true}
 use Rattle.records.proofs.Laws.Checks.{require-passed, checked-fine}
 use Rattle.columns.specs.Code.Packed.{literals}
 use Rattle.scripts.specs.Format.{queryIn, firstStep}
-use Rattle.scripts.specs.Code.Ready.{IsStep}
+use Rattle.scripts.specs.Code.Ready.{Ready, IsStep}
 use Rattle.scripts.specs.declared.entry.Entry.{Entry}
 use Rattle.scripts.proofs.Theorems.Form.{KeepsForm, keeps-form}
 use Rattle.scripts.proofs.Refinement.Starting.{start-listed, start-some, start-column, chain-none, chain-other}
@@ -81,7 +81,7 @@ run-chain-requires c κs =
     let some =
     start-some (queryIn (b .args .header)) (e .read-entry .result .w1) (q .result .first) (q .result .second)
     (q .result .third) (column g) (q .ensures 0 0 0) in
-    (b .pre, (first (e .before), some))
+    (subst (Ready _ _ _) (b .pre .begun .read) (b .pre), (first (e .before), some))
 
 returns-3 : tie.Need-returns-3
 returns-3 c =

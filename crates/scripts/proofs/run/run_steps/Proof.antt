@@ -14,7 +14,7 @@ use Rattle.scripts.specs.Calculus.{frameLimit}
 use Rattle.scripts.specs.Run.{Frames}
 use Rattle.scripts.specs.Code.Machine.{framesOf, Standing}
 use Rattle.scripts.specs.Code.Tested.{runAfter}
-use Rattle.scripts.specs.Code.Ready.{IsStep}
+use Rattle.scripts.specs.Code.Ready.{Ready, IsStep}
 use Rattle.scripts.specs.declared.entry.Entry.{Entry}
 use Rattle.scripts.proofs.Theorems.Form.{KeepsForm, keeps-form}
 use Rattle.scripts.proofs.Refinement.Frames.{frames-length}
@@ -23,16 +23,16 @@ use Rattle.scripts.proofs.run.run_steps.Statement.{statement}
 use Rattle.scripts.proofs.run.run_steps.Tie as tie
 
 abbrev Inv-loop : tie.InvT-loop
-Inv-loop v marks s terms header first table₀ state₀ last₀ at₀ steps₀ table state last at steps =
+Inv-loop v marks s terms first header table₀ state₀ last₀ at₀ steps₀ table state last at steps =
     Walk v s (runAfter v s (framesOf table₀ state₀) first) (framesOf table state) last at steps
     × Standing table (state .closed) (state .depth)
 
 abbrev μ-loop : tie.MeasureT-loop
-μ-loop v marks s terms header first table₀ state₀ last₀ at₀ steps₀ table state last at steps = left (entries s) at
+μ-loop v marks s terms first header table₀ state₀ last₀ at₀ steps₀ table state last at steps = left (entries s) at
 
 -- Places: the start, after the machine was started, in the loop, after the step was tested, where it passed, after it was read.
 abbrev start : tie.After-start Inv-loop μ-loop → tie.Start Inv-loop μ-loop
-start c = c .before .before .before .before .before .before .before
+start c = c .before .before .before .before .before .before .before .before
 
 abbrev started : tie.At-loop Inv-loop μ-loop → tie.After-start Inv-loop μ-loop
 started c = c .before .before .before
@@ -46,7 +46,7 @@ begun c = start (started (c .before))
 abbrev tested : tie.After-enum-told Inv-loop μ-loop → tie.After-test-step Inv-loop μ-loop
 tested c = c .before .before
 
-abbrev read : tie.After-advance Inv-loop μ-loop → tie.After-read-entry2 Inv-loop μ-loop
+abbrev read : tie.After-advance Inv-loop μ-loop → tie.After-read-entry3 Inv-loop μ-loop
 read c = c .before .before .before
 
 form : (c : tie.Start Inv-loop μ-loop) → KeepsForm (now (c .args .v)) (now (c .args .s))
@@ -55,6 +55,9 @@ form c = keeps-form _ _ (c .pre .0 .form)
 -- the step that the walk stands at
 here : (c : tie.In-loop Inv-loop μ-loop) → IsStep (now (begun c .args .s)) (c .before .loop .at)
 here c = standing (now (begun c .args .s)) _ (c .before .loop .inv .0 .reached) (c .loop-test .taken)
+
+read-entry-requires : tie.Need-read-entry-requires Inv-loop μ-loop
+read-entry-requires c κs = let b = c .before .before .before in omega (arith, form b .sized .least)
 
 empty-table-requires : tie.Need-empty-table-requires Inv-loop μ-loop
 empty-table-requires c κs = tt
@@ -65,24 +68,25 @@ empty-requires c κs = tt
 start-requires : tie.Need-start-requires Inv-loop μ-loop
 start-requires c κs =
     let t = c .before .before in
-    (c .before .empty .ensures, (t .empty-table .ensures, t .before .before .before .before .pre .1 .1 .1))
+    (c .before .empty .ensures, (t .empty-table .ensures, t .before .before .before .before .before .pre .1 .1 .1))
 
-read-entry-requires : tie.Need-read-entry-requires Inv-loop μ-loop
-read-entry-requires c κs = omega (arith, start c .pre .1 .1 .0 .within)
+read-entry-requires-2 : tie.Need-read-entry-requires-2 Inv-loop μ-loop
+read-entry-requires-2 c κs = omega (arith, start c .pre .1 .1 .0 .within)
 
 loop-holds : tie.Need-loop-holds Inv-loop μ-loop
 loop-holds c =
     let m = c .before .before in
     let b = start m in (
       walk-start (now (b .args .v)) (now (b .args .s)) (form b) _ _ _ _ (b .pre .1 .1 .0) refl
-          (ap (λ (x : Entry). x .w7) (c .before .read-entry .ensures)),
+          (ap (λ (x : Entry). x .w7) (c .before .read-entry2 .ensures)),
       m .start .ensures .standing,
     )
 
 test-step-requires : tie.Need-test-step-requires Inv-loop μ-loop
 test-step-requires c κs =
     let w = c .before .before .before in
-    (begun w .pre .0, (begun w .pre .1 .0, (here w, w .before .loop .inv .1)))
+    let h = started (w .before) .before .before .before .before in
+    (subst (Ready _ _ _) (sym (h .read-entry .ensures)) (begun w .pre .0), (begun w .pre .1 .0, (here w, w .before .loop .inv .1)))
 
 judge-after-requires : tie.Need-judge-after-requires Inv-loop μ-loop
 judge-after-requires c κs = tt
@@ -97,13 +101,13 @@ returns c =
     ∙ ap (λ (fs : Frames ℕ). runAfter (now (b .args .v)) (now (b .args .s)) fs (b .args .first))
     (started (w .before) .start .ensures .shown)
 
-read-entry-requires-2 : tie.Need-read-entry-requires-2 Inv-loop μ-loop
-read-entry-requires-2 c κs = omega (arith, here (looped (tested c)) .within)
+read-entry-requires-3 : tie.Need-read-entry-requires-3 Inv-loop μ-loop
+read-entry-requires-3 c κs = omega (arith, here (looped (tested c)) .within)
 
 -- the next step
-next-at : (c : tie.After-read-entry2 Inv-loop μ-loop)
-    → let w = looped (tested (c .before)) in c .read-entry2 .result .w7 ≡ nextStep (now (begun w .args .s)) (w .before .loop .at)
-next-at c = ap (λ (x : Entry). x .w7) (c .read-entry2 .ensures)
+next-at : (c : tie.After-read-entry3 Inv-loop μ-loop)
+    → let w = looped (tested (c .before)) in c .read-entry3 .result .w7 ≡ nextStep (now (begun w .args .s)) (w .before .loop .at)
+next-at c = ap (λ (x : Entry). x .w7) (c .read-entry3 .ensures)
 
 advance-requires : tie.Need-advance-requires Inv-loop μ-loop
 advance-requires c κs =
@@ -111,7 +115,7 @@ advance-requires c κs =
     let o = r .before in
     let t = tested o .test-step .ensures in
     let l = looped (tested o) .before .loop in
-    let kind = sym (ap (λ (x : Entry). x .w0) (r .read-entry2 .ensures)) in (
+    let kind = sym (ap (λ (x : Entry). x .w0) (r .read-entry3 .ensures)) in (
       l .inv .1,
       (
         λ h. subst (λ (n : ℕ). n < frameLimit) (frames-length (l .table) (l .state .closed) (l .state .depth))
@@ -162,6 +166,7 @@ returns-2 c =
 pub run-steps-spec : {M : Type 1} → statement M
 run-steps-spec =
     tie.close
-    (tie.spec Inv-loop μ-loop empty-table-requires empty-requires start-requires read-entry-requires (λ c. omega arith)
-    loop-holds test-step-requires (λ c. search needs) (λ c. search needs) judge-after-requires returns read-entry-requires-2
+    (tie.spec Inv-loop μ-loop read-entry-requires empty-table-requires empty-requires start-requires read-entry-requires-2
+    (λ c. omega arith)
+    loop-holds test-step-requires (λ c. search needs) (λ c. search needs) judge-after-requires returns read-entry-requires-3
     advance-requires add-steps (λ c. omega arith) loop-less loop-again pass-if-requires judge-after-requires-2 returns-2)
