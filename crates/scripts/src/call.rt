@@ -10,6 +10,7 @@ use records::answers::Checked;
 use records::answers::Counted;
 use records::answers::pass_if;
 use records::chain::mark_chain;
+use records::fields::Record;
 ghost use mathlib.Core.Path.{_≡_};
 ghost use Rattle.scripts.specs.Run.{scriptCheck};
 ghost use Rattle.scripts.specs.Answers.{judged};
@@ -26,7 +27,8 @@ pub fn check_script(v: &[u8], s: &[u8]) -> Judged
     let Checked::Fine = length else {
         return judge_after(length, 0);
     };
-    let marks = mark_chain(v);
+    let mut marks = [false; Record::LIMIT];
+    mark_chain(v, &mut marks);
     let header = read_entry(s, 0);
     let form = check_form(v, &marks, s, header);
     let Checked::Fine = form else {

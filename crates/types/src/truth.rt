@@ -116,7 +116,8 @@ pub fn list_statements(v: &[u8], statements: &mut [u16; Record::LIMIT]) -> usize
     ensures { λ r. ⌜ Stating (now (v .entry)) (now (statements .exit)) r ⌝ }
 {
     let records = v.len() / Record::SIZE;
-    let marks = mark_chain(v);
+    let mut marks = [false; Record::LIMIT];
+    mark_chain(v, &mut marks);
     let mut found = 0;
     let mut i = 0;
     while i < records {

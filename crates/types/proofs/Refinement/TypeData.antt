@@ -125,9 +125,9 @@ module _ (v : List ℕ) (plan : Plan) (code statements : List ℕ) (p : Prepared
         filler-known m k = omega (arith, filler-in m k, p .listed .filler-at m k)
 
 -- The statements, from the marks along the chain.
-pub stating : (v : List ℕ) → AcceptedFacts v → (marks : List Bool) → ((i : ℕ) → getD marks i false ≡ chained v i)
-    → (list : List ℕ) (found : ℕ) → ListedBelow (λ i. getD marks i false) recordLimit list found (count v) → Stating v list found
-stating v good marks marked list found l =
+pub stating : (v : List ℕ) → AcceptedFacts v → (mark : ℕ → Bool) → ((i : ℕ) → mark i ≡ chained v i)
+    → (list : List ℕ) (found : ℕ) → ListedBelow mark recordLimit list found (count v) → Stating v list found
+stating v good mark marked list found l =
     record {
       few = listed-few mark recordLimit list found (count v) l;
       within = λ j h. sound j h .before;
@@ -135,8 +135,5 @@ stating v good marks marked list found l =
       finds = λ i c. listed-finds mark recordLimit list found (count v) l i (chain-statement v good i c .within) (marked i ∙ c);
     }
   where
-    mark : ℕ → Bool
-    mark i = getD marks i false
-
     sound : (j : ℕ) → j < found → Entered mark (count v) (getD list j 0)
     sound = listed-sound mark recordLimit list found (count v) l

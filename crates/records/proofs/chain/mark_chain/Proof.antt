@@ -21,7 +21,7 @@ abbrev μ-loop : tie.MeasureT-loop
 μ-loop v marks₀ at₀ marks at = left (count v) at
 
 good : (c : tie.Start Inv-loop μ-loop) → AcceptedFacts (now (c .args .v))
-good c = well-formed-vocabulary (now (c .args .v)) (c .pre)
+good c = well-formed-vocabulary (now (c .args .v)) (c .pre .0)
 
 -- the statement that the walk stands at
 here : (c : tie.In-loop Inv-loop μ-loop) → Later (now (c .before .before .before .before .before .args .v)) 0
@@ -32,10 +32,12 @@ read-at-requires : tie.Need-read-at-requires Inv-loop μ-loop
 read-at-requires c κs = omega (arith, good (c .before) .sized .least)
 
 loop-holds : tie.Need-loop-holds Inv-loop μ-loop
-loop-holds c = start _ (good (c .before .before .before)) _ (ap (λ (r : Record). r .a) (c .before .read-at .ensures))
+loop-holds c =
+    let b = c .before .before .before in
+    start _ (good b) _ _ (b .pre .1 .0) (b .pre .1 .1) (ap (λ (r : Record). r .a) (c .before .read-at .ensures))
 
-array-write-marks : tie.Need-array-write-marks Inv-loop μ-loop
-array-write-marks c = omega (arith, good (c .before .before .before .before .before) .sized .most, here c .within)
+element-write-marks : tie.Need-element-write-marks Inv-loop μ-loop
+element-write-marks c = omega (arith, good (c .before .before .before .before .before) .sized .most, here c .within)
 
 read-at-requires-2 : tie.Need-read-at-requires-2 Inv-loop μ-loop
 read-at-requires-2 c κs = omega (arith, here c .within)
@@ -59,5 +61,5 @@ returns c =
 pub mark-chain-spec : {M : Type 1} → statement M
 mark-chain-spec =
     tie.close
-    (tie.spec Inv-loop μ-loop read-at-requires (λ c. omega arith) loop-holds array-write-marks read-at-requires-2
+    (tie.spec Inv-loop μ-loop read-at-requires (λ c. omega arith) loop-holds element-write-marks read-at-requires-2
     (λ c. omega arith) loop-less loop-again returns)

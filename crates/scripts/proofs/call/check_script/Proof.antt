@@ -2,12 +2,16 @@
 -- Assumes nothing.
 use native.Mathlib.Omega.{arith}
 use mathlib.Core.Path.{_≡_}
+use mathlib.Core.Bool.{Bool, false}
+use lib.ListN.{length-replicate}
 use denote.Ref.{now}
 use borrow.Author.Needs.{needs}
 use Rattle.records.specs.Outcome.{pass}
+use Rattle.records.specs.Format.{recordLimit}
 use Rattle.records.specs.Check.{IsAccepted}
 use Rattle.records.specs.Answers.{checked}
 use Rattle.records.proofs.Theorems.Accepted.{accepted-well-formed}
+use Rattle.records.proofs.Laws.Filling.{ends-empty}
 use Rattle.records.proofs.Laws.Checks.{require-test, checked-fine}
 use Rattle.scripts.specs.Form.{lengthCheck, formCheck}
 use Rattle.scripts.proofs.Theorems.Form.{length-sized}
@@ -26,7 +30,7 @@ abbrev long : tie.After-enum-told3 → tie.After-pass-if
 long c = c .before .before
 
 abbrev begun : tie.After-check-form → tie.After-enum-told3
-begun c = c .before .before .before .before
+begun c = c .before .before .before .before .before
 
 abbrev keeps-form : tie.After-enum-told5 → tie.After-check-form
 keeps-form c = c .before .before
@@ -73,19 +77,23 @@ sized : (c : tie.After-enum-told3) → lengthCheck (now (start (taken (long c)) 
 sized c = checked-fine _ _ (measured (long c)) (c .enum-told3 .given .1)
 
 mark-chain-requires : tie.Need-mark-chain-requires
-mark-chain-requires c κs = accepted-well-formed _ _ (accepts (taken (long c)))
+mark-chain-requires c κs = (
+  accepted-well-formed _ _ (accepts (taken (long (c .before)))),
+  (length-replicate {A = Bool} recordLimit false, λ i. ends-empty recordLimit 0 i (omega arith)),
+)
 
 read-entry-requires : tie.Need-read-entry-requires
 read-entry-requires c κs =
-    let s = now (start (taken (long (c .before))) .args .s) in omega (arith, length-sized s (sized (c .before)) .least)
+    let m = c .before .before in
+    omega (arith, length-sized (now (start (taken (long m)) .args .s)) (sized m) .least)
 
 check-form-requires : tie.Need-check-form-requires
 check-form-requires c κs =
     let r = c .before in
     let m = r .before in
     record {
-      marked = record { vocabulary = accepts (taken (long (m .before))); marked = m .mark-chain .ensures };
-      sized = sized (m .before);
+      marked = record { vocabulary = accepts (taken (long (m .before .before))); marked = m .mark-chain .ensures };
+      sized = sized (m .before .before);
       read = r .read-entry .ensures;
     }
 
@@ -111,8 +119,8 @@ check-chain-requires c κs =
     let m = r .before in
     record {
       begun = record {
-        marked = record { vocabulary = accepts (taken (long (m .before))); marked = m .mark-chain .ensures };
-        sized = sized (m .before);
+        marked = record { vocabulary = accepts (taken (long (m .before .before))); marked = m .mark-chain .ensures };
+        sized = sized (m .before .before);
         read = r .read-entry .ensures;
       };
       form = fits (c .before);

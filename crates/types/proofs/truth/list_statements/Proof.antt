@@ -4,10 +4,13 @@ use Prim.Native.Nat.{_-_, _≤_, _<_}
 use native.Mathlib.Omega.{arith}
 use mathlib.Core.Logic.{⊎-elim}
 use mathlib.Core.Path.{_≡_, subst}
+use mathlib.Core.Bool.{Bool, false}
+use lib.ListN.{length-replicate}
 use denote.Ref.{now}
 use Rattle.records.proofs.Theorems.Accepted.{accepted-well-formed, accepted-vocabulary}
 use Rattle.records.specs.Finite.{has}
 use Rattle.records.specs.Format.{count, recordLimit}
+use Rattle.records.proofs.Laws.Filling.{ends-empty}
 use Rattle.records.proofs.Laws.Listing.{ListedBelow, list-start, list-more, list-same, listed-few}
 use Rattle.types.proofs.Refinement.TypeData.{stating}
 use Rattle.types.proofs.truth.list_statements.Statement.{statement}
@@ -21,19 +24,23 @@ abbrev μ-loop : tie.MeasureT-loop
 μ-loop v statements₀ records marks found₀ i₀ statements found i = count v - i
 
 mark-chain-requires : tie.Need-mark-chain-requires Inv-loop μ-loop
-mark-chain-requires c κs = accepted-well-formed (now (c .before .args .v)) _ (c .before .pre .0)
+mark-chain-requires c κs =
+    let start = c .before .before in (
+      accepted-well-formed (now (start .args .v)) _ (start .pre .0),
+      (length-replicate {A = Bool} recordLimit false, λ i. ends-empty recordLimit 0 i (omega arith)),
+    )
 
 -- the record, and its place in the list, are in the tables
 inside : (c : tie.In-loop Inv-loop μ-loop) → c .before .loop .i < recordLimit
 inside c =
-    let start = c .before .before .before .before in
+    let start = c .before .before .before .before .before in
     omega (arith, accepted-vocabulary (now (start .args .v)) _ (start .pre .0) .sized .most)
 
 free : (c : tie.In-loop Inv-loop μ-loop) → c .before .loop .found < recordLimit
 free c = omega (arith, inside c, listed-few _ _ _ _ _ (c .before .loop .inv .1))
 
 loop-holds : tie.Need-loop-holds Inv-loop μ-loop
-loop-holds c = (omega arith, list-start _ _ _ (c .before .before .pre .1))
+loop-holds c = (omega arith, list-start _ _ _ (c .before .before .before .pre .1))
 
 array-read-if1 : tie.Need-array-read-if1 Inv-loop μ-loop
 array-read-if1 c = inside c
@@ -65,11 +72,11 @@ loop-again c =
 returns : tie.Need-returns Inv-loop μ-loop
 returns c =
     let marked = c .before .before in
-    let start = marked .before .before in
+    let start = marked .before .before .before in
     let v = now (start .args .v) in
     let l = c .before .loop in
     let e : l .i ≡ count v = omega arith in
-    stating v (accepted-vocabulary v _ (start .pre .0)) (marked .mark-chain .result) (marked .mark-chain .ensures) _ _
+    stating v (accepted-vocabulary v _ (start .pre .0)) _ (marked .mark-chain .ensures) _ _
     (subst (ListedBelow _ recordLimit (l .statements) (l .found)) e (l .inv .1))
 
 pub list-statements-spec : {M : Type 1} → statement M

@@ -7,7 +7,7 @@ use mathlib.Core.Path.{_≡_, refl, sym, _∙_, ap, subst}
 use mathlib.Core.Bool.{Bool, true, false, _||_, or-true, or-false}
 use mathlib.Core.List.{List}
 use mathlib.Core.Logic.{inl, inr}
-use lib.ListN.{length, getD, set, replicate, length-set, length-replicate}
+use lib.ListN.{length, getD, set, length-set}
 use lib.Seq.{getD-set-same, getD-set-other}
 use lib.Dec.{eqb}
 use borrow.Author.Tests.{eq-eqb, ne-eqb}
@@ -23,18 +23,14 @@ pub record Marking (v : List ℕ) (marks : List Bool) (at : ℕ) : Type 0 where
   pub linked : Linked v 0 at
   pub marked : (i : ℕ) → (getD marks i false || occurs i (chainFrom v at)) ≡ chained v i
 
-unmarked : (n i : ℕ) → getD (replicate n false) i false ≡ false
-unmarked zero i = refl
-unmarked (suc n) zero = refl
-unmarked (suc n) (suc i) = unmarked n i
-
 module _ (v : List ℕ) (good : AcceptedFacts v) where
-  pub start : (at : ℕ) → at ≡ firstStatement v → Marking v (replicate recordLimit false) at
-  start at e =
+  pub start : (marks : List Bool) (at : ℕ) → length marks ≡ recordLimit → ((i : ℕ) → getD marks i false ≡ false)
+      → at ≡ firstStatement v → Marking v marks at
+  start marks at size none e =
       record {
-        size = length-replicate recordLimit false;
+        size = size;
         linked = subst (Linked v 0) (sym e) (good .first);
-        marked = λ i. rw (unmarked recordLimit i, e);
+        marked = λ i. rw (none i, e);
       }
 
   -- the statement that a walk stands at
