@@ -60,6 +60,8 @@ pub struct Said {
     /// The first record that says the term of one that repeats it.
     repeats: HashMap<u16, u16>,
     perhaps: HashSet<Term>,
+    /// The records of terms that faulty lines leave open.
+    open: HashSet<u16>,
     anything: bool,
 }
 
@@ -76,14 +78,17 @@ impl Said {
             }
             Says::Term(term) => {
                 self.perhaps.insert(term);
+                self.open.insert(number);
             }
             Says::Anything => self.anything = true,
         }
     }
 
-    /// The first record that says what this one says, as far as lines have been read.
-    pub fn first(&self, number: u16) -> u16 {
-        self.repeats.get(&number).copied().unwrap_or(number)
+    /// The first record that says what this one says, as far as lines have been read. None is known where a faulty line
+    /// leaves open what this one says: it may be what any other says.
+    pub fn first(&self, number: u16) -> Option<u16> {
+        let first = self.repeats.get(&number).copied().unwrap_or(number);
+        Some(first).filter(|_| !self.open.contains(&number))
     }
 
     /// The first record that says a term.

@@ -234,10 +234,11 @@ fn raw_says(words: Words, said: &Said) -> Says {
     }
 }
 
-/// A term with its inner term named by the first record that says it, so that one term is one value.
+/// A term with its inner term named by the first record that says it, so that one term is one value. An inner term that a
+/// faulty line leaves open is left open here, too.
 fn of_first(term: Term, said: &Said) -> Term {
     Term {
-        b: term.b.map(|inner| said.first(inner)),
+        b: term.b.and_then(|inner| said.first(inner)),
         ..term
     }
 }

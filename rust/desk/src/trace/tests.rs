@@ -91,13 +91,13 @@ fn the_replay_agrees_with_the_library_on_every_case() {
         assert_eq!(shown.is_some(), keeps_form, "case {i}");
     }
     let expected = [
-        (0, 523),
-        (20, 202),
-        (21, 777),
-        (22, 824),
+        (0, 616),
+        (20, 235),
+        (21, 1030),
+        (22, 973),
         (23, 32),
-        (24, 404),
-        (25, 113),
+        (24, 487),
+        (25, 131),
     ];
     assert_eq!(replayed, BTreeMap::from(expected));
 }

@@ -16,6 +16,7 @@ const NO_NUMBER: &str = "a number from 0 to 65535 is expected here, without lead
 const NO_RECORD: &str =
     "a term (c1, owl:Thing, ObjectUnionOf(..), ..) or a statement (SubClassOf(..)) is expected here";
 const NO_TERM: &str = "a term (c1, #7, owl:Thing, ObjectUnionOf(..), ..) is expected here";
+const NO_SCRIPT_TERM: &str = "a term (a, f7(a), #2, ..) is expected here";
 const NO_MORE: &str = "nothing more is expected on this line";
 
 /// A text and all its faults: line, column, message.
@@ -176,14 +177,38 @@ const SCRIPTS: &[Told] = &[
     ),
     (
         "f6(zzz)\nextend owner 1 column 0 x f6(#1) at 0\nextend owner 1 column 0 x a at 0",
-        &[
-            (2, 4, "a term (a, f7(a), #2, ..) is expected here"),
-            (4, 27, UNSAID_IN_SCRIPT),
-        ],
+        &[(2, 4, NO_SCRIPT_TERM), (4, 27, UNSAID_IN_SCRIPT)],
     ),
     (
         "start zzz\nextend owner 1 column 0 x a at 0",
         &[(2, 7, NO_NUMBER), (3, 27, UNSAID_IN_SCRIPT)],
+    ),
+    // What a faulty line leaves open may repeat an earlier term, and so may each term over it that names it by its record.
+    (
+        "a\nf6(a)\nf6(f5(a))\nf7(#3)\nf8(#4)\nextend owner 1 column 0 x f7(f6(a)) y f8(f7(f6(a))) at 0",
+        &[(4, 4, UNSAID_IN_SCRIPT)],
+    ),
+    (
+        "a\nf6(a)\nf6(f5(a))\nf7(f6(a))\nextend owner 1 column 0 x f7(#3) at 0",
+        &[(4, 4, UNSAID_IN_SCRIPT)],
+    ),
+    (
+        "a\nf6(f5(a))\nf6(a)\nraw 2 7 2 0 0 0 0 0\nextend owner 1 column 0 x f7(f6(a)) y f7(#3) at 0",
+        &[(3, 4, UNSAID_IN_SCRIPT)],
+    ),
+    // Terms of other functions, and over other records, are told.
+    (
+        "a\nf6(a)\nf6(f5(a))\nf7(#3)\nf8(f6(a))\nextend owner 1 column 0 x f9(#2) y f8(a) at 0",
+        &[
+            (4, 4, UNSAID_IN_SCRIPT),
+            (7, 27, UNSAID_IN_SCRIPT),
+            (7, 36, UNSAID_IN_SCRIPT),
+        ],
+    ),
+    // A repeat leaves nothing open.
+    (
+        "a\nf6(a)\nf6(a)\nf7(#3)\nextend owner 1 column 0 x f7(f6(a)) y f7(#2) at 0\nextend owner 1 column 0 x f7(#4) at 0",
+        &[(7, 27, UNSAID_IN_SCRIPT)],
     ),
     (
         "a\nextend owner 1 column 0 x a f1(a) at 0\noff zzz",
@@ -304,6 +329,10 @@ const RIGHT: [&str; 4] = [
 8: raw 2 7 2 0 0 0 0 0
 9: reduce 2
 10: off extend owner 5 column 0 x f7(f6(a)) at 1
+11: f6(a)
+12: f7(#11)
+13: f7(f6(a))
+14: off extend owner 5 column 0 x f7(#11) y #12 at 1
 ",
     "script raw 32 4 3 0 0 0 0 0\n1: a\n2: f6(a)\n",
 ];

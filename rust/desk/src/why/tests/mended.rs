@@ -114,12 +114,12 @@ fn mending_what_is_named_mends_the_step() {
         }
     }
     let expected = [
-        (QueryColumn, 61),
-        (Owner, 125),
-        (Column, 77),
-        (X, 156),
-        (Y, 104),
-        (Position, 107),
+        (QueryColumn, 62),
+        (Owner, 129),
+        (Column, 80),
+        (X, 160),
+        (Y, 106),
+        (Position, 110),
     ];
     assert_eq!(mended, BTreeMap::from(expected));
 }
