@@ -1,6 +1,6 @@
 -- Samples 1 to 9 of paper 01, from the bytes of their vocabularies and scripts, as "a joint table": answers, counts, and of the
 -- comparison the first two bytes written. "Every statement in these samples is on the chain." After them cases of paper 02,
--- worked by hand: of the classification the counts and the entries.
+-- worked by hand: of the classification the counts and the entries; scripts with repeated terms.
 use Prim.Native.Nat.{ℕ, _*_}
 use mathlib.Core.Path.{_≡_}
 use mathlib.Core.List.{List, [], _∷_, map}
@@ -132,6 +132,22 @@ W₃ = header 4 0 (name 1 (name 2 (name 3 (within 1 2 5 (within 2 3 6 (within 3 
 abbrev pub W₄ : List ℕ
 W₄ = header 5 0 (name 1 (name 2 (top (bottom (within 3 4 0 [])))))
 
+-- Bottom 1; 2 some role 0 to 1; 3 some role 0 to 2.
+abbrev pub W₅ : List ℕ
+W₅ = header 0 1 (bottom (some 0 1 (some 0 2 [])))
+
+-- Terms 2 and 3: f3(a); 4 and 5: f2 of each; 6: f2(a); 7: f2 of that. Query 3 within 1: start 0; owner 3, column 1, x = a;
+-- owner 2, column 1, x = f3(a) under record 3; owner 1, column 0, x left open: f2(f3(a)) has two records, and 7 differs from it
+-- in the inner function alone.
+abbrev pub R₁ : ℕ → List ℕ
+R₁ x =
+    asking 3 1 8 (constant (function 3 1 (function 3 1 (function 2 2 (function 2 3 (function 2 1 (function 2 6 (start 0 9
+    (extension 3 1 1 0 10 (extension 2 1 3 0 11 (extension 1 0 x 0 0 [])))))))))))
+
+-- "The constant still has one record."
+abbrev pub R₂ : List ℕ
+R₂ = asking 3 1 3 (constant (constant (start 0 0 [])))
+
 abbrev pub asked : List Question
 asked =
     compares V₁ 4 3
@@ -148,6 +164,10 @@ asked =
     ∷ classifies W₂
     ∷ classifies W₃
     ∷ classifies W₄
+    ∷ checks W₅ (R₁ 4)
+    ∷ checks W₅ (R₁ 5)
+    ∷ checks W₅ (R₁ 7)
+    ∷ checks W₅ R₂
     ∷ []
 
 abbrev pub answered : List Answer
@@ -166,6 +186,10 @@ answered =
     ∷ tables (accepted (countsOf 4 0)) (2 ∷ 1 ∷ 0 ∷ 0 ∷ 2 ∷ 1 ∷ 0 ∷ 0 ∷ 2 ∷ [])
     ∷ tables (accepted (countsOf 3 0)) (2 ∷ 1 ∷ 1 ∷ 0 ∷ 2 ∷ 2 ∷ 0 ∷ 2 ∷ 2 ∷ [])
     ∷ tables (accepted (countsOf 0 0)) (2 ∷ 2 ∷ 2 ∷ 2 ∷ [])
+    ∷ judgments (accepted 4)
+    ∷ judgments (accepted 4)
+    ∷ judgments (refused 21 11)
+    ∷ judgments (refused 17 2)
     ∷ []
 
 abbrev pub Samples : Type 0

@@ -56,14 +56,14 @@ isConstant theConstant = true
 isConstant (applied f t) = false
 isConstant (step t) = false
 
--- "the term fi(t): w1 = i, of kind 7 or 8, w2 = t, an earlier term record"; paper 02, slip 3: "Let a repeat of kind 2 through."
+-- "the term fi(t): w1 = i, of kind 7 or 8, w2 = t, an earlier term record". Paper 02, slip 3: "Let a repeat of kind 2 through."
 abbrev pub functionFits : List ℕ → List ℕ → ℕ → Line → Bool
 functionFits v s i blank = true
 functionFits v s i theConstant = true
 functionFits v s i (applied f t) = isFunction v f && earlierTerm s i t
 functionFits v s i (step t) = true
 
--- Row 17: "term rule; record 1 .. not the constant"; "the constant a, record 1 only"; slip 3: "The constant still has one record."
+-- Row 17: "term rule; record 1 .. not the constant"; "the constant a, record 1 only"; slip 3: "still has one record".
 abbrev pub termFits : List ℕ → List ℕ → ℕ → Line → Bool
 termFits v s i l = Bool·beq (isConstant l) (eqb i 1) && functionFits v s i l
 

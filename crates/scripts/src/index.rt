@@ -6,7 +6,7 @@ ghost use Prim.Native.Nat.{_+_, _*_, _/_, _<_};
 ghost use lib.ListN.{length};
 ghost use Rattle.columns.specs.Code.Packed.{termLimit};
 ghost use Rattle.scripts.specs.Code.Codes.{functionLimit, codeOf};
-ghost use Rattle.scripts.specs.Code.Index.{numberOf, codeIn, originIn, AllNumbered, Blank, Rising, passes};
+ghost use Rattle.scripts.specs.Code.Index.{codeIn, originIn, AllNumbered, Blank, Rising, passes};
 ghost use Rattle.scripts.specs.Code.Index.{Found, Entered, IndexedBelow};
 ghost use Rattle.scripts.specs.Code.Ready.{HasEntry, Formed};
 

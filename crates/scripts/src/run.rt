@@ -282,25 +282,7 @@ fn run_numbering(
     run_steps(v, marks, s, terms, first, column)
 }
 
-// In tables for any script.
-fn run_many(
-    v: &[u8],
-    marks: &[bool; Record::LIMIT],
-    s: &[u8],
-    first: usize,
-    column: Column,
-) -> Judged
-    requires { ⌜ Ready (now v) (now s) (now marks) (entryAt (now s) 0) ⌝ }
-    requires { ⌜ IsStep (now s) first ⌝ }
-    requires { ⌜ 0 < column .first ⌝ }
-    ensures { λ r. ⌜ judged r ≡ runAfter (now (v .entry)) (now (s .entry)) (literals column ∷ []) first ⌝ }
-{
-    let mut links = [0; Index::LINKS * Entry::LIMIT];
-    let mut terms = [0; Entry::LIMIT];
-    run_numbering(v, marks, s, first, column, &mut links, &mut terms)
-}
-
-// In tables for few records: to zero those of any script takes as long as a small call.
+// In tables for few records: to zero those for any script takes as long as a small call.
 fn run_few(
     v: &[u8],
     marks: &[bool; Record::LIMIT],
@@ -319,24 +301,6 @@ fn run_few(
     run_numbering(v, marks, s, first, column, &mut links, &mut terms)
 }
 
-fn run_chain(
-    v: &[u8],
-    marks: &[bool; Record::LIMIT],
-    s: &[u8],
-    first: usize,
-    column: Column,
-) -> Judged
-    requires { ⌜ Ready (now v) (now s) (now marks) (entryAt (now s) 0) ⌝ }
-    requires { ⌜ IsStep (now s) first ⌝ }
-    requires { ⌜ 0 < column .first ⌝ }
-    ensures { λ r. ⌜ judged r ≡ runAfter (now (v .entry)) (now (s .entry)) (literals column ∷ []) first ⌝ }
-{
-    if s.len() > Entry::SIZE * Index::FEW {
-        return run_many(v, marks, s, first, column);
-    }
-    run_few(v, marks, s, first, column)
-}
-
 // The chain: its first step is a start, the others follow.
 pub fn check_chain(v: &[u8], marks: &[bool; Record::LIMIT], s: &[u8], header: Entry) -> Judged
     requires { ⌜ Ready (now v) (now s) (now marks) header ⌝ }
@@ -352,5 +316,11 @@ pub fn check_chain(v: &[u8], marks: &[bool; Record::LIMIT], s: &[u8], header: En
     let Checked::Fine = begun else {
         return judge_after(begun, 0);
     };
-    run_chain(v, marks, s, first, query_column(header.w1, header.w2, e.w1))
+    let column = query_column(header.w1, header.w2, e.w1);
+    if s.len() <= Entry::SIZE * Index::FEW {
+        return run_few(v, marks, s, first, column);
+    }
+    let mut links = [0; Index::LINKS * Entry::LIMIT];
+    let mut terms = [0; Entry::LIMIT];
+    run_numbering(v, marks, s, first, column, &mut links, &mut terms)
 }

@@ -1,11 +1,14 @@
 -- The index of terms, record by record.
---   number-code, number-origin     what a number of the table tells of its term
---   table-next, table-end          the table of numbers, one record further; all records
---   index-start                    no record but the constant's is numbered
---   index-other, index-known       a record that is no function term; one whose term has an origin
---   index-new, index-entered       one that is an origin; one that was entered
+--   blank-tables                                tables of zeros
+--   FunctionTerm, function-term                 a function term that was read
+--   entered-before                              the origin of a record that was entered
+--   number-code, number-origin, number-second   what the table tells of a term record, and of the term for y
+--   terms-coded, codes-termed                   equal terms have equal codes, and the other way round
+--   code-inner                                  the code of a function term
+--   index-other, index-known, index-new         one record further: no function term; one whose origin is known; a new origin
+--   index-entered, index-start                  a function term that was entered; the tables as they come
 -- Assumes nothing.
-use Prim.Native.Nat.{ℕ, zero, suc, _+_, _*_, _/_, _%_, _≤_, _<_}
+use Prim.Native.Nat.{ℕ, _+_, _*_, _/_, _≤_, _<_}
 use native.Mathlib.Omega.{arith}
 use native.Mathlib.Decide.{ℕ-discrete}
 use mathlib.Core.Path.{_≡_, refl, sym, ap, subst, _∙_}
@@ -15,15 +18,14 @@ use lib.ListN.{length, getD, set, replicate, length-set, length-replicate}
 use lib.Seq.{getD-set-same, getD-set-other}
 use Rattle.records.proofs.Laws.Filling.{set-each, zeros}
 use Rattle.records.proofs.Theorems.Accepted.{AcceptedFacts}
-use Rattle.columns.specs.Code.Packed.{termLimit}
 use Rattle.scripts.specs.Format.{entryAt, entries, termAt}
 use Rattle.scripts.specs.Code.Codes.{TermRecord, origin, IsOrigin, functionLimit, codeOf, codeAt, codeTerm}
-use Rattle.scripts.specs.Code.Index.{numberOf, codeIn, originIn, NumberedBelow, AllNumbered, linkCount, linked, Blank, Rising}
-use Rattle.scripts.specs.Code.Index.{Met, Found, Entered, known, new, IndexedBelow}
+use Rattle.scripts.specs.Code.Index.{numberOf, codeIn, originIn, NumberedBelow, AllNumbered, linkCount, linked, Blank}
+use Rattle.scripts.specs.Code.Index.{Rising, Met, Found, Entered, known, new, IndexedBelow}
 use Rattle.scripts.specs.declared.entry.Entry.{Entry}
 use Rattle.scripts.proofs.Laws.SearchTree.{ended-code, came-over, way-within, found-none, kept-met, new-met}
 use Rattle.scripts.proofs.Theorems.Form.{KeepsForm}
-use Rattle.scripts.proofs.Refinement.Origins.{origin-least, origin-is, origin-of, origin-own}
+use Rattle.scripts.proofs.Refinement.Origins.{origin-least, origin-of, origin-own}
 use Rattle.scripts.proofs.Refinement.Terms.{First, Applied, term-record, applied-record, code-valid, code-small, code-term}
 use Rattle.scripts.proofs.Refinement.Terms.{term-positive, header-code, first-code, applied-code, code-unique}
 
@@ -36,6 +38,14 @@ blank-tables s n h =
       empty = zeros (linkCount * n);
       header = zeros n 0;
     }
+
+-- Record i, which was read, is a function term: o is what the table has for its inner term, c its code from that.
+pub record FunctionTerm (s terms : List ℕ) (i : ℕ) (e : Entry) : Type 0 where
+  pub term : TermRecord s i
+  pub kind : entryAt s i .w0 ≡ 2
+  pub inner : e .w2 < i
+  pub before : (o : ℕ) → o ≡ originIn terms (e .w2) → o < i
+  pub code : (o c : ℕ) → o ≡ originIn terms (e .w2) → c ≡ codeOf (e .w1) o → c ≡ codeAt s i
 
 -- the origin of a record that was entered does not come after it
 pub entered-before : (s links terms : List ℕ) (code i : ℕ) → IndexedBelow s links terms i → (after : List ℕ) (first : ℕ)
@@ -67,38 +77,36 @@ module _ (v s : List ℕ) (good : AcceptedFacts v) (f : KeepsForm v s) where
   codes-termed n m t u e =
       sym (code-term v s good f n t) ∙ ap (codeTerm s) e ∙ code-term v s good f m u
 
-  -- a function term that was read: o is what the table has for its inner term, c its code from that
-  module _ (terms : List ℕ) (i : ℕ) (t : NumberedBelow s terms i) (within : i < entries s) (e : Entry) (read : e ≡ entryAt s i)
-      (kind : e .w0 ≡ 2) where
-    pub read-kind : entryAt s i .w0 ≡ 2
-    read-kind = sym (ap (λ (y : Entry). y .w0) read) ∙ kind
+  -- the code of a function term has an earlier record above its function
+  pub code-inner : (code i : ℕ) → TermRecord s i → entryAt s i .w0 ≡ 2 → code ≡ codeAt s i → code / functionLimit < i
+  code-inner code i t kind c =
+      let a = applied-record v s good f i t kind in
+      let w2 = entryAt s i .w2 in
+      let inner : code / functionLimit ≡ origin s w2 = rw (c, applied-code v s good f i a) (omega (arith, a .small)) in
+      omega (arith, inner, origin-least s w2 (a .inner), a .earlier)
 
-    pub read-term : TermRecord s i
-    read-term = record { within = within; term = rw read-kind }
+  pub function-term : (terms : List ℕ) (i : ℕ) → NumberedBelow s terms i → i < entries s → (e : Entry) → e ≡ entryAt s i
+      → e .w0 ≡ 2 → FunctionTerm s terms i e
+  function-term terms i t h e read kind =
+      record {
+        term = term;
+        kind = own;
+        inner = rw read (a .earlier);
+        before = λ o q. omega (arith, inner o q, origin-least s (entryAt s i .w2) (a .inner), a .earlier);
+        code = λ o c q m. (m ∙ rw (read, inner o q) (sym (applied-code v s good f i a)));
+      }
+    where
+      own : entryAt s i .w0 ≡ 2
+      own = sym (ap (λ (y : Entry). y .w0) read) ∙ kind
 
-    read-applied : Applied v s i
-    read-applied = applied-record v s good f i read-term read-kind
+      term : TermRecord s i
+      term = record { within = h; term = rw own }
 
-    pub inner-before : e .w2 < i
-    inner-before = rw read (read-applied .earlier)
+      a : Applied v s i
+      a = applied-record v s good f i term own
 
-    module _ (o : ℕ) (told : o ≡ originIn terms (e .w2)) where
-      inner-origin : o ≡ origin s (entryAt s i .w2)
-      inner-origin =
-          told ∙ rw read (number-origin terms i t (entryAt s i .w2) (read-applied .earlier) (read-applied .inner))
-
-      pub inner-small : o < i
-      inner-small =
-          omega (arith, inner-origin, origin-least s (entryAt s i .w2) (read-applied .inner), read-applied .earlier)
-
-      module _ (c : ℕ) (made : c ≡ codeOf (e .w1) o) where
-        pub read-code : c ≡ codeAt s i
-        read-code = made ∙ rw (read, inner-origin) (sym (applied-code v s good f i read-applied))
-
-        pub code-inner : c / functionLimit < i
-        code-inner =
-            let small : e .w1 < functionLimit = rw read (read-applied .small) in
-            omega (arith, made, small, inner-small)
+      inner : (o : ℕ) → o ≡ originIn terms (e .w2) → o ≡ origin s (entryAt s i .w2)
+      inner o q = q ∙ rw read (number-origin terms i t (entryAt s i .w2) (a .earlier) (a .inner))
 
   module _ (links terms : List ℕ) (i : ℕ) (x : IndexedBelow s links terms i) (later : 1 < i) where
     -- a record that is no function term is none
@@ -211,12 +219,8 @@ module _ (v s : List ℕ) (good : AcceptedFacts v) (f : KeepsForm v s) where
         -- the slot belongs to an earlier record
         slot-before : slot < linkCount * i
         slot-before =
-            let w2 = entryAt s i .w2 in
-            let inner : code / functionLimit ≡ origin s w2 =
-            rw (c, applied-code v s good f i applied) (omega (arith, applied .small)) in
-            let small : code / functionLimit < i = omega (arith, inner, origin-least s w2 (applied .inner), applied .earlier) in
             rw (found .came .place)
-            (way-within links terms code i (found .steps) small (x .before)
+            (way-within links terms code i (found .steps) (code-inner code i t kind c) (x .before)
             (came-over links terms code slot (found .steps) (found .came)))
 
         room : slot < length links
@@ -282,5 +286,6 @@ module _ (v s : List ℕ) (good : AcceptedFacts v) (f : KeepsForm v s) where
           → getD (set terms 1 (numberOf 0 1)) n 0 ≡ numberOf (codeAt s n) (origin s n)
       at n t (inl a) h =
           let own = origin-own s n t (λ j l o e. omega (arith, l, a .number, term-positive v s good f j (o .term))) in
-          rw (first-code v s good f n a, own, a .number) (getD-set-same terms 1 (numberOf 0 1) 0 (omega (arith, t .within, b .room)))
+          let room : 1 < length terms = omega (arith, t .within, b .room, a .number) in
+          rw (first-code v s good f n a, own, a .number) (getD-set-same terms 1 (numberOf 0 1) 0 room)
       at n t (inr a) h = absurd (omega (arith, h, a .earlier, term-positive v s good f (entryAt s n .w2) (a .inner)))

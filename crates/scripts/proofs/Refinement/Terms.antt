@@ -18,16 +18,15 @@ use Prim.Native.Nat.{ℕ, zero, suc, _*_, _/_, _%_, _≤_, _<_}
 use native.Mathlib.Omega.{arith}
 use native.Mathlib.Decide.{decLt}
 use mathlib.Core.Path.{_≡_, refl, sym, ap, subst, _∙_}
-use mathlib.Core.Bool.{Bool, true, false, Bool·beq, not, _&&_, _||_}
-use mathlib.Core.List.{List, [], _∷_}
+use mathlib.Core.Bool.{Bool, true, false, Bool·beq, _||_}
+use mathlib.Core.List.{List}
 use mathlib.Core.Logic.{_⊎_, inl, inr}
 use lib.ListN.{length, take, drop-of-length-le}
 use lib.Dec.{ltb, eqb}
-use borrow.Author.Tests.{ltb-true, eqb-true, eq-eqb, ne-eqb, not-true}
+use borrow.Author.Tests.{ltb-true, eqb-true, eq-eqb, ne-eqb}
 use Rattle.records.specs.Format.{recordAt, count, wordAt}
 use Rattle.records.specs.Kinds as vocabulary
 use Rattle.records.proofs.Laws.Tests.{clash, both-left, both-right, same-truth}
-use Rattle.records.proofs.Laws.Search.{any-at}
 use Rattle.records.proofs.Theorems.Accepted.{AcceptedFacts}
 use Rattle.records.proofs.Laws.InOrder.{in-order}
 use Rattle.columns.specs.Literals.{SkolemTerm, constant, apply, sameTerm}
@@ -35,7 +34,6 @@ use Rattle.columns.specs.Code.Packed.{termLimit}
 use Rattle.columns.proofs.Theorems.Literals.{sameTerm-true, sameTerm-refl}
 use Rattle.scripts.specs.Format.{entrySize, entryAt, entries, Line, blank, theConstant, applied, step, Kind, kindOf}
 use Rattle.scripts.specs.Format.{lineAt, isTerm, termOf, termAt}
-use Rattle.records.specs.Finite.{allZero}
 use Rattle.scripts.specs.Form.{earlierTerm, isFunction, isConstant, functionFits, termFits}
 use Rattle.scripts.specs.Code.Codes.{TermRecord, origin, IsOrigin, functionLimit, codeOf, lineCode, codeAt, codeTerm}
 use Rattle.scripts.proofs.Refinement.Lines.{kind-past}

@@ -1,6 +1,6 @@
 -- `scripts::index::enter_term` meets its contract: the record that the search ended at, or record i, which is linked there.
 -- Assumes nothing.
-use Prim.Native.Nat.{ℕ, _<_}
+use Prim.Native.Nat.{_<_}
 use native.Mathlib.Omega.{arith}
 use lib.ListN.{length}
 use denote.Ref.{now}

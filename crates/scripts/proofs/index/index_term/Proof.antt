@@ -1,19 +1,18 @@
 -- `scripts::index::index_term` meets its contract. Where the record is a function term, the table has its inner term's origin.
 -- Assumes nothing.
-use Prim.Native.Nat.{ℕ, _≤_, _<_}
+use Prim.Native.Nat.{_≤_, _<_}
 use native.Mathlib.Omega.{arith}
-use mathlib.Core.Path.{_≡_, sym, ap, _∙_}
-use lib.ListN.{length}
+use mathlib.Core.Path.{_≡_, ap, _∙_}
 use denote.Ref.{now}
 use borrow.Author.Needs.{needs}
 use Rattle.records.proofs.Theorems.Accepted.{AcceptedFacts, accepted-vocabulary}
 use Rattle.scripts.specs.Format.{entries}
-use Rattle.scripts.specs.Code.Codes.{TermRecord, functionLimit, codeAt}
+use Rattle.scripts.specs.Code.Codes.{codeAt}
 use Rattle.scripts.specs.declared.entry.Entry.{Entry}
 use Rattle.scripts.proofs.Theorems.Form.{KeepsForm, keeps-form}
 use Rattle.scripts.proofs.Refinement.Terms.{code-small}
-use Rattle.scripts.proofs.Invariants.Indexing.{read-kind, read-term, inner-before, inner-small, read-code, code-inner}
-use Rattle.scripts.proofs.Invariants.Indexing.{entered-before, index-other, index-entered}
+use Rattle.scripts.proofs.Invariants.Indexing.{FunctionTerm, entered-before, code-inner, function-term}
+use Rattle.scripts.proofs.Invariants.Indexing.{index-other, index-entered}
 use Rattle.scripts.proofs.index.index_term.Statement.{statement}
 use Rattle.scripts.proofs.index.index_term.Tie as tie
 
@@ -39,47 +38,37 @@ within b = omega (arith, b .pre .1 .0)
 read-entry-requires : tie.Need-read-entry-requires
 read-entry-requires c κs = c .before .before .before .pre .1 .0
 
--- the inner term comes before
-inner : (c : tie.Then1) → c .before .before .read-entry .result .w2 < start c .args .i
-inner c =
+-- the record is a function term
+term : (c : tie.Then1)
+    → let b = start c in
+    FunctionTerm (now (b .args .s)) (now (b .args .terms)) (b .args .i) (c .before .before .read-entry .result)
+term c =
     let b = start c in
-    inner-before _ _ (good b) (form b) _ _ (b .pre .1 .1 .1 .table) (within b) _ (c .before .before .read-entry .ensures)
+    function-term _ _ (good b) (form b) _ _ (b .pre .1 .1 .1 .table) (within b) _ (c .before .before .read-entry .ensures)
     (c .if1 .taken)
 
 origin-in-requires : tie.Need-origin-in-requires
 origin-in-requires c κs =
     let t = c .before .before in
-    omega (arith, inner t, within (start t), start t .pre .1 .1 .1 .table .size)
-
--- its origin does, too
-origin-before : (c : tie.After-origin-in) → c .origin-in .result < start (taken c) .args .i
-origin-before c =
-    let t = taken c in
-    let b = start t in
-    inner-small _ _ (good b) (form b) _ _ (b .pre .1 .1 .1 .table) (within b) _ (t .before .before .read-entry .ensures)
-    (t .if1 .taken) _ (c .origin-in .ensures)
+    omega (arith, term t .inner, within (start t), start t .pre .1 .1 .1 .table .size)
 
 code-of-requires : tie.Need-code-of-requires
 code-of-requires c κs =
-    let b = start (taken c) in
-    omega (arith, origin-before c, within b, form b .sized .most)
+    let t = taken c in
+    omega (arith, term t .before _ (c .origin-in .ensures), within (start t), form (start t) .sized .most)
 
--- the record's code, and its inner part
-coded : (c : tie.After-code-of) → c .code-of .result ≡ codeAt (now (start (taken (c .before)) .args .s)) (start (taken (c .before)) .args .i)
-coded c =
-    let t = taken (c .before) in
-    let b = start t in
-    read-code _ _ (good b) (form b) _ _ (b .pre .1 .1 .1 .table) (within b) _ (t .before .before .read-entry .ensures)
-    (t .if1 .taken) _ (c .before .origin-in .ensures) _ (c .code-of .ensures)
+-- its code
+coded : (c : tie.After-code-of)
+    → let b = start (taken (c .before)) in c .code-of .result ≡ codeAt (now (b .args .s)) (b .args .i)
+coded c = term (taken (c .before)) .code _ _ (c .before .origin-in .ensures) (c .code-of .ensures)
 
 enter-term-requires : tie.Need-enter-term-requires
 enter-term-requires c κs =
     let o = c .before .before in
-    let t = taken (o .before) in
-    let b = start t in
-    let small = code-inner _ _ (good b) (form b) _ _ (b .pre .1 .1 .1 .table) (within b) _ (t .before .before .read-entry .ensures)
-    (t .if1 .taken) _ (o .before .origin-in .ensures) _ (o .code-of .ensures) in
-    (b .pre .1 .1 .1 .rising, omega (arith, small, within b, b .pre .1 .1 .1 .table .size))
+    let t = term (taken (o .before)) in
+    let b = start (taken (o .before)) in
+    let x = b .pre .1 .1 .1 in
+    (x .rising, omega (arith, code-inner _ _ (good b) (form b) _ _ (t .term) (t .kind) (coded o), within b, x .table .size))
 
 cast-enter-term : tie.Need-cast-enter-term
 cast-enter-term c =
@@ -102,9 +91,7 @@ add-terms c =
     let o = entered c in
     let t = taken (o .before) in
     let b = start t in
-    let r = read-term _ _ (good b) (form b) _ _ (b .pre .1 .1 .1 .table) (within b) _ (t .before .before .read-entry .ensures)
-    (t .if1 .taken) in
-    omega (arith, small c, within b, form b .sized .most, coded o, code-small _ _ (good b) (form b) _ r)
+    omega (arith, small c, within b, form b .sized .most, coded o, code-small _ _ (good b) (form b) _ (term t .term))
 
 mul-terms-2 : tie.Need-mul-terms-2
 mul-terms-2 c = let b = start (taken (entered c .before)) in omega (arith, within b, form b .sized .most)
@@ -117,13 +104,10 @@ slice-write-terms c =
 returns : tie.Need-returns
 returns c =
     let o = entered c in
-    let t = taken (o .before) in
-    let b = start t in
-    let e = t .before .before .read-entry .ensures in
-    let x = b .pre .1 .1 .1 in
-    index-entered _ _ (good b) (form b) _ _ _ x (b .pre .1 .1 .0) _
-    (read-term _ _ (good b) (form b) _ _ (x .table) (within b) _ e (t .if1 .taken)) (coded o)
-    (read-kind _ _ (good b) (form b) _ _ (x .table) (within b) _ e (t .if1 .taken)) _ _ (c .before .before .enter-term .ensures)
+    let t = term (taken (o .before)) in
+    let b = start (taken (o .before)) in
+    index-entered _ _ (good b) (form b) _ _ _ (b .pre .1 .1 .1) (b .pre .1 .1 .0) _ (t .term) (coded o) (t .kind) _ _
+    (c .before .before .enter-term .ensures)
 
 returns-2 : tie.Need-returns-2
 returns-2 c =

@@ -1,20 +1,25 @@
 -- `scripts::run::check_chain` meets its contract. The first step is a start, as row 20 asks; from its column the
 -- other steps are run.
 -- Assumes nothing.
-use Prim.Native.Nat.{_≤_}
+use Prim.Native.Nat.{_≤_, _<_}
 use native.Mathlib.Omega.{arith}
 use mathlib.Core.Path.{_≡_, ap, subst, _∙_}
+use mathlib.Core.List.{[], _∷_}
 use denote.Ref.{now}
 use borrow.Author.Needs.{needs}
 use borrow.Author.Tests.{eqb-true}
 use Rattle.records.proofs.Laws.Checks.{require-passed, checked-fine}
 use Rattle.columns.specs.Code.Packed.{literals}
-use Rattle.scripts.specs.Format.{queryIn, firstStep}
+use Rattle.scripts.specs.Format.{entryAt, entryLimit, queryIn, firstStep}
+use Rattle.scripts.specs.Answers.{judged}
+use Rattle.scripts.specs.Code.Tested.{runAfter, chainOutcome}
 use Rattle.scripts.specs.Code.Ready.{Ready, IsStep}
+use Rattle.scripts.specs.declared.answers.Judged.{Judged}
 use Rattle.scripts.specs.declared.entry.Entry.{Entry}
 use Rattle.scripts.proofs.Theorems.Form.{KeepsForm, keeps-form}
 use Rattle.scripts.proofs.Refinement.Starting.{start-listed, start-some, start-column, chain-none, chain-other}
 use Rattle.scripts.proofs.Refinement.Starting.{chain-started, first-step}
+use Rattle.scripts.proofs.Invariants.Indexing.{blank-tables}
 use Rattle.scripts.proofs.run.check_chain.Statement.{statement}
 use Rattle.scripts.proofs.run.check_chain.Tie as tie
 
@@ -72,33 +77,63 @@ returns-2 c =
     chain-other (now (b .args .v)) (now (b .args .s)) (form b) _ (first-at b) (first (e .before)) _ (e .read-entry .ensures)
     _ _ _ _ (c .before .enum-told4 .given .1) (p .pass-if2 .ensures) (c .judge-after2 .ensures)
 
-run-chain-requires : tie.Need-run-chain-requires
-run-chain-requires c κs =
+-- its column, of which the other steps are run, has a literal
+some : (c : tie.After-query-column) → 0 < c .query-column .result .first
+some c =
+    let e = begun (c .before) in
+    let q = c .query-column in
+    start-some (queryIn (start (e .before) .args .header)) (e .read-entry .result .w1) (q .result .first) (q .result .second)
+    (q .result .third) (column (c .before)) (q .ensures 0 0 0)
+
+-- what the run of them relies on
+abbrev at-query : tie.After-query-column → tie.Start
+at-query c = start (begun (c .before) .before)
+
+ready : (c : tie.After-query-column)
+    → let b = at-query c in
+    Ready (now (b .args .v)) (now (b .args .s)) (now (b .args .marks)) (entryAt (now (b .args .s)) 0)
+ready c = let b = at-query c in subst (Ready _ _ _) (b .pre .begun .read) (b .pre)
+
+-- and what its answer tells
+answered : (c : tie.After-query-column) (r : Judged)
+    → let b = at-query c in
+    judged r ≡ runAfter (now (b .args .v)) (now (b .args .s)) (literals (c .query-column .result) ∷ []) (b .args .header .w3)
+    → judged r ≡ chainOutcome (now (b .args .v)) (now (b .args .s))
+answered c r told =
+    let q = c .query-column in
     let g = c .before in
     let e = begun g in
-    let b = start (e .before) in
-    let q = c .query-column in
-    let some =
-    start-some (queryIn (b .args .header)) (e .read-entry .result .w1) (q .result .first) (q .result .second)
-    (q .result .third) (column g) (q .ensures 0 0 0) in
-    (subst (Ready _ _ _) (b .pre .begun .read) (b .pre), (first (e .before), some))
-
-returns-3 : tie.Need-returns-3
-returns-3 c =
-    let q = c .before .query-column in
-    let g = c .before .before in
-    let e = begun g in
-    let b = start (e .before) in
-    c .run-chain .ensures
+    let b = at-query c in
+    told
     ∙ chain-started (now (b .args .v)) (now (b .args .s)) (form b) _ (first-at b) (first (e .before)) _
     (e .read-entry .ensures) (literals (q .result))
     (start-column (now (b .args .v)) (now (b .args .s)) (b .args .header) (b .pre .begun .read) (e .read-entry .result .w1)
     (literals (q .result)) (q .ensures 0 0 0))
     (started g)
 
+run-few-requires : tie.Need-run-few-requires
+run-few-requires c κs =
+    let q = c .before in
+    (ready q, (first (begun (q .before) .before), (some q, omega (arith, c .if1 .taken))))
+
+returns-3 : tie.Need-returns-3
+returns-3 c = answered (c .before .before) (c .run-few .result) (c .run-few .ensures)
+
+run-numbering-requires : tie.Need-run-numbering-requires
+run-numbering-requires c κs =
+    let q = c .before .before .before in
+    let most = form (at-query q) .sized .most in
+    (ready q, (first (begun (q .before) .before), (some q, blank-tables _ entryLimit (omega (arith, most)))))
+
+returns-4 : tie.Need-returns-4
+returns-4 c =
+    let r = c .before .before in
+    answered (r .before .before .before .before) (r .run-numbering .result) (r .run-numbering .ensures)
+
 pub check-chain-spec : {M : Type 1} → statement M
 check-chain-spec =
     tie.close
     (tie.spec (λ c. search needs) (λ c κs. search needs) (λ c. search needs) (λ c. search needs) (λ c κs. search needs)
     returns read-entry-requires (λ c κs. search needs) (λ c. search needs) (λ c. search needs) (λ c κs. search needs)
-    returns-2 (λ c κs. search needs) run-chain-requires returns-3)
+    returns-2 (λ c κs. search needs) (λ c. search needs) run-few-requires returns-3 (λ c. search needs) (λ c. search needs)
+    run-numbering-requires returns-4)

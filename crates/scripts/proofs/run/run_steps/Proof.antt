@@ -86,7 +86,8 @@ test-step-requires : tie.Need-test-step-requires Inv-loop μ-loop
 test-step-requires c κs =
     let w = c .before .before .before in
     let h = started (w .before) .before .before .before .before in
-    (subst (Ready _ _ _) (sym (h .read-entry .ensures)) (begun w .pre .0), (begun w .pre .1 .0, (here w, w .before .loop .inv .1)))
+    let r = subst (Ready _ _ _) (sym (h .read-entry .ensures)) (begun w .pre .0) in
+    (r, (begun w .pre .1 .0, (here w, w .before .loop .inv .1)))
 
 judge-after-requires : tie.Need-judge-after-requires Inv-loop μ-loop
 judge-after-requires c κs = tt

@@ -105,7 +105,8 @@ many b = sym (frames-length (now (b .args .table)) (now (b .args .closed)) (b .a
 test-extension-requires : tie.Need-test-extension-requires
 test-extension-requires c κs =
     let b = begun (c .before) in
-    (b .pre .0, (b .pre .1 .0, record { step = b .pre .1 .1 .0; read = read (c .before) .read-entry .ensures; kind = c .match2 .keys1 }))
+    let e = read (c .before) .read-entry .ensures in
+    (b .pre .0, (b .pre .1 .0, record { step = b .pre .1 .1 .0; read = e; kind = c .match2 .keys1 }))
 
 can-reduce-requires : tie.Need-can-reduce-requires
 can-reduce-requires c κs = begun (c .before) .pre .1 .1 .1
