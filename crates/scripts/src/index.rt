@@ -6,7 +6,7 @@ ghost use Prim.Native.Nat.{_+_, _*_, _/_, _<_};
 ghost use lib.ListN.{length};
 ghost use Rattle.columns.specs.Code.Packed.{termLimit};
 ghost use Rattle.scripts.specs.Code.Codes.{functionLimit, codeOf};
-ghost use Rattle.scripts.specs.Code.Index.{codeIn, originIn, AllNumbered, Blank, Rising, passes};
+ghost use Rattle.scripts.specs.Code.Index.{codeIn, originIn, AllNumbered, Blank, Tree, passes};
 ghost use Rattle.scripts.specs.Code.Index.{Found, Entered, IndexedBelow};
 ghost use Rattle.scripts.specs.Code.Ready.{HasEntry, Formed};
 
@@ -48,7 +48,7 @@ pub fn origin_in(terms: &[u32], n: usize) -> u32
 
 // Whether a search for a code goes on at a slot: its record is of another code.
 fn passes_slot(links: &[u16], terms: &[u32], code: u32, slot: usize) -> bool
-    requires { ⌜ Rising (now links) (now terms) ⌝ }
+    requires { ⌜ Tree (now links) (now terms) ⌝ }
     requires { ⌜ slot < length (now links) ⌝ }
     ensures { λ r. ⌜ r ≡ passes (now (links .entry)) (now (terms .entry)) code slot ⌝ }
 {
@@ -59,9 +59,10 @@ fn passes_slot(links: &[u16], terms: &[u32], code: u32, slot: usize) -> bool
     code_in(terms, node) != code
 }
 
-// The slot where the search for a code ends: its record has the code, or it has none.
+// The slot where the search for a code ends: its record has the code, or it has none. Codes of one inner term differ in the
+// function alone, so the search passes as many records as a function has bits, or fewer.
 fn find_slot(links: &[u16], terms: &[u32], code: u32) -> usize
-    requires { ⌜ Rising (now links) (now terms) ⌝ }
+    requires { ⌜ Tree (now links) (now terms) ⌝ }
     requires { ⌜ code / functionLimit < length (now terms) ⌝ }
     ensures { λ r. ⌜ Found (now (links .entry)) (now (terms .entry)) code r ⌝ }
 {
@@ -79,7 +80,7 @@ fn find_slot(links: &[u16], terms: &[u32], code: u32) -> usize
 // The origin of the term of record i, by its code: the record that the search finds; where it finds none, record i, which is
 // entered.
 fn enter_term(links: &mut [u16], terms: &[u32], code: u32, i: u16) -> u16
-    requires { ⌜ Rising (now links) (now terms) ⌝ }
+    requires { ⌜ Tree (now links) (now terms) ⌝ }
     requires { ⌜ code / functionLimit < length (now terms) ⌝ }
     ensures { λ r. ⌜ Entered (now (links .entry)) (now (terms .entry)) code i (now (links .exit)) r ⌝ }
 {

@@ -8,7 +8,7 @@
 --   index-other, index-known, index-new         one record further: no function term; one whose origin is known; a new origin
 --   index-entered, index-start                  a function term that was entered; the tables as they come
 -- Assumes nothing.
-use Prim.Native.Nat.{ℕ, _+_, _*_, _/_, _≤_, _<_}
+use Prim.Native.Nat.{ℕ, _+_, _*_, _/_, _%_, _≤_, _<_}
 use native.Mathlib.Omega.{arith}
 use native.Mathlib.Decide.{ℕ-discrete}
 use mathlib.Core.Path.{_≡_, refl, sym, ap, subst, _∙_}
@@ -18,12 +18,13 @@ use lib.ListN.{length, getD, set, replicate, length-set, length-replicate}
 use lib.Seq.{getD-set-same, getD-set-other}
 use Rattle.records.proofs.Laws.Filling.{set-each, zeros}
 use Rattle.records.proofs.Theorems.Accepted.{AcceptedFacts}
+use Rattle.columns.specs.Code.Packed.{termLimit}
 use Rattle.scripts.specs.Format.{entryAt, entries, termAt}
 use Rattle.scripts.specs.Code.Codes.{TermRecord, origin, IsOrigin, functionLimit, codeOf, codeAt, codeTerm}
 use Rattle.scripts.specs.Code.Index.{numberOf, codeIn, originIn, NumberedBelow, AllNumbered, linkCount, linked, Blank}
-use Rattle.scripts.specs.Code.Index.{Rising, Met, Found, Entered, known, new, IndexedBelow}
+use Rattle.scripts.specs.Code.Index.{Tree, Met, Found, Entered, known, new, IndexedBelow}
 use Rattle.scripts.specs.declared.entry.Entry.{Entry}
-use Rattle.scripts.proofs.Laws.SearchTree.{ended-code, came-over, way-within, found-none, kept-met, new-met}
+use Rattle.scripts.proofs.Laws.SearchTree.{ended-code, came-over, way-within, found-none, kept-link, kept-met, new-met}
 use Rattle.scripts.proofs.Theorems.Form.{KeepsForm}
 use Rattle.scripts.proofs.Refinement.Origins.{origin-least, origin-of, origin-own}
 use Rattle.scripts.proofs.Refinement.Terms.{First, Applied, term-record, applied-record, code-valid, code-small, code-term}
@@ -118,10 +119,10 @@ module _ (v s : List ℕ) (good : AcceptedFacts v) (f : KeepsForm v s) where
             header = x .table .header;
             numbers = λ n h t. numbers n t (ℕ-discrete n i) h;
           };
-          rising = x .rising;
+          tree = x .tree;
           before = λ slot p. omega (arith, x .before slot p);
           nodes = x .nodes;
-          met = λ n h k o. met n k o (ℕ-discrete n i) h;
+          entered = λ n h k o. linked-at n k o (ℕ-discrete n i) h;
         }
       where
         none : TermRecord s i → ⊥
@@ -135,9 +136,10 @@ module _ (v s : List ℕ) (good : AcceptedFacts v) (f : KeepsForm v s) where
         numbers n t (yes e) h = absurd (none (subst (TermRecord s) e t))
         numbers n t (no d) h = x .table .numbers n (omega arith) t
 
-        met : (n : ℕ) → entryAt s n .w0 ≡ 2 → IsOrigin s n → Dec (n ≡ i) → n < i + 1 → Met links (codeAt s n) n
-        met n k o (yes e) h = absurd (other (subst (λ (j : ℕ). entryAt s j .w0 ≡ 2) e k))
-        met n k o (no d) h = x .met n (omega arith) k o
+        linked-at : (n : ℕ) → entryAt s n .w0 ≡ 2 → IsOrigin s n → Dec (n ≡ i) → n < i + 1
+            → (slot : ℕ) × (linked links slot ≡ n)
+        linked-at n k o (yes e) h = absurd (other (subst (λ (j : ℕ). entryAt s j .w0 ≡ 2) e k))
+        linked-at n k o (no d) h = x .entered n (omega arith) k o
 
     -- record i is a function term, of that code
     module _ (code : ℕ) (t : TermRecord s i) (c : code ≡ codeAt s i) where
@@ -156,13 +158,22 @@ module _ (v s : List ℕ) (good : AcceptedFacts v) (f : KeepsForm v s) where
               rw (q, getD-set-same terms i (numberOf code j) 0 (omega (arith, t .within, x .table .size)), c, e) refl
           at n u (no d) h = getD-set-other terms i n (numberOf code j) 0 d ∙ x .table .numbers n (omega arith) u
 
-      rising-table : (number : ℕ) → Rising links (set terms i number)
-      rising-table number =
+      -- nodes come before the record, so what the table has of them stays
+      node-code : (number slot : ℕ) → 0 < linked links slot
+          → codeIn (set terms i number) (linked links slot) ≡ codeIn terms (linked links slot)
+      node-code number slot p =
+          ap (λ (y : ℕ). y % termLimit)
+          (getD-set-other terms i (linked links slot) number 0 (λ e. omega (arith, e, x .before slot p)))
+
+      tree-table : (number : ℕ) → Tree links (set terms i number)
+      tree-table number =
           let same = length-set terms i number in
           record {
-            size = rw same (x .rising .size);
-            later = x .rising .later;
-            within = λ slot p. rw same (x .rising .within slot p);
+            size = rw same (x .tree .size);
+            later = x .tree .later;
+            within = λ slot p. rw same (x .tree .within slot p);
+            apart = x .tree .apart;
+            met = λ slot p. rw (node-code number slot p) (x .tree .met slot p);
           }
 
       -- the search ended at a record
@@ -179,20 +190,20 @@ module _ (v s : List ℕ) (good : AcceptedFacts v) (f : KeepsForm v s) where
       index-known slot found p =
           record {
             table = numbered (linked links slot) first;
-            rising = rising-table (numberOf code (linked links slot));
+            tree = tree-table (numberOf code (linked links slot));
             before = λ q h. omega (arith, x .before q h);
             nodes = x .nodes;
-            met = λ n h k o. at n k o (ℕ-discrete n i) h;
+            entered = λ n h k o. at n k o (ℕ-discrete n i) h;
           }
         where
           first : origin s i ≡ linked links slot
           first = known-origin slot found p
 
-          at : (n : ℕ) → entryAt s n .w0 ≡ 2 → IsOrigin s n → Dec (n ≡ i) → n < i + 1 → Met links (codeAt s n) n
+          at : (n : ℕ) → entryAt s n .w0 ≡ 2 → IsOrigin s n → Dec (n ≡ i) → n < i + 1 → (q : ℕ) × (linked links q ≡ n)
           at n k o (yes e) h =
               let own = subst (λ (j : ℕ). origin s j ≡ j) e (o .first) in
               absurd (omega (arith, x .before slot p, first, own))
-          at n k o (no d) h = x .met n (omega arith) k o
+          at n k o (no d) h = x .entered n (omega arith) k o
 
       -- the search ended at no record
       module _ (kind : entryAt s i .w0 ≡ 2) (slot : ℕ) (found : Found links terms code slot) (empty : linked links slot ≡ 0) where
@@ -213,8 +224,10 @@ module _ (v s : List ℕ) (good : AcceptedFacts v) (f : KeepsForm v s) where
                 at (inl a) p q =
                     omega (arith, q, first-code v s good f j a, c, applied-code v s good f i applied, applied .positive)
                 at (inr a) p q =
-                    found-none links terms code slot j found empty
-                    (subst (λ (k : ℕ). Met links k j) q (x .met j h (a .kind) o)) (omega (arith, a .earlier)) p
+                    let some : 0 < j = omega (arith, a .earlier) in
+                    let e = x .entered j h (a .kind) o in
+                    let met = x .tree .met (e .0) (rw (e .1) some) in
+                    found-none links terms code slot j found empty (rw (e .1, p) at met) some p
 
         -- the slot belongs to an earlier record
         slot-before : slot < linkCount * i
@@ -224,7 +237,7 @@ module _ (v s : List ℕ) (good : AcceptedFacts v) (f : KeepsForm v s) where
             (came-over links terms code slot (found .steps) (found .came)))
 
         room : slot < length links
-        room = omega (arith, slot-before, x .rising .size, t .within, x .table .size)
+        room = omega (arith, slot-before, x .tree .size, t .within, x .table .size)
 
         -- what holds of record i at the slot, and of each link before, holds of each link
         each : (P : ℕ → ℕ → Type 0) → P slot i → ((q : ℕ) → 0 < linked links q → P q (linked links q))
@@ -232,30 +245,66 @@ module _ (v s : List ℕ) (good : AcceptedFacts v) (f : KeepsForm v s) where
         each P here there =
             set-each (λ q j. 0 < j → P q j) links slot i 0 room (λ h. here) (λ q d. there q)
 
-        index-new : IndexedBelow s (set links slot i) (set terms i (numberOf code i)) (i + 1)
+        abbrev number : ℕ
+        number = numberOf code i
+
+        new-code : codeIn (set terms i number) i ≡ code
+        new-code =
+            let small : code < termLimit = rw c (code-small v s good f i t) in
+            rw (getD-set-same terms i number 0 (omega (arith, t .within, x .table .size))) (omega arith)
+
+        apart : (p q : ℕ) → 0 < linked (set links slot i) p → linked (set links slot i) p ≡ linked (set links slot i) q → p ≡ q
+        apart p q h e = at (ℕ-discrete p slot) (ℕ-discrete q slot)
+          where
+            here : linked (set links slot i) slot ≡ i
+            here = getD-set-same links slot i 0 room
+
+            there : (r : ℕ) → (r ≡ slot → ⊥) → linked (set links slot i) r ≡ linked links r
+            there r d = getD-set-other links slot r i 0 d
+
+            at : Dec (p ≡ slot) → Dec (q ≡ slot) → p ≡ q
+            at (yes a) (yes b) = a ∙ sym b
+            at (yes a) (no b) =
+                let old = sym here ∙ subst (λ (r : ℕ). linked (set links slot i) r ≡ linked (set links slot i) q) a e ∙ there q b in
+                absurd (omega (arith, old, x .before q (omega (arith, old, later))))
+            at (no a) (yes b) =
+                let old = sym (there p a) ∙ e ∙ ap (linked (set links slot i)) b ∙ here in
+                absurd (omega (arith, old, x .before p (omega (arith, old, later))))
+            at (no a) (no b) = x .tree .apart p q (rw (there p a) at h) (sym (there p a) ∙ e ∙ there q b)
+
+        tree-new : Tree (set links slot i) (set terms i number)
+        tree-new =
+            record {
+              size = rw (length-set links slot i, length-set terms i number) (x .tree .size);
+              later = each (λ q j. q < linkCount * j) slot-before (x .tree .later);
+              within = each (λ q j. j < length (set terms i number))
+                  (rw (length-set terms i number) (omega (arith, t .within, x .table .size))) (tree-table number .within);
+              apart = apart;
+              met = each (λ q j. Met (set links slot i) (codeIn (set terms i number) j) j)
+                  (rw new-code (new-met links slot i empty terms code found room))
+                  (λ q h. kept-met links slot i empty _ _ h (tree-table number .met q h));
+            }
+
+        index-new : IndexedBelow s (set links slot i) (set terms i number) (i + 1)
         index-new =
             record {
               table = numbered i new-origin;
-              rising = record {
-                size = rw (length-set links slot i, length-set terms i (numberOf code i)) (x .rising .size);
-                later = each (λ q j. q < linkCount * j) slot-before (x .rising .later);
-                within = each (λ q j. j < length (set terms i (numberOf code i)))
-                    (rw (length-set terms i (numberOf code i)) (omega (arith, t .within, x .table .size)))
-                    (rising-table (numberOf code i) .within);
-              };
+              tree = tree-new;
               before = each (λ q j. j < i + 1) (omega arith) (λ q h. omega (arith, x .before q h));
               nodes = each (λ q j. IsOrigin s j) (record { term = t; first = new-origin }) (x .nodes);
-              met = λ n h k o. at n k o (ℕ-discrete n i) h;
+              entered = λ n h k o. at n k o (ℕ-discrete n i) h;
             }
           where
             at : (n : ℕ) → entryAt s n .w0 ≡ 2 → IsOrigin s n → Dec (n ≡ i) → n < i + 1
-                → Met (set links slot i) (codeAt s n) n
-            at n k o (yes e) h =
-                subst (λ (j : ℕ). Met (set links slot i) (codeAt s j) j) (sym e)
-                (subst (λ (k : ℕ). Met (set links slot i) k i) c (new-met links slot i empty terms code found room))
+                → (q : ℕ) × (linked (set links slot i) q ≡ n)
+            at n k o (yes e) h = (slot, getD-set-same links slot i 0 room ∙ sym e)
             at n k o (no d) h =
-                kept-met links slot i empty (codeAt s n) n
-                (omega (arith, applied-record v s good f n (o .term) k .earlier)) (x .met n (omega arith) k o)
+                let old = x .entered n (omega arith) k o in
+                let some = some-at n k o in
+                (old .0, kept-link links slot i empty (old .0) (rw (old .1) some) ∙ old .1)
+              where
+                some-at : (m : ℕ) → entryAt s m .w0 ≡ 2 → IsOrigin s m → 0 < m
+                some-at m k o = omega (arith, applied-record v s good f m (o .term) k .earlier)
 
       pub index-entered : entryAt s i .w0 ≡ 2 → (after : List ℕ) (first : ℕ) → Entered links terms code i after first
           → IndexedBelow s after (set terms i (numberOf code first)) (i + 1)
@@ -271,14 +320,16 @@ module _ (v s : List ℕ) (good : AcceptedFacts v) (f : KeepsForm v s) where
           header = getD-set-other terms 1 0 (numberOf 0 1) 0 (λ z. omega arith) ∙ b .header;
           numbers = λ n h t. at n t (term-record v s good f n t) h;
         };
-        rising = record {
+        tree = record {
           size = rw (length-set terms 1 (numberOf 0 1)) (b .size);
           later = λ q h. absurd (omega (arith, h, b .empty q));
           within = λ q h. absurd (omega (arith, h, b .empty q));
+          apart = λ p q h. absurd (omega (arith, h, b .empty p));
+          met = λ q h. absurd (omega (arith, h, b .empty q));
         };
         before = λ q h. absurd (omega (arith, h, b .empty q));
         nodes = λ q h. absurd (omega (arith, h, b .empty q));
-        met = λ n h k o. let a = applied-record v s good f n (o .term) k in
+        entered = λ n h k o. let a = applied-record v s good f n (o .term) k in
             absurd (omega (arith, h, a .earlier, term-positive v s good f (entryAt s n .w2) (a .inner)));
       }
     where

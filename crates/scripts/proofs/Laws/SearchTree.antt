@@ -1,9 +1,12 @@
 -- Ways through the search trees of the index, over plain tables.
 --   passes-some, passes-other, ended-code   what it tells that a search passes a slot, or ends there
 --   came-start, came-next, came-over        a search begins, and passes a record; it came over records
---   came-within                             its slot is in the table
---   found-met, found-none                   where a search ended at no record, no record of that code is met
---   kept-slot, kept-met, new-met            what is met once a record was linked at an empty slot
+--   way-within, came-within                 the slot of a way is in the table
+--   found-none                              where a search ended at no record, no record of that code is met
+--   halved, bits-same                       numbers by their bits
+--   Shared, shared-more, ways-shared        two ways to one slot
+--   came-few                                so a search is short
+--   kept-link, kept-met, new-met            what is linked and met once a record was linked at an empty slot
 -- Assumes nothing.
 use Prim.Native.Nat.{ℕ, zero, suc, _+_, _*_, _/_, _%_, _^_, _≤_, _<_}
 use native.Mathlib.Omega.{arith}
@@ -12,12 +15,14 @@ use mathlib.Core.Path.{_≡_, refl, sym, ap, subst, _∙_}
 use mathlib.Core.Bool.{true, false, not}
 use mathlib.Core.List.{List}
 use lib.ListN.{length, set}
+use lib.Pow.{shr-shr}
 use lib.Seq.{getD-set-same, getD-set-other}
 use lib.Dec.{eqb}
 use borrow.Author.Tests.{eq-eqb, ne-eqb}
 use Rattle.records.proofs.Laws.Tests.{clash, both-right}
 use Rattle.scripts.specs.Code.Codes.{functionLimit}
-use Rattle.scripts.specs.Code.Index.{codeIn, linkCount, linked, slotAt, Rising, Over, Met, passes, CameTo, Found}
+use Rattle.scripts.specs.Code.Index.{codeIn, linkCount, linked, slotAt, Over, Met, Tree, passes, CameTo, functionBits}
+use Rattle.scripts.specs.Code.Index.{Found}
 
 module _ (links terms : List ℕ) (code : ℕ) where
   pub passes-some : (slot : ℕ) → passes links terms code slot ≡ true → 0 < linked links slot
@@ -73,7 +78,7 @@ module _ (links terms : List ℕ) (code : ℕ) where
   way-within b (suc n) h within over =
       omega (arith, within (slotAt links code n) (over n (omega arith)))
 
-  pub came-within : (slot n : ℕ) → Rising links terms → code / functionLimit < length terms → CameTo links terms code slot n
+  pub came-within : (slot n : ℕ) → Tree links terms → code / functionLimit < length terms → CameTo links terms code slot n
       → slot < length links
   came-within slot n r h c =
       rw (c .place, r .size) (way-within (length terms) n h (r .within) (came-over slot n c))
@@ -96,9 +101,70 @@ module _ (links terms : List ℕ) (code : ℕ) where
           let here : linked links (slotAt links code (f .steps)) ≡ j = rw e (m .here) in
           omega (arith, none, here)
 
+-- a number's half, further and further
+pub halved : (c n : ℕ) → c / 2 ^ n / 2 ≡ c / 2 ^ suc n
+halved c n = let more : n + 1 ≡ suc n = omega arith in shr-shr c n 1 ∙ ap (λ (y : ℕ). c / 2 ^ y) more
+
+-- two numbers with the same lowest n bits, and the same above them
+bits-same : (c d n : ℕ) → ((k : ℕ) → k < n → c / 2 ^ k % 2 ≡ d / 2 ^ k % 2) → c / 2 ^ n ≡ d / 2 ^ n → c ≡ d
+bits-same c d zero low high = omega (arith, high)
+bits-same c d (suc n) low high =
+    let x = c / 2 ^ n in
+    let y = d / 2 ^ n in
+    let rest : x / 2 ≡ y / 2 = halved c n ∙ high ∙ sym (halved d n) in
+    let last : x % 2 ≡ y % 2 = low n (omega arith) in
+    bits-same c d n (λ k h. low k (omega arith)) (omega (arith, rest, last))
+
+module _ (links terms : List ℕ) (tree : Tree links terms) where
+  -- two ways to one slot are equally long, and their codes have the inner term and as many bits in common
+  record Shared (c d m n : ℕ) : Type 0 where
+    pub steps : m ≡ n
+    pub inner : c / functionLimit ≡ d / functionLimit
+    pub bits : (k : ℕ) → k < m → c / 2 ^ k % 2 ≡ d / 2 ^ k % 2
+
+  shared-more : (c d m n : ℕ) → Shared c d m n → c / 2 ^ m % 2 ≡ d / 2 ^ n % 2 → Shared c d (suc m) (suc n)
+  shared-more c d m n s last =
+      record {
+        steps = ap (λ (x : ℕ). suc x) (s .steps);
+        inner = s .inner;
+        bits = λ k h. at k h (ℕ-discrete k m);
+      }
+    where
+      at : (k : ℕ) → k < suc m → Dec (k ≡ m) → c / 2 ^ k % 2 ≡ d / 2 ^ k % 2
+      at k h (yes z) = rw z (last ∙ ap (λ (x : ℕ). d / 2 ^ x % 2) (sym (s .steps)))
+      at k h (no z) = s .bits k (omega arith)
+
+  ways-shared : (c d m n : ℕ) → Over links c m → Over links d n → slotAt links c m ≡ slotAt links d n → Shared c d m n
+  unfolding slotAt
+  ways-shared c d zero zero p q e = record { steps = refl; inner = omega arith; bits = λ k h. absurd (omega arith) }
+  ways-shared c d zero (suc n) p q e = absurd (omega arith)
+  ways-shared c d (suc m) zero p q e = absurd (omega arith)
+  ways-shared c d (suc m) (suc n) p q e =
+      let from : linked links (slotAt links c m) ≡ linked links (slotAt links d n) = omega arith in
+      let last : c / 2 ^ m % 2 ≡ d / 2 ^ n % 2 = omega arith in
+      let one = tree .apart (slotAt links c m) (slotAt links d n) (p m (omega arith)) from in
+      shared-more c d m n (ways-shared c d m n (λ k h. p k (omega arith)) (λ k h. q k (omega arith)) one) last
+
+  -- so a search does not pass more records than a function has bits
+  pub came-few : (code slot n : ℕ) → CameTo links terms code slot n → n ≤ functionBits
+  came-few code slot n c = at (decLt functionBits n)
+    where
+      at : Dec (functionBits < n) → n ≤ functionBits
+      at (no h) = omega arith
+      at (yes h) =
+          let p = slotAt links code functionBits in
+          let passed = c .over functionBits h in
+          let m = tree .met p (passes-some links terms code p passed) in
+          let over = came-over links terms code slot n c in
+          let own = codeIn terms (linked links p) in
+          let one = tree .apart p (slotAt links own (m .steps)) (passes-some links terms code p passed) (sym (m .here)) in
+          let shared = ways-shared code own functionBits (m .steps) (λ k l. over k (omega arith)) (m .over) one in
+          absurd (passes-other links terms code p passed
+          (sym (bits-same code own functionBits (shared .bits) (shared .inner))))
+
 -- Record i is linked at an empty slot.
 module _ (links : List ℕ) (slot i : ℕ) (empty : linked links slot ≡ 0) where
-  kept-link : (p : ℕ) → 0 < linked links p → linked (set links slot i) p ≡ linked links p
+  pub kept-link : (p : ℕ) → 0 < linked links p → linked (set links slot i) p ≡ linked links p
   kept-link p h = getD-set-other links slot p i 0 (λ e. omega (arith, h, (subst (λ (x : ℕ). linked links x ≡ 0) (sym e) empty)))
 
   kept-slot : (code n : ℕ) → Over links code n → (m : ℕ) → m ≤ n → slotAt (set links slot i) code m ≡ slotAt links code m

@@ -53,12 +53,6 @@ unfoldable pub slotAt : List ℕ → ℕ → ℕ → ℕ
 slotAt links code zero = linkCount * (code / functionLimit)
 slotAt links code (suc n) = linkCount * linked links (slotAt links code n) + 1 + code / 2 ^ n % 2
 
--- Links lead to later records, for which the tables have room; so each way ends.
-pub record Rising (links terms : List ℕ) : Type 0 where
-  pub size : length links ≡ linkCount * length terms
-  pub later : (slot : ℕ) → 0 < linked links slot → slot < linkCount * linked links slot
-  pub within : (slot : ℕ) → 0 < linked links slot → linked links slot < length terms
-
 -- The way to a code leads over n records.
 abbrev pub Over : List ℕ → ℕ → ℕ → Type 0
 Over links code n = (m : ℕ) → m < n → 0 < linked links (slotAt links code m)
@@ -68,6 +62,15 @@ pub record Met (links : List ℕ) (code j : ℕ) : Type 0 where
   pub steps : ℕ
   pub over : Over links code steps
   pub here : linked links (slotAt links code steps) ≡ j
+
+-- Links lead to later records, for which the tables have room, so each way ends. No record is linked twice, and each is met on
+-- the way to its code.
+pub record Tree (links terms : List ℕ) : Type 0 where
+  pub size : length links ≡ linkCount * length terms
+  pub later : (slot : ℕ) → 0 < linked links slot → slot < linkCount * linked links slot
+  pub within : (slot : ℕ) → 0 < linked links slot → linked links slot < length terms
+  pub apart : (p q : ℕ) → 0 < linked links p → linked links p ≡ linked links q → p ≡ q
+  pub met : (slot : ℕ) → 0 < linked links slot → Met links (codeIn terms (linked links slot)) (linked links slot)
 
 -- A slot's record is of another code, so that a search goes on.
 abbrev pub passes : List ℕ → List ℕ → ℕ → ℕ → Bool
@@ -79,9 +82,14 @@ pub record CameTo (links terms : List ℕ) (code slot n : ℕ) : Type 0 where
   pub place : slot ≡ slotAt links code n
   pub over : (m : ℕ) → m < n → passes links terms code (slotAt links code m) ≡ true
 
--- It ended there, at no record, or at one of that code.
+-- It ended there, at no record, or at one of that code. However many records there are, it came over no more than a function has
+-- bits.
+abbrev pub functionBits : ℕ
+functionBits = 9
+
 pub record Found (links terms : List ℕ) (code slot : ℕ) : Type 0 where
   pub steps : ℕ
+  pub few : steps ≤ functionBits
   pub came : CameTo links terms code slot steps
   pub ended : passes links terms code slot ≡ false
 
@@ -94,7 +102,7 @@ pub data Entered (links terms : List ℕ) (code i : ℕ) : List ℕ → ℕ → 
 -- The origins before record i, but for the constant's, are in the index, and nothing else is.
 pub record IndexedBelow (s links terms : List ℕ) (i : ℕ) : Type 0 where
   pub table : NumberedBelow s terms i
-  pub rising : Rising links terms
+  pub tree : Tree links terms
   pub before : (slot : ℕ) → 0 < linked links slot → linked links slot < i
   pub nodes : (slot : ℕ) → 0 < linked links slot → IsOrigin s (linked links slot)
-  pub met : (n : ℕ) → n < i → entryAt s n .w0 ≡ 2 → IsOrigin s n → Met links (codeAt s n) n
+  pub entered : (n : ℕ) → n < i → entryAt s n .w0 ≡ 2 → IsOrigin s n → (slot : ℕ) × (linked links slot ≡ n)

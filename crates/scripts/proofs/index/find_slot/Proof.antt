@@ -1,17 +1,16 @@
 -- `scripts::index::find_slot` meets its contract. The loop's invariant: the search has come to the slot, over records of other
 -- codes, and `rest` is what is left of the code. It ends since links lead to later records.
 -- Assumes nothing.
-use Prim.Native.Nat.{ℕ, suc, _+_, _-_, _/_, _^_, _<_}
+use Prim.Native.Nat.{ℕ, suc, _-_, _/_, _^_, _<_}
 use native.Mathlib.Omega.{arith}
 use mathlib.Core.Path.{_≡_, refl, sym, ap, _∙_}
 use mathlib.Core.Bool.{Bool}
 use mathlib.Core.List.{List}
 use lib.ListN.{length}
-use lib.Pow.{shr-shr}
 use denote.Ref.{now}
 use borrow.Author.Needs.{needs}
 use Rattle.scripts.specs.Code.Index.{linked, passes, CameTo}
-use Rattle.scripts.proofs.Laws.SearchTree.{passes-some, came-start, came-next, came-within}
+use Rattle.scripts.proofs.Laws.SearchTree.{passes-some, came-start, came-next, came-within, halved, came-few}
 use Rattle.scripts.proofs.index.find_slot.Statement.{statement}
 use Rattle.scripts.proofs.index.find_slot.Tie as tie
 
@@ -21,11 +20,6 @@ record Searching (links terms : List ℕ) (code slot rest : ℕ) (passing : Bool
   pub came : CameTo links terms code slot steps
   pub left : rest ≡ code / 2 ^ steps
   pub told : passing ≡ passes links terms code slot
-
-halved : (code n rest : ℕ) → rest ≡ code / 2 ^ n → rest / 2 ≡ code / 2 ^ suc n
-halved code n rest e =
-    let more : n + 1 ≡ suc n = omega arith in
-    ap (λ (x : ℕ). x / 2) e ∙ shr-shr code n 1 ∙ ap (λ (y : ℕ). code / 2 ^ y) more
 
 abbrev Inv-loop : tie.InvT-loop
 Inv-loop links terms code slot₀ rest₀ passing₀ slot rest passing = Searching links terms code slot rest passing
@@ -99,14 +93,19 @@ loop-again c =
       steps = suc (l .inv .steps);
       came = came-next _ _ _ (l .slot) (l .inv .steps) _ (l .rest) (l .inv .came) (sym (l .inv .told) ∙ w .loop-test .taken)
           (l .inv .left) refl;
-      left = halved (start (w .before) .args .code) (l .inv .steps) (l .rest) (l .inv .left);
+      left = ap (λ (x : ℕ). x / 2) (l .inv .left) ∙ halved (start (w .before) .args .code) (l .inv .steps);
       told = c .passes-slot2 .ensures;
     }
 
 returns : tie.Need-returns Inv-loop μ-loop
 returns c =
     let i = c .before .loop .inv in
-    record { steps = i .steps; came = i .came; ended = sym (i .told) ∙ c .loop-test .left }
+    record {
+      steps = i .steps;
+      few = came-few _ _ (start (c .before) .pre .0) _ _ (i .steps) (i .came);
+      came = i .came;
+      ended = sym (i .told) ∙ c .loop-test .left;
+    }
 
 pub find-slot-spec : {M : Type 1} → statement M
 find-slot-spec =

@@ -68,7 +68,7 @@ enter-term-requires c κs =
     let t = term (taken (o .before)) in
     let b = start (taken (o .before)) in
     let x = b .pre .1 .1 .1 in
-    (x .rising, omega (arith, code-inner _ _ (good b) (form b) _ _ (t .term) (t .kind) (coded o), within b, x .table .size))
+    (x .tree, omega (arith, code-inner _ _ (good b) (form b) _ _ (t .term) (t .kind) (coded o), within b, x .table .size))
 
 cast-enter-term : tie.Need-cast-enter-term
 cast-enter-term c =
