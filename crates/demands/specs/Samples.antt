@@ -32,8 +32,14 @@ bottom rest = fields 2 0 0 0 rest
 abbrev pub name : ℕ → List ℕ → List ℕ
 name label rest = fields 3 label 0 0 rest
 
+abbrev pub not : ℕ → List ℕ → List ℕ
+not a rest = fields 4 a 0 0 rest
+
 abbrev pub and : ℕ → ℕ → List ℕ → List ℕ
 and a b rest = fields 5 a b 0 rest
+
+abbrev pub or : ℕ → ℕ → List ℕ → List ℕ
+or a b rest = fields 6 a b 0 rest
 
 abbrev pub some : ℕ → ℕ → List ℕ → List ℕ
 some role b rest = fields 7 role b 0 rest
@@ -59,6 +65,9 @@ start column next rest = words 3 column 0 0 (words 0 0 0 next rest)
 
 abbrev pub extension : ℕ → ℕ → ℕ → ℕ → ℕ → List ℕ → List ℕ
 extension owner column x position next rest = words 4 owner column x (words 0 position 0 next rest)
+
+abbrev pub reduction : ℕ → ℕ → List ℕ → List ℕ
+reduction frame next rest = words 5 frame 0 0 (words 0 0 0 next rest)
 
 -- A comparison of two terms, a script to check, or names to classify.
 pub data Question : Type 0 where
@@ -148,6 +157,18 @@ R₁ x =
 abbrev pub R₂ : List ℕ
 R₂ = asking 3 1 3 (constant (constant (start 0 0 [])))
 
+-- Top 1; name 2; 3 not 2; 4 = 2 or 3; 5 all role 0 to 4.
+abbrev pub W₆ : List ℕ
+W₆ = header 0 1 (top (name 1 (not 2 (or 2 3 (all 0 4 [])))))
+
+-- Terms 2, 3 and 4: f5(a). Query 1 within 5: start 1; owner 5, column 1, x = a; then x = f5(a), under another record each time:
+-- owner 4, column 0; owner 3, column 1; owner 4, column 1. The last goal has its complement as the goal of frame 1, whose f5(a)
+-- is the column's and no record's.
+abbrev pub R₃ : List ℕ
+R₃ =
+    asking 1 5 5 (constant (function 5 1 (function 5 1 (function 5 1 (start 1 6 (extension 5 1 1 0 7 (extension 4 0 2 0 8
+    (extension 3 1 3 1 9 (extension 4 1 4 1 10 (reduction 1 0 []))))))))))
+
 abbrev pub asked : List Question
 asked =
     compares V₁ 4 3
@@ -168,6 +189,7 @@ asked =
     ∷ checks W₅ (R₁ 5)
     ∷ checks W₅ (R₁ 7)
     ∷ checks W₅ R₂
+    ∷ checks W₆ R₃
     ∷ []
 
 abbrev pub answered : List Answer
@@ -190,6 +212,7 @@ answered =
     ∷ judgments (accepted 4)
     ∷ judgments (refused 21 11)
     ∷ judgments (refused 17 2)
+    ∷ judgments (accepted 6)
     ∷ []
 
 abbrev pub Samples : Type 0

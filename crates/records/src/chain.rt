@@ -9,7 +9,7 @@ ghost use Rattle.records.specs.Format.{recordLimit};
 ghost use Rattle.records.specs.Check.{IsWellFormed};
 ghost use Rattle.records.specs.Chain.{chained};
 
-// Marks the records of a vocabulary that passed rows 1 to 8 that are statements on the chain, in a table that has no mark yet.
+// In a table without marks, marks the statements on the chain of a vocabulary that passed rows 1 to 8.
 pub fn mark_chain(v: &[u8], marks: &mut [bool; Record::LIMIT])
     requires { ⌜ IsWellFormed (now v) ⌝ }
     requires { ⌜ length (now marks) ≡ recordLimit ⌝ }

@@ -93,7 +93,7 @@ fn enter_term(links: &mut [u16], terms: &[u32], code: u32, i: u16) -> u16
     i
 }
 
-// Record i, if it is a function term.
+// Numbers record i, if it is a function term, and enters it in the index where its term is new.
 fn index_term(s: &[u8], links: &mut [u16], terms: &mut [u32], i: usize)
     requires { ⌜ Formed (now s) ⌝ }
     requires { ⌜ HasEntry (now s) i ⌝ }
@@ -109,7 +109,7 @@ fn index_term(s: &[u8], links: &mut [u16], terms: &mut [u32], i: usize)
     }
 }
 
-// The table of terms of a script that keeps the form.
+// Numbers the terms of a script that keeps the form.
 pub fn index_terms(s: &[u8], links: &mut [u16], terms: &mut [u32])
     requires { ⌜ Formed (now s) ⌝ }
     requires { ⌜ Blank (now s) (now links) (now terms) ⌝ }

@@ -230,6 +230,7 @@ fn run_steps(
     requires { ⌜ 0 < column .first ⌝ }
     ensures { λ r. ⌜ judged r ≡ runAfter (now (v .entry)) (now (s .entry)) (literals column ∷ []) first ⌝ }
 {
+    // Read again: kept until here, its words would take registers from the loops of the form.
     let header = read_entry(s, 0);
     let mut table = empty_table();
     let mut state = Machine::empty().start(&mut table, column);
@@ -261,8 +262,7 @@ fn run_steps(
     judge_after(pass_if(state.depth == 0, 24, last), steps)
 }
 
-// The same where the terms are not numbered yet: tables for them are lent. The header is read again: kept until here, its
-// words would take registers from the loops of the form.
+// Numbers the terms, in tables that are lent, then runs the steps.
 fn run_numbering(
     v: &[u8],
     marks: &[bool; Record::LIMIT],
@@ -282,7 +282,7 @@ fn run_numbering(
     run_steps(v, marks, s, terms, first, column)
 }
 
-// In tables for few records: to zero those for any script takes as long as a small call.
+// Runs a script of few records in small tables: to zero the large ones takes as long as a small call.
 fn run_few(
     v: &[u8],
     marks: &[bool; Record::LIMIT],

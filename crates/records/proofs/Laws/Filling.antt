@@ -5,6 +5,7 @@
 --   tableOver, over-start, over-turn, over-length   a table written over the front of a list
 --   zeros                                           a table of nothing but zeros
 --   Ends, ends-turn, ends-empty                     a set that has nothing from there on
+--   none-marked                                     a table that has no mark
 --   all-start, all-turn, all-holds-turn             a test of all, one number further
 --   word-start, word-turn, word-end, word-bound     a word built from its top bit
 -- Assumes nothing.
@@ -15,7 +16,7 @@ use native.Mathlib.Numerals.{add-one}
 use mathlib.Core.Path.{_≡_, refl, sym, ap, _∙_}
 use mathlib.Core.Bool.{Bool, true, false, _&&_, and-true}
 use mathlib.Core.List.{List, [], _∷_, _++_}
-use lib.ListN.{length, getD, set, drop, replicate, length-set, length-append, length-drop}
+use lib.ListN.{length, getD, set, drop, replicate, length-set, length-replicate, length-append, length-drop}
 use lib.Pow.{pow-mono}
 use lib.Seq.{getD-set-same, getD-set-other}
 use Rattle.records.specs.Finite.{digit, allBelow, table, number}
@@ -83,6 +84,10 @@ pub ends-empty : (n i : ℕ) → Ends (replicate n false) i
 ends-empty zero i u h = refl
 ends-empty (suc n) i zero h = refl
 ends-empty (suc n) i (suc u) h = ends-empty n 0 u (omega arith)
+
+-- A table of n entries that has no mark.
+pub none-marked : (n : ℕ) → (length (replicate {A = Bool} n false) ≡ n) × ((i : ℕ) → getD (replicate n false) i false ≡ false)
+none-marked n = (length-replicate n false, λ i. ends-empty n 0 i (omega arith))
 
 pub all-start : (test : ℕ → Bool) → true ≡ allBelow test 0
 unfolding allBelow

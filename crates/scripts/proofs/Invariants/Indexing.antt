@@ -40,13 +40,13 @@ blank-tables s n h =
       header = zeros n 0;
     }
 
--- Record i, which was read, is a function term: o is what the table has for its inner term, c its code from that.
+-- Record i, which was read, is a function term, and the table has the origin of its inner term.
 pub record FunctionTerm (s terms : List ℕ) (i : ℕ) (e : Entry) : Type 0 where
   pub term : TermRecord s i
   pub kind : entryAt s i .w0 ≡ 2
   pub inner : e .w2 < i
-  pub before : (o : ℕ) → o ≡ originIn terms (e .w2) → o < i
-  pub code : (o c : ℕ) → o ≡ originIn terms (e .w2) → c ≡ codeOf (e .w1) o → c ≡ codeAt s i
+  pub before : originIn terms (e .w2) < i
+  pub code : codeOf (e .w1) (originIn terms (e .w2)) ≡ codeAt s i
 
 -- the origin of a record that was entered does not come after it
 pub entered-before : (s links terms : List ℕ) (code i : ℕ) → IndexedBelow s links terms i → (after : List ℕ) (first : ℕ)
@@ -93,8 +93,8 @@ module _ (v s : List ℕ) (good : AcceptedFacts v) (f : KeepsForm v s) where
         term = term;
         kind = own;
         inner = rw read (a .earlier);
-        before = λ o q. omega (arith, inner o q, origin-least s (entryAt s i .w2) (a .inner), a .earlier);
-        code = λ o c q m. (m ∙ rw (read, inner o q) (sym (applied-code v s good f i a)));
+        before = omega (arith, inner, origin-least s (entryAt s i .w2) (a .inner), a .earlier);
+        code = rw inner (rw read (sym (applied-code v s good f i a)));
       }
     where
       own : entryAt s i .w0 ≡ 2
@@ -106,8 +106,8 @@ module _ (v s : List ℕ) (good : AcceptedFacts v) (f : KeepsForm v s) where
       a : Applied v s i
       a = applied-record v s good f i term own
 
-      inner : (o : ℕ) → o ≡ originIn terms (e .w2) → o ≡ origin s (entryAt s i .w2)
-      inner o q = q ∙ rw read (number-origin terms i t (entryAt s i .w2) (a .earlier) (a .inner))
+      inner : originIn terms (e .w2) ≡ origin s (entryAt s i .w2)
+      inner = rw read (number-origin terms i t (entryAt s i .w2) (a .earlier) (a .inner))
 
   module _ (links terms : List ℕ) (i : ℕ) (x : IndexedBelow s links terms i) (later : 1 < i) where
     -- a record that is no function term is none
@@ -265,7 +265,8 @@ module _ (v s : List ℕ) (good : AcceptedFacts v) (f : KeepsForm v s) where
             at : Dec (p ≡ slot) → Dec (q ≡ slot) → p ≡ q
             at (yes a) (yes b) = a ∙ sym b
             at (yes a) (no b) =
-                let old = sym here ∙ subst (λ (r : ℕ). linked (set links slot i) r ≡ linked (set links slot i) q) a e ∙ there q b in
+                let moved = subst (λ (r : ℕ). linked (set links slot i) r ≡ linked (set links slot i) q) a e in
+                let old = sym here ∙ moved ∙ there q b in
                 absurd (omega (arith, old, x .before q (omega (arith, old, later))))
             at (no a) (yes b) =
                 let old = sym (there p a) ∙ e ∙ ap (linked (set links slot i)) b ∙ here in

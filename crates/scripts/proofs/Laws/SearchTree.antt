@@ -34,7 +34,7 @@ module _ (links terms : List ℕ) (code : ℕ) where
           absurd (clash (cc))
       at (no n) = omega arith
 
-  pub passes-other : (slot : ℕ) → passes links terms code slot ≡ true → codeIn terms (linked links slot) ≡ code → ⊥
+  passes-other : (slot : ℕ) → passes links terms code slot ≡ true → codeIn terms (linked links slot) ≡ code → ⊥
   passes-other slot e q =
       let j = linked links slot in
       let differs = both-right (not (eqb j 0)) (not (eqb (codeIn terms j) code)) e in

@@ -11,6 +11,7 @@
 --   term-first, term-applied                    their terms
 --   apply-valid, apply-small, apply-term        the code of a function at the term of a record
 --   header-code, first-code, applied-code       the codes of records
+--   code-cases                                  what is true of 0 and of functions at records is true of every code
 --   code-valid, code-small, code-term           the code of a term record
 --   code-apply, code-unique, code-same          the law of the index: two codes are equal exactly if their terms are
 -- Assumes nothing.

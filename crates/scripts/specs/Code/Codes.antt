@@ -20,14 +20,16 @@ isRecordOf s t j = isTerm (entryAt s j .w0) && sameTerm (termAt s j) t
 unfoldable pub origin : List ℕ → ℕ → ℕ
 origin s n = least (isRecordOf s (termAt s n)) (entries s)
 
+-- Record n is the first of its term.
 pub record IsOrigin (s : List ℕ) (n : ℕ) : Type 0 where
   pub term : TermRecord s n
   pub first : origin s n ≡ n
 
--- The function below functionLimit, the origin of the inner term above it.
+-- Functions are records of a vocabulary.
 abbrev pub functionLimit : ℕ
 functionLimit = 512
 
+-- The function below functionLimit, the origin of the inner term above it.
 abbrev pub codeOf : ℕ → ℕ → ℕ
 codeOf f t = f + functionLimit * t
 
@@ -41,6 +43,7 @@ lineCode s (step t) = 0
 abbrev pub codeAt : List ℕ → ℕ → ℕ
 codeAt s n = lineCode s (lineAt s n)
 
+-- The term that a code stands for.
 unfoldable pub codeTerm : List ℕ → ℕ → SkolemTerm
 codeTerm s c = cond (eqb (c % functionLimit) 0) constant (apply (c % functionLimit) (termAt s (c / functionLimit)))
 

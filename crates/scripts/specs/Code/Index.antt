@@ -12,7 +12,7 @@ use Rattle.scripts.specs.Code.Codes.{TermRecord, origin, IsOrigin, funct
 
 -- A term's code, and its origin above it, in one number.
 abbrev pub numberOf : ℕ → ℕ → ℕ
-numberOf code origin = code + termLimit * origin
+numberOf code first = code + termLimit * first
 
 abbrev pub codeIn : List ℕ → ℕ → ℕ
 codeIn terms n = getD terms n 0 % termLimit
@@ -41,7 +41,7 @@ linkCount = 3
 abbrev pub linked : List ℕ → ℕ → ℕ
 linked links slot = getD links slot 0
 
--- Tables in which no record is numbered or linked yet, with room for those of a script.
+-- Tables with room for the records of a script: no link yet, and no number at the header.
 pub record Blank (s links terms : List ℕ) : Type 0 where
   pub room : entries s ≤ length terms
   pub size : length links ≡ linkCount * length terms

@@ -1,5 +1,5 @@
 -- What the code may rely on: at the form, the vocabulary was accepted, its chain is marked, row 13 passed and the header was
--- read; along the chain, the form passed.
+-- read; along the chain, the form passed; at the index of terms, it passed under some accepted vocabulary.
 use Prim.Native.Nat.{ℕ, _+_, _*_, _≤_, _<_}
 use mathlib.Core.Path.{_≡_}
 use mathlib.Core.Bool.{Bool, true}

@@ -2,8 +2,6 @@
 -- Assumes nothing.
 use native.Mathlib.Omega.{arith}
 use mathlib.Core.Path.{_≡_}
-use mathlib.Core.Bool.{Bool, false}
-use lib.ListN.{length-replicate}
 use denote.Ref.{now}
 use borrow.Author.Needs.{needs}
 use Rattle.records.specs.Outcome.{pass}
@@ -11,7 +9,7 @@ use Rattle.records.specs.Format.{recordLimit}
 use Rattle.records.specs.Check.{IsAccepted}
 use Rattle.records.specs.Answers.{checked}
 use Rattle.records.proofs.Theorems.Accepted.{accepted-well-formed}
-use Rattle.records.proofs.Laws.Filling.{ends-empty}
+use Rattle.records.proofs.Laws.Filling.{none-marked}
 use Rattle.records.proofs.Laws.Checks.{require-test, checked-fine}
 use Rattle.scripts.specs.Form.{lengthCheck, formCheck}
 use Rattle.scripts.proofs.Theorems.Form.{length-sized}
@@ -79,7 +77,7 @@ sized c = checked-fine _ _ (measured (long c)) (c .enum-told3 .given .1)
 mark-chain-requires : tie.Need-mark-chain-requires
 mark-chain-requires c κs = (
   accepted-well-formed _ _ (accepts (taken (long (c .before)))),
-  (length-replicate {A = Bool} recordLimit false, λ i. ends-empty recordLimit 0 i (omega arith)),
+  none-marked recordLimit,
 )
 
 read-entry-requires : tie.Need-read-entry-requires

@@ -7,7 +7,7 @@ use denote.Ref.{now}
 use borrow.Author.Needs.{needs}
 use Rattle.records.proofs.Theorems.Accepted.{AcceptedFacts, accepted-vocabulary}
 use Rattle.scripts.specs.Format.{entries}
-use Rattle.scripts.specs.Code.Codes.{codeAt}
+use Rattle.scripts.specs.Code.Codes.{codeOf, codeAt}
 use Rattle.scripts.specs.declared.entry.Entry.{Entry}
 use Rattle.scripts.proofs.Theorems.Form.{KeepsForm, keeps-form}
 use Rattle.scripts.proofs.Refinement.Terms.{code-small}
@@ -55,12 +55,16 @@ origin-in-requires c κs =
 code-of-requires : tie.Need-code-of-requires
 code-of-requires c κs =
     let t = taken c in
-    omega (arith, term t .before _ (c .origin-in .ensures), within (start t), form (start t) .sized .most)
+    omega (arith, c .origin-in .ensures, term t .before, within (start t), form (start t) .sized .most)
 
 -- its code
 coded : (c : tie.After-code-of)
     → let b = start (taken (c .before)) in c .code-of .result ≡ codeAt (now (b .args .s)) (b .args .i)
-coded c = term (taken (c .before)) .code _ _ (c .before .origin-in .ensures) (c .code-of .ensures)
+coded c =
+    let t = taken (c .before) in
+    c .code-of .ensures
+    ∙ ap (codeOf (t .before .before .read-entry .result .w1)) (c .before .origin-in .ensures)
+    ∙ term t .code
 
 enter-term-requires : tie.Need-enter-term-requires
 enter-term-requires c κs =

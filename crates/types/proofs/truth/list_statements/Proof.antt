@@ -4,13 +4,11 @@ use Prim.Native.Nat.{_-_, _≤_, _<_}
 use native.Mathlib.Omega.{arith}
 use mathlib.Core.Logic.{⊎-elim}
 use mathlib.Core.Path.{_≡_, subst}
-use mathlib.Core.Bool.{Bool, false}
-use lib.ListN.{length-replicate}
 use denote.Ref.{now}
 use Rattle.records.proofs.Theorems.Accepted.{accepted-well-formed, accepted-vocabulary}
 use Rattle.records.specs.Finite.{has}
 use Rattle.records.specs.Format.{count, recordLimit}
-use Rattle.records.proofs.Laws.Filling.{ends-empty}
+use Rattle.records.proofs.Laws.Filling.{none-marked}
 use Rattle.records.proofs.Laws.Listing.{ListedBelow, list-start, list-more, list-same, listed-few}
 use Rattle.types.proofs.Refinement.TypeData.{stating}
 use Rattle.types.proofs.truth.list_statements.Statement.{statement}
@@ -27,7 +25,7 @@ mark-chain-requires : tie.Need-mark-chain-requires Inv-loop μ-loop
 mark-chain-requires c κs =
     let start = c .before .before in (
       accepted-well-formed (now (start .args .v)) _ (start .pre .0),
-      (length-replicate {A = Bool} recordLimit false, λ i. ends-empty recordLimit 0 i (omega arith)),
+      none-marked recordLimit,
     )
 
 -- the record, and its place in the list, are in the tables
