@@ -262,7 +262,7 @@ static void make_reductions(struct maker *maker)
 
 enum { PLAIN, SERIAL, BARE, ROLES = 40 }; /* of no record, leading somewhere, nowhere; then plain */
 
-/* A leaf has its own functions, so that each of its terms has its own record. */
+/* A leaf has its own functions, so that its terms are its own. */
 static unsigned put_modal(struct maker *maker, unsigned term, unsigned turn)
 {
     bool full = value_of(maker, term) == FULL;
@@ -333,15 +333,15 @@ static void make_modal(struct maker *maker)
     prove_modal_tree(maker, 8, false);
 }
 
-/* Each second time that a step names a function term, it has a new record, so that most comparisons
- * are of different records. */
+/* Every second time that a step names a function term, it has a new record, so that most
+ * comparisons are of different records. */
 static void make_renewed(struct maker *maker)
 {
     maker->renewed = 2;
     prove_modal_tree(maker, 5, true);
 }
 
-/* --- the term rule --- */
+/* --- terms: the index of terms, with the shortest chain; with no step there is none --- */
 
 static unsigned put_functions(struct maker *maker)
 {
@@ -357,7 +357,7 @@ static unsigned put_functions(struct maker *maker)
     return 8; /* the first function */
 }
 
-/* Each term of the one before, by one function: no two differ in the function. */
+/* Each term of the one before, by one function: each tree has one record. */
 static void make_nested(struct maker *maker)
 {
     unsigned function = put_functions(maker), term = 1;
@@ -367,7 +367,7 @@ static void make_nested(struct maker *maker)
     prove_query(maker, 1);
 }
 
-/* All functions of few terms: few differ in the inner term. */
+/* All functions of few terms: few trees, with a record for each function. */
 static void put_wide(struct maker *maker, size_t count)
 {
     unsigned first = put_functions(maker), function = first, inner = 1;
@@ -387,6 +387,7 @@ static void make_wide(struct maker *maker)
     prove_query(maker, 1);
 }
 
+/* Refused before there is an index: the form alone. */
 static void make_no_step(struct maker *maker)
 {
     put_wide(maker, MAX_SCRIPT_RECORDS);
@@ -408,7 +409,7 @@ static void make_long_search(struct maker *maker)
     prove_query(maker, 1);
 }
 
-/* --- small: what a call costs whatever the script, tables that are to be zeroed above all --- */
+/* --- small: tables that every call zeroes show here --- */
 
 /* Case 7 of paper 01. */
 static void make_sample(struct maker *maker)
@@ -649,7 +650,7 @@ static void confuse_role(struct proof *proof, uint8_t *bytes)
     write_u16(next + 6, 1);
 }
 
-/* Another term by the same function; if there is none, the constant. */
+/* Another record by the same function; if there is none, the constant. */
 static unsigned sibling(struct proof *proof, unsigned term)
 {
     for (unsigned i = 2; i < script_count(proof) && term < script_count(proof); i++) {
