@@ -434,6 +434,35 @@ static void make_sample_function(struct maker *maker)
     prove_query(maker, 0);
 }
 
+/* --- middle: the most records for which the library has small tables, and one more --- */
+
+enum { FEW = 64 };
+
+/* Conjunctions of terms below roles; some terms are repeated. */
+static void make_few(struct maker *maker)
+{
+    unsigned term = put_constant(maker, FULL);
+
+    maker->renewed = 2;
+    for (int level = 0; level < 3; level++) {
+        unsigned one = put_term(maker, ALL, 0, term), other = put_term(maker, ALL, 1, term);
+
+        term = put_term(maker, AND, one, other);
+    }
+    term = fill_script(maker, term, MAX_SCRIPT_RECORDS - FEW);
+    begin_script(maker, 1, term);
+    prove_query(maker, 1);
+}
+
+/* The same, and a term that no step speaks of. */
+static void make_one_more(struct maker *maker)
+{
+    const unsigned function = 2;
+
+    make_few(maker);
+    append_term(maker, function, 1);
+}
+
 /* --- all of them --- */
 
 static const struct plan {
@@ -453,6 +482,8 @@ static const struct plan {
     {"2,046 terms, no step (20)", make_no_step, 1, 0},
     {"small: 5 records", make_sample, 0.0015, 3},
     {"small: 6 records, a function", make_sample_function, 0.0015, 3},
+    {"middle: 64 records", make_few, 0.015, 35},
+    {"middle: 65 records", make_one_more, 0.0165, 35},
 };
 
 static void begin_maker(struct maker *maker, struct proof *proof, const char *name)
