@@ -7,7 +7,7 @@ struct script {
     const uint8_t *vocabulary, *bytes;
     size_t vocabulary_count, count; /* records */
     bool chained[MAX_RECORDS];      /* the statements on the chain */
-    const uint16_t *origins;        /* of the term records, once the form is known to be right */
+    const uint16_t *origins;        /* of the term records; check_chain sets them */
 };
 
 static uint16_t word(const struct script *script, size_t number, size_t index)
@@ -363,43 +363,48 @@ static enum refusal reduce(struct machine *machine, const struct script *script,
     return ACCEPTED;
 }
 
-static enum refusal run_step(struct machine *machine, const struct script *script, size_t step,
-                             bool first)
+/* Any step but the first. */
+static enum refusal run_step(struct machine *machine, const struct script *script, size_t step)
 {
-    uint16_t kind = word(script, step, 0);
-
-    if (!first && machine->open == 0)
+    if (machine->open == 0)
         return ALL_CLOSED;
-    if ((kind == START) != first)
+    switch (word(script, step, 0)) {
+    case START:
         return NO_START;
-    switch (kind) {
     case EXTENSION:
         return extend(machine, script, step);
-    case REDUCTION:
-        return reduce(machine, script, step);
     default:
-        start(machine, script, step);
-        return ACCEPTED;
+        return reduce(machine, script, step);
     }
 }
 
-static uint64_t run_chain(const struct script *script)
+static uint64_t run_steps(const struct script *script, uint16_t first)
 {
     struct machine machine;
-    uint32_t steps = 0, last = 0;
+    uint32_t steps = 1, last = first;
 
-    machine.open = 0;
-    for (uint16_t step = word(script, 0, 3); step != 0; step = word(script, step, 7)) {
-        enum refusal refusal = run_step(&machine, script, step, steps == 0);
+    start(&machine, script, first);
+    for (uint16_t step = word(script, first, 7); step != 0; step = word(script, step, 7)) {
+        enum refusal refusal = run_step(&machine, script, step);
 
         if (refusal != ACCEPTED)
             return pack_answer(refusal, step);
         steps++;
         last = step;
     }
-    if (steps == 0)
-        return pack_answer(NO_START, 0);
     return machine.open > 0 ? pack_answer(FRAME_LEFT, last) : pack_answer(ACCEPTED, steps);
+}
+
+/* As in the library, a chain that begins with no start is refused before there is an index. */
+static uint64_t check_chain(struct script *script)
+{
+    uint16_t first = word(script, 0, 3), origins[MAX_SCRIPT_RECORDS];
+
+    if (first == 0 || word(script, first, 0) != START)
+        return pack_answer(NO_START, first);
+    find_origins(script, origins);
+    script->origins = origins;
+    return run_steps(script, first);
 }
 
 /* --- the whole --- */
@@ -446,9 +451,5 @@ uint64_t plain_check_script(const uint8_t *vocabulary, size_t vocabulary_len,
     uint64_t form = check_form(&script);
     if (form != ACCEPTED)
         return form;
-    uint16_t origins[MAX_SCRIPT_RECORDS];
-
-    find_origins(&script, origins);
-    script.origins = origins;
-    return run_chain(&script);
+    return check_chain(&script);
 }

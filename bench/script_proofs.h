@@ -47,7 +47,7 @@ struct maker {
     bool idle;        /* put idle records between the steps */
     bool overflowed;  /* the script does not fit */
     unsigned named;   /* times that steps have named function terms */
-    unsigned renewed; /* each so-manieth time under a new record; 0: never */
+    unsigned renewed; /* every how many such times the term gets a new record; 0: never */
     unsigned origin[MAX_SCRIPT_RECORDS]; /* the first record of the same term */
     unsigned latest[MAX_SCRIPT_RECORDS]; /* for a first record, the last of the same term */
 };

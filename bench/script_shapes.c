@@ -262,7 +262,7 @@ static void make_reductions(struct maker *maker)
 
 enum { PLAIN, SERIAL, BARE, ROLES = 40 }; /* of no record, leading somewhere, nowhere; then plain */
 
-/* A leaf has its own functions, so that each of its terms has its own record. */
+/* A leaf has its own functions, so that its terms are its own. */
 static unsigned put_modal(struct maker *maker, unsigned term, unsigned turn)
 {
     bool full = value_of(maker, term) == FULL;
@@ -333,15 +333,15 @@ static void make_modal(struct maker *maker)
     prove_modal_tree(maker, 8, false);
 }
 
-/* Each second time that a step names a function term, it has a new record, so that most comparisons
- * are of different records. */
+/* Every second time that a step names a function term, it has a new record, so that most
+ * comparisons are of different records. */
 static void make_renewed(struct maker *maker)
 {
     maker->renewed = 2;
     prove_modal_tree(maker, 5, true);
 }
 
-/* --- the term rule --- */
+/* --- terms: the index of terms, with the shortest chain; with no step there is none --- */
 
 static unsigned put_functions(struct maker *maker)
 {
@@ -357,7 +357,7 @@ static unsigned put_functions(struct maker *maker)
     return 8; /* the first function */
 }
 
-/* Each term of the one before, by one function: no two differ in the function. */
+/* Each term of the one before, by one function: each tree has one record. */
 static void make_nested(struct maker *maker)
 {
     unsigned function = put_functions(maker), term = 1;
@@ -367,7 +367,7 @@ static void make_nested(struct maker *maker)
     prove_query(maker, 1);
 }
 
-/* All functions of few terms: few differ in the inner term. */
+/* All functions of few terms: few trees, with a record for each function. */
 static void put_wide(struct maker *maker, size_t count)
 {
     unsigned first = put_functions(maker), function = first, inner = 1;
@@ -387,6 +387,7 @@ static void make_wide(struct maker *maker)
     prove_query(maker, 1);
 }
 
+/* Refused before there is an index: the form alone. */
 static void make_no_step(struct maker *maker)
 {
     put_wide(maker, MAX_SCRIPT_RECORDS);
@@ -408,7 +409,7 @@ static void make_long_search(struct maker *maker)
     prove_query(maker, 1);
 }
 
-/* --- small: what a call costs whatever the script, tables that are to be zeroed above all --- */
+/* --- small: tables that every call zeroes show here --- */
 
 /* Case 7 of paper 01. */
 static void make_sample(struct maker *maker)
@@ -433,6 +434,35 @@ static void make_sample_function(struct maker *maker)
     prove_query(maker, 0);
 }
 
+/* --- middle: the most records for which the library has small tables, and one more --- */
+
+enum { FEW = 64 };
+
+/* Conjunctions of terms below roles; some terms are repeated. */
+static void make_few(struct maker *maker)
+{
+    unsigned term = put_constant(maker, FULL);
+
+    maker->renewed = 2;
+    for (int level = 0; level < 3; level++) {
+        unsigned one = put_term(maker, ALL, 0, term), other = put_term(maker, ALL, 1, term);
+
+        term = put_term(maker, AND, one, other);
+    }
+    term = fill_script(maker, term, MAX_SCRIPT_RECORDS - FEW);
+    begin_script(maker, 1, term);
+    prove_query(maker, 1);
+}
+
+/* The same, and a term that no step speaks of. */
+static void make_one_more(struct maker *maker)
+{
+    const unsigned function = 2;
+
+    make_few(maker);
+    append_term(maker, function, 1);
+}
+
 /* --- all of them --- */
 
 static const struct plan {
@@ -452,6 +482,8 @@ static const struct plan {
     {"2,046 terms, no step (20)", make_no_step, 1, 0},
     {"small: 5 records", make_sample, 0.0015, 3},
     {"small: 6 records, a function", make_sample_function, 0.0015, 3},
+    {"middle: 64 records", make_few, 0.015, 35},
+    {"middle: 65 records", make_one_more, 0.0165, 35},
 };
 
 static void begin_maker(struct maker *maker, struct proof *proof, const char *name)
@@ -649,7 +681,7 @@ static void confuse_role(struct proof *proof, uint8_t *bytes)
     write_u16(next + 6, 1);
 }
 
-/* Another term by the same function; if there is none, the constant. */
+/* Another record by the same function; if there is none, the constant. */
 static unsigned sibling(struct proof *proof, unsigned term)
 {
     for (unsigned i = 2; i < script_count(proof) && term < script_count(proof); i++) {

@@ -1,10 +1,11 @@
-/* The scripts that are measured, all but the small ones over full vocabularies, and random ones. */
+/* The scripts that are measured, all but the small and middle ones over full vocabularies, and
+ * random ones. */
 #ifndef SCRIPT_SHAPES_H
 #define SCRIPT_SHAPES_H
 
 #include "script_proofs.h"
 
-enum { SHAPES = 11 };
+enum { SHAPES = 13 };
 extern const uint64_t UNKNOWN; /* no answer is expected */
 
 void make_shapes(struct proof *shapes);

@@ -133,7 +133,7 @@ pub fn firsts(records: &[Words]) -> Vec<u16> {
 }
 
 /// The first of a record, which is itself where none is known.
-fn first_of(firsts: &[u16], number: u16) -> u16 {
+pub fn first_of(firsts: &[u16], number: u16) -> u16 {
     firsts.get(usize::from(number)).copied().unwrap_or(number)
 }
 

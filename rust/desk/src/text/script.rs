@@ -4,7 +4,7 @@ use super::cursor::{Cursor, Fault};
 use super::records::{read_link, Form, Linked, Unread};
 use super::said::{Said, Says, Term};
 use super::{link_words, linked_line, whole, WRITTEN_OUT};
-use crate::script::{bytes, chained, firsts, Entry, Extension, Words, HEADER_WORD};
+use crate::script::{bytes, chained, first_of, firsts, Entry, Extension, Words, HEADER_WORD};
 use base::chain::default_link;
 
 /// A script with the text of each term record.
@@ -36,19 +36,15 @@ impl Written {
         self.records.get(number).copied().unwrap_or_default()
     }
 
-    fn first(&self, term: u16) -> u16 {
-        self.firsts.get(usize::from(term)).copied().unwrap_or(term)
-    }
-
     /// The text of a term: written out where it is short and no earlier record says the same term.
     fn term_text(&self, number: usize) -> Option<String> {
         let entry = Entry::read(self.get(number)).filter(|entry| number > 0 && !entry.is_step())?;
-        let is_first = u16::try_from(number).is_ok_and(|own| self.first(own) == own);
+        let is_first = u16::try_from(number).is_ok_and(|own| first_of(&self.firsts, own) == own);
         let is_of_earlier = !matches!(entry, Entry::Function(_, inner) if usize::from(inner) >= number);
         if !is_first || !is_of_earlier {
             return None;
         }
-        let text = self.entry_text(number, entry.with_terms(|inner| self.first(inner)));
+        let text = self.entry_text(number, entry.with_terms(|inner| first_of(&self.firsts, inner)));
         Some(text).filter(|text| text.len() <= WRITTEN_OUT)
     }
 
