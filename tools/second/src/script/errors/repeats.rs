@@ -48,10 +48,7 @@ fn two_outer(script: &Script, term: Term) -> [u16; 3] {
 
 /// Whether some record has a term, and no more than one.
 fn has_one_record(script: &Script, term: Term) -> bool {
-    let written = script.written_out(term);
-    let mut records = script
-        .term_records()
-        .filter(|n| script.written_out(Term::Record(*n)) == written);
+    let mut records = script.records_of(term);
     records.next().is_some() && records.next().is_none()
 }
 
@@ -81,7 +78,7 @@ wrong! {
         fn same_term(&self, script: &Script, s: Term, t: Term) -> bool {
             match (s, t) {
                 (Term::Record(m), Term::Record(n)) => m == n,
-                _ => script.outer(s) == script.outer(t),
+                _ => script.same_outer(s, t),
             }
         }
     }
@@ -100,7 +97,7 @@ wrong! {
     }
     "terms compared by function and inner record" OneFunction {
         fn same_term(&self, script: &Script, s: Term, t: Term) -> bool {
-            script.outer(s) == script.outer(t)
+            script.same_outer(s, t)
         }
     }
     "terms compared by two functions and the record inside" TwoFunctions {
@@ -118,7 +115,7 @@ wrong! {
         fn same_term(&self, script: &Script, s: Term, t: Term) -> bool {
             match (s, t) {
                 (Term::Record(_), Term::Record(_)) => Paper.same_term(script, s, t),
-                _ => script.outer(s) == script.outer(t),
+                _ => script.same_outer(s, t),
             }
         }
     }

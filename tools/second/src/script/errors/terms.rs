@@ -7,9 +7,7 @@ use crate::script::rules::{Paper, Rules};
 
 /// Whether some record of the script has a term.
 fn has_record(script: &Script, term: Term) -> bool {
-    let written = script.written_out(term);
-    let mut records = script.term_records();
-    matches!(term, Term::Record(_)) || records.any(|n| script.written_out(Term::Record(n)) == written)
+    script.records_of(term).next().is_some()
 }
 
 /// How many of two terms have no record.
