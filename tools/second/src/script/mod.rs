@@ -20,6 +20,7 @@ mod repeats;
 mod rewritten;
 mod rules;
 mod samples;
+mod sorts;
 mod steps;
 mod table;
 #[cfg(test)]

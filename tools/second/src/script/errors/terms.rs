@@ -33,6 +33,11 @@ wrong! {
             script.written_out(s).first() == script.written_out(t).first()
         }
     }
+    "terms compared by function alone, in reductions" FunctionAloneReduced {
+        fn reduces(&self, script: &Script, frame: &Frame, goal: &Goal) -> bool {
+            FunctionAlone.reduces(script, frame, goal)
+        }
+    }
     "terms compared by their depth" DepthAlone {
         fn same_term(&self, script: &Script, s: Term, t: Term) -> bool {
             script.written_out(s).len() == script.written_out(t).len()
