@@ -16,6 +16,7 @@ mod plan;
 mod prover;
 mod random;
 mod records;
+mod reduced;
 mod repeats;
 mod rewritten;
 mod rules;

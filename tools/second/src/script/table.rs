@@ -69,11 +69,11 @@ fn add_repeats(table: &mut Table, cases: &[Planned], answers: &[Answer]) {
         refused.len(),
         300,
     );
-    for (name, least, is_one) in sorts::SORTS {
-        for ((of, how), least) in [(&accepted, "accepted"), (&refused, "refused along the chain")]
-            .into_iter()
-            .zip(least)
-        {
+    for (name, [least_accepted, least_refused], is_one) in sorts::SORTS {
+        for (how, of, least) in [
+            ("accepted", &accepted, least_accepted),
+            ("refused along the chain", &refused, least_refused),
+        ] {
             let with = of.iter().filter(|(p, _)| is_one(&script_of(&p.case)));
             table.add(&format!("{how}, {name}"), with.count(), least);
         }
