@@ -88,7 +88,7 @@ pub fn script_cases() -> Vec<(Vec<u8>, Vec<u8>)> {
         let vocabulary = take(&mut rest, vocabulary).to_vec();
         cases.push((vocabulary, take(&mut rest, script).to_vec()));
     }
-    assert_eq!(cases.len(), 5917);
+    assert_eq!(cases.len(), 6043);
     cases
 }
 

@@ -91,10 +91,10 @@ fn the_replay_agrees_with_the_library_on_every_case() {
         assert_eq!(shown.is_some(), keeps_form, "case {i}");
     }
     let expected = [
-        (0, 616),
+        (0, 711),
         (20, 235),
-        (21, 1030),
-        (22, 973),
+        (21, 1043),
+        (22, 991),
         (23, 32),
         (24, 487),
         (25, 131),

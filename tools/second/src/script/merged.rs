@@ -51,7 +51,7 @@ struct Merged;
 
 impl Rules for Merged {
     fn same_term(&self, script: &Script, s: Term, t: Term) -> bool {
-        script.outer(s) == script.outer(t)
+        script.same_outer(s, t)
     }
 }
 

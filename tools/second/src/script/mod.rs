@@ -16,10 +16,12 @@ mod plan;
 mod prover;
 mod random;
 mod records;
+mod reduced;
 mod repeats;
 mod rewritten;
 mod rules;
 mod samples;
+mod sorts;
 mod steps;
 mod table;
 #[cfg(test)]

@@ -5,7 +5,7 @@ use crate::random::{Random, Seed};
 use crate::script::columns::Matrix;
 use crate::script::file::Case;
 use crate::script::prover::{Prover, Step};
-use crate::script::records::{encode, Script, Words};
+use crate::script::records::{at, decode, encode, Script, Words};
 use crate::script::writer::{write, Writer};
 use crate::vocabulary::chain;
 use crate::vocabulary::records::records;
@@ -41,7 +41,7 @@ pub struct Plan {
 }
 
 /// All cases. With a seed of its own a run leaves out the samples, with repeats too, and the terms
-/// without a record, which are the same in every run.
+/// without a record, which are the same in every run. What was made later follows what was stored before.
 pub fn all(seed: Seed) -> Vec<Planned> {
     let mut plan = Plan {
         cases: Vec::new(),
@@ -64,6 +64,11 @@ pub fn all(seed: Seed) -> Vec<Planned> {
     }
     plan.deep_repeats();
     plan.rewritten(seed);
+    if seed.is_none() {
+        plan.idle_repeats();
+    }
+    plan.reduced_repeats();
+    plan.rewritten_reductions();
     plan.cases
 }
 
@@ -74,6 +79,16 @@ pub fn matrix(vocabulary: &[u8], query: [u16; 2]) -> Matrix {
         statements: chain(&records),
         records,
         query,
+    }
+}
+
+/// The script of a case, with its matrix.
+pub fn script_of(case: &Case) -> Script {
+    let records = decode(&case.script);
+    let [_, a, b, ..] = at(&records, 0);
+    Script {
+        matrix: matrix(&case.vocabulary, [a, b]),
+        records,
     }
 }
 

@@ -176,6 +176,11 @@ impl Script {
         }
     }
 
+    /// Whether two terms have the same function, applied to the same record.
+    pub fn same_outer(&self, s: Term, t: Term) -> bool {
+        self.outer(s) == self.outer(t)
+    }
+
     /// The functions of a term, from the outermost to the constant.
     pub fn written_out(&self, term: Term) -> Vec<u16> {
         let (mut functions, mut record) = match term {
@@ -187,5 +192,12 @@ impl Script {
             record = self.word(usize::from(record), INNER);
         }
         functions
+    }
+
+    /// The records of a term, by number.
+    pub fn records_of(&self, term: Term) -> impl Iterator<Item = u16> + '_ {
+        let written = self.written_out(term);
+        let records = self.term_records();
+        records.filter(move |number| self.written_out(Term::Record(*number)) == written)
     }
 }

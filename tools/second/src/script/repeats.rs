@@ -8,7 +8,7 @@ use crate::script::samples::{chained, sample_7, sample_9};
 use crate::script::writer::Writer;
 
 /// The records of each part of a term, by how many functions the part has.
-type Rungs = Vec<Vec<u16>>;
+pub type Rungs = Vec<Vec<u16>>;
 
 /// f2(a), where it is not the first record.
 const AGAIN: Words = [TERM, 2, CONSTANT_PLACE, 0, 0, 0, 0, 0];
@@ -22,7 +22,7 @@ fn sample_9_with(more: &[Words], x: u16) -> Vec<Words> {
 
 /// Pushes so many records for each part of a term, over the records of the part inside by turns. The
 /// functions are those from the constant on.
-fn push_rungs(writer: &mut Writer, functions: &[u16], count: usize) -> Rungs {
+pub fn push_rungs(writer: &mut Writer, functions: &[u16], count: usize) -> Rungs {
     let mut rungs = vec![vec![CONSTANT_PLACE]];
     for function in functions {
         let below = rungs.last().cloned().unwrap_or_default();
@@ -33,7 +33,7 @@ fn push_rungs(writer: &mut Writer, functions: &[u16], count: usize) -> Rungs {
 }
 
 /// Functions with the one at a place exchanged.
-fn exchanged(functions: &[u16], at: usize, by: fn(u16) -> u16) -> Vec<u16> {
+pub fn exchanged(functions: &[u16], at: usize, by: impl Fn(u16) -> u16) -> Vec<u16> {
     let numbered = functions.iter().enumerate();
     numbered.map(|(i, f)| if i == at { by(*f) } else { *f }).collect()
 }
@@ -305,5 +305,57 @@ impl Plan {
         steps.into_iter().for_each(|record| writer.chained(record));
         writer.link_chain();
         self.add(&jump_vocabulary(), writer.bytes(), &refused(row, writer.place(at)));
+    }
+}
+
+/// Behind how many steps of sample 9 an extension off the chain stands.
+const BEHIND: [usize; 3] = [0, 1, 3];
+
+impl Plan {
+    /// Sample 9 with repeats that no step of its chain names: records of f2(a) that an extension off the
+    /// chain names as x or as y, and records of f2(f2(a)), which no step has.
+    pub fn idle_repeats(&mut self) {
+        for behind in BEHIND {
+            for words in [[1, 0, 3, 0], [2, 2, 1, 4], [2, 2, 3, 4]] {
+                self.idle_repeat(&[AGAIN; 2], Some((step(EXTENSION, &words), behind)));
+            }
+        }
+        let outer = |inner: u16| step(TERM, &[2, inner]);
+        for more in [
+            &[outer(2), outer(2)][..],
+            &[AGAIN, outer(2), outer(3)],
+            &[AGAIN, outer(3), outer(2), outer(3)],
+            &[outer(2), outer(3), outer(2), outer(5)],
+        ] {
+            self.idle_repeat(more, None);
+        }
+    }
+
+    /// Sample 9 with more terms and a step off the chain, behind so many steps; accepted, and refused where
+    /// the last step names a.
+    fn idle_repeat(&mut self, more: &[Words], idle: Option<(Words, usize)>) {
+        for x in [2, CONSTANT_PLACE] {
+            let mut writer = Writer::new([2, 1]);
+            [AGAIN].iter().chain(more).for_each(|term| {
+                writer.push(*term);
+            });
+            let steps = [
+                step(START, &[0]),
+                step(EXTENSION, &[2, 1, CONSTANT_PLACE]),
+                step(EXTENSION, &[1, 0, x]),
+            ];
+            let (before, after) = steps.split_at(idle.map_or(0, |(_, behind)| behind));
+            before.iter().for_each(|record| writer.chained(*record));
+            if let Some((record, _)) = idle {
+                writer.push(record);
+            }
+            after.iter().for_each(|record| writer.chained(*record));
+            writer.link_chain();
+            let meant = match x {
+                CONSTANT_PLACE => refused(21, writer.place(2)),
+                _ => "accepted 3".to_string(),
+            };
+            self.add(&sample_4().bytes(), writer.bytes(), &meant);
+        }
     }
 }

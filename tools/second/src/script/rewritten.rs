@@ -27,6 +27,9 @@ const STORED: (usize, usize) = (4, 14);
 /// The same of the cases of another seed.
 const SEEDED: (usize, usize) = (2, 4);
 
+/// How often a script with a reduction by function terms is rewritten.
+const TIMES: usize = 2;
+
 /// An answer to a script.
 type Answer = Result<usize, Refusal>;
 
@@ -166,13 +169,7 @@ impl Plan {
             .filter_map(|planned| Base::of(&planned.case))
             .collect();
         for (base, answer) in all.iter().step_by(cases) {
-            let rewriting = base.rewritten(&mut self.random);
-            let moved = |refusal: Refusal| Refusal {
-                place: rewriting.place(refusal.place),
-                ..refusal
-            };
-            let meant = line(answer.map_err(moved));
-            self.add(&base.vocabulary, rewriting.writer.bytes(), &meant);
+            self.rewrite(base, *answer);
         }
         let accepted = all.iter().filter(|(_, answer)| answer.is_ok());
         for (base, _) in accepted.step_by(bases) {
@@ -180,5 +177,27 @@ impl Plan {
             let vocabulary = base.vocabulary.clone();
             self.damages(&Base { vocabulary, writer }, 2);
         }
+    }
+
+    /// Scripts with reductions by function terms, each rewritten several times. The records that a frame's
+    /// goal and the goal have are chosen apart.
+    pub fn rewritten_reductions(&mut self) {
+        let reductions = self.single_reductions();
+        for (base, answer) in reductions.iter().filter_map(|planned| Base::of(&planned.case)) {
+            for _ in 0..TIMES {
+                self.rewrite(&base, answer);
+            }
+        }
+    }
+
+    /// Adds a script, rewritten.
+    fn rewrite(&mut self, base: &Base, answer: Answer) {
+        let rewriting = base.rewritten(&mut self.random);
+        let moved = |refusal: Refusal| Refusal {
+            place: rewriting.place(refusal.place),
+            ..refusal
+        };
+        let meant = line(answer.map_err(moved));
+        self.add(&base.vocabulary, rewriting.writer.bytes(), &meant);
     }
 }

@@ -1,4 +1,4 @@
-//! The points of the script check in which a wrong check (`errors.rs`) may differ. Each default is
+//! The points of the script check in which a wrong check (`errors/`) may differ. Each default is
 //! the paper's.
 
 use crate::script::chain::{complements, run, Frame, Goal, Machine, MOST_FRAMES};

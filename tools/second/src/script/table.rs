@@ -4,8 +4,9 @@ use crate::script::call::{check_by, check_script};
 use crate::script::checks::{fault, keeps_form};
 use crate::script::errors;
 use crate::script::merged::has_repeat;
-use crate::script::plan::Planned;
+use crate::script::plan::{script_of, Planned};
 use crate::script::records::{at, chain, decode, COLUMN, EXTENSION, KIND, MOST_RECORDS, OWNER, POSITION, RECORD_BYTES};
+use crate::script::sorts;
 use crate::table::Table;
 use crate::vocabulary::records::{at as vocabulary_record, records};
 use crate::vocabulary::Refusal;
@@ -27,7 +28,7 @@ type Answer = Result<usize, Refusal>;
 type Sort = (&'static str, usize, fn(&Planned, usize) -> bool);
 
 /// The sorts of accepted cases.
-const SORTS: [Sort; 7] = [
+const SORTS: [Sort; 6] = [
     ("accepted", 300, |_, _| true),
     ("accepted, 2 to 9 steps", 100, |_, n| (2..10).contains(&n)),
     ("accepted, 10 to 99 steps", 60, |_, n| (10..100).contains(&n)),
@@ -38,9 +39,6 @@ const SORTS: [Sort; 7] = [
     ("accepted, records off the chain", 100, |planned, n| {
         let records = decode(&planned.case.script);
         chain(&records).len() == n && n + 2 < records.len()
-    }),
-    ("accepted, a term under several records", 60, |planned, _| {
-        has_repeat(&decode(&planned.case.script))
     }),
 ];
 
@@ -58,6 +56,28 @@ fn connected(cases: &[Planned], answers: &[Answer]) -> usize {
         }
     }
     met.len()
+}
+
+/// Adds the sorts of repeats, among the accepted cases and among those that are refused along the chain.
+fn add_repeats(table: &mut Table, cases: &[Planned], answers: &[Answer]) {
+    let formed = cases.iter().zip(answers).filter(|(_, a)| keeps_form(**a));
+    let scripts = formed.filter(|(p, _)| has_repeat(&decode(&p.case.script)));
+    let (accepted, refused): (Vec<_>, Vec<_>) = scripts.partition(|(_, a)| a.is_ok());
+    table.add("accepted, a term under several records", accepted.len(), 60);
+    table.add(
+        "refused along the chain, a term under several records",
+        refused.len(),
+        300,
+    );
+    for (name, [least_accepted, least_refused], is_one) in sorts::SORTS {
+        for (how, of, least) in [
+            ("accepted", &accepted, least_accepted),
+            ("refused along the chain", &refused, least_refused),
+        ] {
+            let with = of.iter().filter(|(p, _)| is_one(&script_of(&p.case)));
+            table.add(&format!("{how}, {name}"), with.count(), least);
+        }
+    }
 }
 
 /// The answer to a case.
@@ -91,8 +111,7 @@ pub fn table(cases: &[Planned]) -> Table {
         let with = pairs().filter(|(p, a)| a.is_ok_and(|steps| is_one(p, steps)));
         table.add(name, with.count(), least);
     }
-    let repeated = pairs().filter(|(p, a)| keeps_form(**a) && has_repeat(&decode(&p.case.script)));
-    table.add("of good form, a term under several records", repeated.count(), 300);
+    add_repeats(&mut table, cases, &answers);
     table.add(
         "different literals of columns connected",
         connected(cases, &answers),

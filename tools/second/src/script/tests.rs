@@ -6,8 +6,9 @@ use crate::random::Random;
 use crate::script::call::{check_by, check_script};
 use crate::script::checks::fault;
 use crate::script::errors;
-use crate::script::plan::{Plan, Planned};
+use crate::script::plan::{script_of, Plan, Planned};
 use crate::script::rules::{Paper, Rules};
+use crate::script::sorts::SORTS;
 use crate::script::{decode, encode, lines, Case};
 use crate::tests::paper::{complements, header, levels, nested, refusal, script, scripts};
 use crate::tests::stored;
@@ -81,6 +82,25 @@ fn repeated_terms() {
     assert_eq!(check_script(&vocabulary, &again), Err(refusal(17, 11)));
 }
 
+/// Reductions by other records of their terms are among the accepted scripts, those that are made record by record and
+/// those that are rewritten, whatever the seed; each has its answer.
+#[test]
+fn reductions_by_other_records() {
+    let (.., [least, _], is_one) = SORTS.into_iter().next_back().unwrap();
+    let made = planned(Plan::reduced_repeats);
+    let rewritten = planned(Plan::rewritten_reductions);
+    assert!(made
+        .iter()
+        .chain(&rewritten)
+        .all(|p| fault(p, answer(&p.case)).is_none()));
+    let [made, rewritten] = [made, rewritten].map(|cases| {
+        let accepted = cases.iter().filter(|p| answer(&p.case).is_ok());
+        accepted.filter(|p| is_one(&script_of(&p.case))).count()
+    });
+    assert!(made >= least);
+    assert!(rewritten >= 5);
+}
+
 /// The cases made of the samples are each made for an answer, and get it. Samples 7 to 9 are among them.
 #[test]
 fn planned_samples() {
@@ -146,6 +166,7 @@ fn errors_are_told() {
         plan.unrecorded();
         plan.deep_repeats();
         plan.rewritten(None);
+        plan.reduced_repeats();
     });
     let answered: Vec<_> = cases
         .iter()

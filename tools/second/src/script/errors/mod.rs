@@ -13,7 +13,7 @@ macro_rules! wrong {
         pub const ERRORS: &[crate::script::errors::Error] = &[$(($name, &$error)),*];
         $(
             #[doc = $name]
-            struct $error;
+            pub struct $error;
             impl Rules for $error { $($rule)* }
         )*
     };
@@ -22,6 +22,8 @@ macro_rules! wrong {
 mod repeats;
 mod rows;
 mod terms;
+
+pub use repeats::NoRepeatsReduced;
 
 /// All of them.
 pub fn all() -> impl Iterator<Item = &'static Error> {

@@ -4,9 +4,9 @@
 use crate::script::chain::{Frame, Goal};
 use crate::script::columns::Predicate;
 use crate::script::form;
-use crate::script::merged::firsts;
-use crate::script::records::{Script, Term, Words, CONSTANT, EXTENSION, INNER, KIND, TERM, X, Y};
+use crate::script::records::{Script, Term, CONSTANT, KIND, TERM};
 use crate::script::rules::{Paper, Rules};
+use crate::script::sorts::{is_equal, is_named, is_repeat};
 
 /// How many functions of a term the check compares that leaves out the inner ones.
 const OUTERMOST: usize = 16;
@@ -15,28 +15,6 @@ const OUTERMOST: usize = 16;
 fn with_test(row: u8, script: &Script, place: usize, test: fn(&Script, usize) -> bool) -> bool {
     let tested = || row == 17 && script.word(place, KIND) == TERM && test(script, place);
     form::applies(row, script, place) || tested()
-}
-
-/// Whether a term record is equal to an earlier one.
-fn is_equal(script: &Script, place: usize) -> bool {
-    let own = script.record(place);
-    script.records.iter().take(place).any(|earlier| *earlier == own)
-}
-
-/// Whether an earlier record has the term of this one.
-fn is_repeat(script: &Script, place: usize) -> bool {
-    let before: Vec<Words> = script.records.iter().take(place + 1).copied().collect();
-    firsts(&before).last().is_some_and(|first| usize::from(*first) != place)
-}
-
-/// Whether a term or an extension names the record at a place.
-fn is_named(script: &Script, place: usize) -> bool {
-    let names = |record: &Words| match record[KIND] {
-        TERM => usize::from(record[INNER]) == place,
-        EXTENSION => [record[X], record[Y]].contains(&(place as u16)),
-        _ => false,
-    };
-    script.records.iter().any(names)
 }
 
 /// The function of a term, and the function and the record that this is applied to.
@@ -48,10 +26,7 @@ fn two_outer(script: &Script, term: Term) -> [u16; 3] {
 
 /// Whether some record has a term, and no more than one.
 fn has_one_record(script: &Script, term: Term) -> bool {
-    let written = script.written_out(term);
-    let mut records = script
-        .term_records()
-        .filter(|n| script.written_out(Term::Record(*n)) == written);
+    let mut records = script.records_of(term);
     records.next().is_some() && records.next().is_none()
 }
 
@@ -81,7 +56,7 @@ wrong! {
         fn same_term(&self, script: &Script, s: Term, t: Term) -> bool {
             match (s, t) {
                 (Term::Record(m), Term::Record(n)) => m == n,
-                _ => script.outer(s) == script.outer(t),
+                _ => script.same_outer(s, t),
             }
         }
     }
@@ -100,7 +75,12 @@ wrong! {
     }
     "terms compared by function and inner record" OneFunction {
         fn same_term(&self, script: &Script, s: Term, t: Term) -> bool {
-            script.outer(s) == script.outer(t)
+            script.same_outer(s, t)
+        }
+    }
+    "terms compared by function and inner record, in reductions" OneFunctionReduced {
+        fn reduces(&self, script: &Script, frame: &Frame, goal: &Goal) -> bool {
+            OneFunction.reduces(script, frame, goal)
         }
     }
     "terms compared by two functions and the record inside" TwoFunctions {
@@ -114,12 +94,33 @@ wrong! {
             s.iter().take(OUTERMOST).eq(t.iter().take(OUTERMOST))
         }
     }
+    "terms compared by their 16 outermost functions, in reductions" OutermostReduced {
+        fn reduces(&self, script: &Script, frame: &Frame, goal: &Goal) -> bool {
+            Outermost.reduces(script, frame, goal)
+        }
+    }
     "fi(x) compared by the record of x" FunctionOfRecord {
         fn same_term(&self, script: &Script, s: Term, t: Term) -> bool {
             match (s, t) {
                 (Term::Record(_), Term::Record(_)) => Paper.same_term(script, s, t),
-                _ => script.outer(s) == script.outer(t),
+                _ => script.same_outer(s, t),
             }
+        }
+    }
+    "fi(x) taken as the first record of its term" FirstRecord {
+        fn same_term(&self, script: &Script, s: Term, t: Term) -> bool {
+            let first = match (s, t) {
+                (Term::Record(n), Term::Applied { .. }) | (Term::Applied { .. }, Term::Record(n)) => {
+                    script.records_of(s).next() == Some(n)
+                }
+                _ => true,
+            };
+            first && Paper.same_term(script, s, t)
+        }
+    }
+    "fi(x) taken as the first record of its term, in reductions" FirstRecordReduced {
+        fn reduces(&self, script: &Script, frame: &Frame, goal: &Goal) -> bool {
+            FirstRecord.reduces(script, frame, goal)
         }
     }
     "fi(x) taken as the last record of its term, other terms as the first" FirstAndLast {

@@ -7,9 +7,7 @@ use crate::script::rules::{Paper, Rules};
 
 /// Whether some record of the script has a term.
 fn has_record(script: &Script, term: Term) -> bool {
-    let written = script.written_out(term);
-    let mut records = script.term_records();
-    matches!(term, Term::Record(_)) || records.any(|n| script.written_out(Term::Record(n)) == written)
+    script.records_of(term).next().is_some()
 }
 
 /// How many of two terms have no record.
@@ -33,6 +31,11 @@ wrong! {
     "terms compared by function alone" FunctionAlone {
         fn same_term(&self, script: &Script, s: Term, t: Term) -> bool {
             script.written_out(s).first() == script.written_out(t).first()
+        }
+    }
+    "terms compared by function alone, in reductions" FunctionAloneReduced {
+        fn reduces(&self, script: &Script, frame: &Frame, goal: &Goal) -> bool {
+            FunctionAlone.reduces(script, frame, goal)
         }
     }
     "terms compared by their depth" DepthAlone {
