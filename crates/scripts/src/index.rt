@@ -1,12 +1,14 @@
 // The index of terms: each term record gets the first record of the same term, its origin.
 use crate::entry::Entry;
+use crate::entry::is_term_entry;
 use crate::entry::read_entry;
 ghost use mathlib.Core.Path.{_≡_};
-ghost use Prim.Native.Nat.{_+_, _*_, _/_, _<_};
+ghost use Prim.Native.Nat.{_+_, _*_, _/_, _≤_, _<_};
 ghost use lib.ListN.{length};
 ghost use Rattle.columns.specs.Code.Packed.{termLimit};
+ghost use Rattle.scripts.specs.Format.{entries};
 ghost use Rattle.scripts.specs.Code.Codes.{functionLimit, codeOf};
-ghost use Rattle.scripts.specs.Code.Index.{codeIn, originIn, AllNumbered, Blank, Tree, passes};
+ghost use Rattle.scripts.specs.Code.Index.{codeIn, originIn, TermsBefore, AllNumbered, Blank, Tree, passes};
 ghost use Rattle.scripts.specs.Code.Index.{Found, Entered, IndexedBelow};
 ghost use Rattle.scripts.specs.Code.Ready.{HasEntry, Formed};
 
@@ -19,7 +21,7 @@ impl Index {
     pub const CODES: u32 = 1048576;
     // Links of a record: to the root of a tree, and to two children.
     pub const LINKS: usize = 3;
-    // Few records, for which there are small tables.
+    // Few records up to the last term, for which there are small tables.
     pub const FEW: usize = 64;
 }
 
@@ -109,16 +111,32 @@ fn index_term(s: &[u8], links: &mut [u16], terms: &mut [u32], i: usize)
     }
 }
 
-// Numbers the terms of a script that keeps the form.
-pub fn index_terms(s: &[u8], links: &mut [u16], terms: &mut [u32])
+// The number after the last term record, as steps need no place in the tables; or few, for which there are small ones.
+pub fn find_end(s: &[u8]) -> usize
+    ensures { λ r. ⌜ TermsBefore (now (s .entry)) r ⌝ }
+    ensures { λ r. ⌜ r ≤ entries (now (s .entry)) ⌝ }
+{
+    let mut end = s.len() / Entry::SIZE;
+    while end > Index::FEW {
+        if is_term_entry(read_entry(s, end - 1).w0) {
+            return end;
+        }
+        end -= 1;
+    }
+    end
+}
+
+// Numbers the terms of a script that keeps the form, of which none stands at `end` or after it.
+pub fn index_terms(s: &[u8], end: usize, links: &mut [u16], terms: &mut [u32])
     requires { ⌜ Formed (now s) ⌝ }
+    requires { ⌜ TermsBefore (now s) end ⌝ }
+    requires { ⌜ end ≤ entries (now s) ⌝ }
     requires { ⌜ Blank (now s) (now links) (now terms) ⌝ }
     ensures { λ _. ⌜ AllNumbered (now (s .entry)) (now (terms .exit)) ⌝ }
 {
-    let records = s.len() / Entry::SIZE;
     terms[1] = Index::CODES;
     let mut i = 2;
-    while i < records {
+    while i < end {
         index_term(s, links, terms, i);
         i += 1;
     }

@@ -6,6 +6,7 @@ use crate::entry::read_entry;
 use crate::index::Index;
 use crate::index::code_in;
 use crate::index::code_of;
+use crate::index::find_end;
 use crate::index::index_terms;
 use crate::index::origin_in;
 use crate::machine::Machine;
@@ -31,7 +32,7 @@ ghost use Rattle.scripts.specs.Calculus.{frameLimit};
 ghost use Rattle.records.specs.Finite.{isNil};
 ghost use Rattle.scripts.specs.Run.{extendBy};
 ghost use Rattle.scripts.specs.Code.Codes.{opposed};
-ghost use Rattle.scripts.specs.Code.Index.{AllNumbered, fewEntries, Blank};
+ghost use Rattle.scripts.specs.Code.Index.{TermsBefore, AllNumbered, fewEntries, Blank};
 ghost use Rattle.scripts.specs.Code.Machine.{places, framesFrom, framesOf, Standing, Shows};
 ghost use Rattle.scripts.specs.Code.Numbered.{usedNumbers};
 ghost use Rattle.scripts.specs.Code.Tested.{reducesTo, ExtensionTested, TestedAt, runAfter, chainOutcome};
@@ -267,6 +268,7 @@ fn run_numbering(
     v: &[u8],
     marks: &[bool; Record::LIMIT],
     s: &[u8],
+    end: usize,
     first: usize,
     column: Column,
     links: &mut [u16],
@@ -275,30 +277,35 @@ fn run_numbering(
     requires { ⌜ Ready (now v) (now s) (now marks) (entryAt (now s) 0) ⌝ }
     requires { ⌜ IsStep (now s) first ⌝ }
     requires { ⌜ 0 < column .first ⌝ }
+    requires { ⌜ TermsBefore (now s) end ⌝ }
+    requires { ⌜ end ≤ entries (now s) ⌝ }
     requires { ⌜ Blank (now s) (now links) (now terms) ⌝ }
     ensures { λ r. ⌜ judged r ≡ runAfter (now (v .entry)) (now (s .entry)) (literals column ∷ []) first ⌝ }
 {
-    index_terms(s, links, terms);
+    index_terms(s, end, links, terms);
     run_steps(v, marks, s, terms, first, column)
 }
 
-// Runs a script of few records in small tables: to zero the large ones takes as long as a small call.
+// Does so for few terms in small tables: to zero the large ones takes as long as a small call.
 fn run_few(
     v: &[u8],
     marks: &[bool; Record::LIMIT],
     s: &[u8],
+    end: usize,
     first: usize,
     column: Column,
 ) -> Judged
     requires { ⌜ Ready (now v) (now s) (now marks) (entryAt (now s) 0) ⌝ }
     requires { ⌜ IsStep (now s) first ⌝ }
     requires { ⌜ 0 < column .first ⌝ }
-    requires { ⌜ entries (now s) ≤ fewEntries ⌝ }
+    requires { ⌜ TermsBefore (now s) end ⌝ }
+    requires { ⌜ end ≤ entries (now s) ⌝ }
+    requires { ⌜ end ≤ fewEntries ⌝ }
     ensures { λ r. ⌜ judged r ≡ runAfter (now (v .entry)) (now (s .entry)) (literals column ∷ []) first ⌝ }
 {
     let mut links = [0; Index::LINKS * Index::FEW];
     let mut terms = [0; Index::FEW];
-    run_numbering(v, marks, s, first, column, &mut links, &mut terms)
+    run_numbering(v, marks, s, end, first, column, &mut links, &mut terms)
 }
 
 // The chain: its first step is a start, the others follow.
@@ -317,10 +324,11 @@ pub fn check_chain(v: &[u8], marks: &[bool; Record::LIMIT], s: &[u8], header: En
         return judge_after(begun, 0);
     };
     let column = query_column(header.w1, header.w2, e.w1);
-    if s.len() <= Entry::SIZE * Index::FEW {
-        return run_few(v, marks, s, first, column);
+    let end = find_end(s);
+    if end <= Index::FEW {
+        return run_few(v, marks, s, end, first, column);
     }
     let mut links = [0; Index::LINKS * Entry::LIMIT];
     let mut terms = [0; Entry::LIMIT];
-    run_numbering(v, marks, s, first, column, &mut links, &mut terms)
+    run_numbering(v, marks, s, end, first, column, &mut links, &mut terms)
 }

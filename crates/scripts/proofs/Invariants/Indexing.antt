@@ -21,8 +21,8 @@ use Rattle.records.proofs.Theorems.Accepted.{AcceptedFacts}
 use Rattle.columns.specs.Code.Packed.{termLimit}
 use Rattle.scripts.specs.Format.{entryAt, entries, termAt}
 use Rattle.scripts.specs.Code.Codes.{TermRecord, origin, IsOrigin, functionLimit, codeOf, codeAt, codeTerm}
-use Rattle.scripts.specs.Code.Index.{numberOf, codeIn, originIn, NumberedBelow, AllNumbered, linkCount, linked, Blank}
-use Rattle.scripts.specs.Code.Index.{Tree, Met, Found, Entered, known, new, IndexedBelow}
+use Rattle.scripts.specs.Code.Index.{numberOf, codeIn, originIn, TermsBefore, NumberedBelow, AllNumbered, linkCount}
+use Rattle.scripts.specs.Code.Index.{linked, Blank, Tree, Met, Found, Entered, known, new, IndexedBelow}
 use Rattle.scripts.specs.declared.entry.Entry.{Entry}
 use Rattle.scripts.proofs.Laws.SearchTree.{ended-code, came-over, way-within, found-none, kept-link, kept-met, new-met}
 use Rattle.scripts.proofs.Theorems.Form.{KeepsForm}
@@ -31,10 +31,11 @@ use Rattle.scripts.proofs.Refinement.Terms.{First, Applied, term-record
 use Rattle.scripts.proofs.Refinement.Terms.{term-positive, header-code, first-code, applied-code, code-unique}
 
 -- tables of zeros
-pub blank-tables : (s : List ℕ) (n : ℕ) → entries s ≤ n → Blank s (replicate (linkCount * n) 0) (replicate n 0)
-blank-tables s n h =
+pub blank-tables : (s : List ℕ) (n : ℕ) → TermsBefore s n → 1 < n → Blank s (replicate (linkCount * n) 0) (replicate n 0)
+blank-tables s n h some =
     record {
-      room = rw (length-replicate {A = ℕ} n 0) h;
+      room = λ m r. rw (length-replicate {A = ℕ} n 0) (h m r);
+      some = rw (length-replicate {A = ℕ} n 0) some;
       size = rw (length-replicate {A = ℕ} n 0) (length-replicate {A = ℕ} (linkCount * n) 0);
       empty = zeros (linkCount * n);
       header = zeros n 0;
@@ -115,7 +116,7 @@ module _ (v s : List ℕ) (good : AcceptedFacts v) (f : KeepsForm v s) where
     index-other other =
         record {
           table = record {
-            size = x .table .size;
+            room = x .table .room;
             header = x .table .header;
             numbers = λ n h t. numbers n t (ℕ-discrete n i) h;
           };
@@ -147,7 +148,7 @@ module _ (v s : List ℕ) (good : AcceptedFacts v) (f : KeepsForm v s) where
       numbered : (j : ℕ) → origin s i ≡ j → NumberedBelow s (set terms i (numberOf code j)) (i + 1)
       numbered j e =
           record {
-            size = rw (length-set terms i (numberOf code j)) (x .table .size);
+            room = λ m r. rw (length-set terms i (numberOf code j)) (x .table .room m r);
             header = getD-set-other terms i 0 (numberOf code j) 0 (λ z. omega arith) ∙ x .table .header;
             numbers = λ n h u. at n u (ℕ-discrete n i) h;
           }
@@ -155,7 +156,7 @@ module _ (v s : List ℕ) (good : AcceptedFacts v) (f : KeepsForm v s) where
           at : (n : ℕ) → TermRecord s n → Dec (n ≡ i) → n < i + 1
               → getD (set terms i (numberOf code j)) n 0 ≡ numberOf (codeAt s n) (origin s n)
           at n u (yes q) h =
-              rw (q, getD-set-same terms i (numberOf code j) 0 (omega (arith, t .within, x .table .size)), c, e) refl
+              rw (q, getD-set-same terms i (numberOf code j) 0 (x .table .room i t), c, e) refl
           at n u (no d) h = getD-set-other terms i n (numberOf code j) 0 d ∙ x .table .numbers n (omega arith) u
 
       -- nodes come before the record, so what the table has of them stays
@@ -237,7 +238,7 @@ module _ (v s : List ℕ) (good : AcceptedFacts v) (f : KeepsForm v s) where
             (came-over links terms code slot (found .steps) (found .came)))
 
         room : slot < length links
-        room = omega (arith, slot-before, x .tree .size, t .within, x .table .size)
+        room = omega (arith, slot-before, x .tree .size, x .table .room i t)
 
         -- what holds of record i at the slot, and of each link before, holds of each link
         each : (P : ℕ → ℕ → Type 0) → P slot i → ((q : ℕ) → 0 < linked links q → P q (linked links q))
@@ -251,7 +252,7 @@ module _ (v s : List ℕ) (good : AcceptedFacts v) (f : KeepsForm v s) where
         new-code : codeIn (set terms i number) i ≡ code
         new-code =
             let small : code < termLimit = rw c (code-small v s good f i t) in
-            rw (getD-set-same terms i number 0 (omega (arith, t .within, x .table .size))) (omega arith)
+            rw (getD-set-same terms i number 0 (x .table .room i t)) (omega arith)
 
         apart : (p q : ℕ) → 0 < linked (set links slot i) p → linked (set links slot i) p ≡ linked (set links slot i) q → p ≡ q
         apart p q h e = at (ℕ-discrete p slot) (ℕ-discrete q slot)
@@ -279,7 +280,7 @@ module _ (v s : List ℕ) (good : AcceptedFacts v) (f : KeepsForm v s) where
               size = rw (length-set links slot i, length-set terms i number) (x .tree .size);
               later = each (λ q j. q < linkCount * j) slot-before (x .tree .later);
               within = each (λ q j. j < length (set terms i number))
-                  (rw (length-set terms i number) (omega (arith, t .within, x .table .size))) (tree-table number .within);
+                  (rw (length-set terms i number) (x .table .room i t)) (tree-table number .within);
               apart = apart;
               met = each (λ q j. Met (set links slot i) (codeIn (set terms i number) j) j)
                   (rw new-code (new-met links slot i empty terms code found room))
@@ -317,7 +318,7 @@ module _ (v s : List ℕ) (good : AcceptedFacts v) (f : KeepsForm v s) where
   index-start links terms b =
       record {
         table = record {
-          size = rw (length-set terms 1 (numberOf 0 1)) (b .room);
+          room = λ m r. rw (length-set terms 1 (numberOf 0 1)) (b .room m r);
           header = getD-set-other terms 1 0 (numberOf 0 1) 0 (λ z. omega arith) ∙ b .header;
           numbers = λ n h t. at n t (term-record v s good f n t) h;
         };
@@ -338,6 +339,5 @@ module _ (v s : List ℕ) (good : AcceptedFacts v) (f : KeepsForm v s) where
           → getD (set terms 1 (numberOf 0 1)) n 0 ≡ numberOf (codeAt s n) (origin s n)
       at n t (inl a) h =
           let own = origin-own s n t (λ j l o e. omega (arith, l, a .number, term-positive v s good f j (o .term))) in
-          let room : 1 < length terms = omega (arith, t .within, b .room, a .number) in
-          rw (first-code v s good f n a, own, a .number) (getD-set-same terms 1 (numberOf 0 1) 0 room)
+          rw (first-code v s good f n a, own, a .number) (getD-set-same terms 1 (numberOf 0 1) 0 (b .some))
       at n t (inr a) h = absurd (omega (arith, h, a .earlier, term-positive v s good f (entryAt s n .w2) (a .inner)))

@@ -20,16 +20,20 @@ codeIn terms n = getD terms n 0 % termLimit
 abbrev pub originIn : List ℕ → ℕ → ℕ
 originIn terms n = getD terms n 0 / termLimit
 
+-- No term record stands at `end` or after it.
+abbrev pub TermsBefore : List ℕ → ℕ → Type 0
+TermsBefore s end = (n : ℕ) → TermRecord s n → n < end
+
 -- The table has the numbers of the terms before record i; no number stands at the header, which stands for no term.
 pub record NumberedBelow (s terms : List ℕ) (i : ℕ) : Type 0 where
-  pub size : entries s ≤ length terms
+  pub room : TermsBefore s (length terms)
   pub header : getD terms 0 0 ≡ 0
   pub numbers : (n : ℕ) → n < i → TermRecord s n → getD terms n 0 ≡ numberOf (codeAt s n) (origin s n)
 
 abbrev pub AllNumbered : List ℕ → List ℕ → Type 0
 AllNumbered s terms = NumberedBelow s terms (entries s)
 
--- Few records, for which there are small tables.
+-- Few records up to the last term, for which there are small tables.
 abbrev pub fewEntries : ℕ
 fewEntries = 64
 
@@ -41,9 +45,10 @@ linkCount = 3
 abbrev pub linked : List ℕ → ℕ → ℕ
 linked links slot = getD links slot 0
 
--- Tables with room for the records of a script: no link yet, and no number at the header.
+-- Tables with room for the terms of a script: no link yet, and no number at the header.
 pub record Blank (s links terms : List ℕ) : Type 0 where
-  pub room : entries s ≤ length terms
+  pub room : TermsBefore s (length terms)
+  pub some : 1 < length terms
   pub size : length links ≡ linkCount * length terms
   pub empty : (slot : ℕ) → linked links slot ≡ 0
   pub header : getD terms 0 0 ≡ 0

@@ -50,7 +50,7 @@ term c =
 origin-in-requires : tie.Need-origin-in-requires
 origin-in-requires c κs =
     let t = c .before .before in
-    omega (arith, term t .inner, within (start t), start t .pre .1 .1 .1 .table .size)
+    omega (arith, term t .inner, start t .pre .1 .1 .1 .table .room _ (term t .term))
 
 code-of-requires : tie.Need-code-of-requires
 code-of-requires c κs =
@@ -72,7 +72,7 @@ enter-term-requires c κs =
     let t = term (taken (o .before)) in
     let b = start (taken (o .before)) in
     let x = b .pre .1 .1 .1 in
-    (x .tree, omega (arith, code-inner _ _ (good b) (form b) _ _ (t .term) (t .kind) (coded o), within b, x .table .size))
+    (x .tree, omega (arith, code-inner _ _ (good b) (form b) _ _ (t .term) (t .kind) (coded o), x .table .room _ (t .term)))
 
 cast-enter-term : tie.Need-cast-enter-term
 cast-enter-term c =
@@ -102,8 +102,8 @@ mul-terms-2 c = let b = start (taken (entered c .before)) in omega (arith, withi
 
 slice-write-terms : tie.Need-slice-write-terms
 slice-write-terms c =
-    let b = start (taken (entered c .before)) in
-    omega (arith, within b, b .pre .1 .1 .1 .table .size)
+    let t = taken (entered c .before) in
+    start t .pre .1 .1 .1 .table .room _ (term t .term)
 
 returns : tie.Need-returns
 returns c =

@@ -111,29 +111,36 @@ answered c r told =
     (literals (q .result)) (q .ensures 0 0 0))
     (started g)
 
+find-end-requires : tie.Need-find-end-requires
+find-end-requires c κs = tt
+
 run-few-requires : tie.Need-run-few-requires
 run-few-requires c κs =
-    let q = c .before in
-    (ready q, (first (begun (q .before) .before), (some q, omega (arith, c .if1 .taken))))
+    let e = c .before .find-end .ensures in
+    let q = c .before .before in
+    (ready q, (first (begun (q .before) .before), (some q, (e .0, (e .1, c .if1 .taken)))))
 
 returns-3 : tie.Need-returns-3
-returns-3 c = answered (c .before .before) (c .run-few .result) (c .run-few .ensures)
+returns-3 c = answered (c .before .before .before) (c .run-few .result) (c .run-few .ensures)
 
 run-numbering-requires : tie.Need-run-numbering-requires
 run-numbering-requires c κs =
-    let q = c .before .before .before in
+    let f = c .before .before .before in
+    let q = f .before in
     let most = form (at-query q) .sized .most in
-    (ready q, (first (begun (q .before) .before), (some q, blank-tables _ entryLimit (omega (arith, most)))))
+    let s = now (at-query q .args .s) in
+    let blank = blank-tables s entryLimit (λ n r. omega (arith, r .within, most)) (omega arith) in
+    (ready q, (first (begun (q .before) .before), (some q, (f .find-end .ensures .0, (f .find-end .ensures .1, blank)))))
 
 returns-4 : tie.Need-returns-4
 returns-4 c =
     let r = c .before .before in
-    answered (r .before .before .before .before) (r .run-numbering .result) (r .run-numbering .ensures)
+    answered (r .before .before .before .before .before) (r .run-numbering .result) (r .run-numbering .ensures)
 
 pub check-chain-spec : {M : Type 1} → statement M
 check-chain-spec =
     tie.close
     (tie.spec (λ c. search needs) (λ c κs. search needs) (λ c. search needs) (λ c. search needs) (λ c κs. search needs)
     returns read-entry-requires (λ c κs. search needs) (λ c. search needs) (λ c. search needs) (λ c κs. search needs)
-    returns-2 (λ c κs. search needs) (λ c. search needs) run-few-requires returns-3 (λ c. search needs) (λ c. search needs)
+    returns-2 (λ c κs. search needs) find-end-requires run-few-requires returns-3 (λ c. search needs) (λ c. search needs)
     run-numbering-requires returns-4)

@@ -1,5 +1,6 @@
 -- `scripts::run::run_few` meets its contract. The tables have room for few records.
 -- Assumes nothing.
+use native.Mathlib.Omega.{arith}
 use borrow.Author.Needs.{needs}
 use Rattle.scripts.specs.Code.Index.{fewEntries}
 use Rattle.scripts.proofs.Invariants.Indexing.{blank-tables}
@@ -9,7 +10,9 @@ use Rattle.scripts.proofs.run.run_few.Tie as tie
 run-numbering-requires : tie.Need-run-numbering-requires
 run-numbering-requires c κs =
     let b = c .before .before .before .before in
-    (b .pre .0, (b .pre .1 .0, (b .pre .1 .1 .0, blank-tables _ fewEntries (b .pre .1 .1 .1))))
+    let p = b .pre .1 .1 .1 in
+    let blank = blank-tables _ fewEntries (λ n r. omega (arith, p .0 n r, p .1 .1)) (omega arith) in
+    (b .pre .0, (b .pre .1 .0, (b .pre .1 .1 .0, (p .0, (p .1 .0, blank)))))
 
 pub run-few-spec : {M : Type 1} → statement M
 run-few-spec =

@@ -13,6 +13,7 @@ use Rattle.columns.specs.Code.Packed.{packedAt}
 use Rattle.scripts.specs.Steps.{Extension}
 use Rattle.scripts.specs.Format.{entryAt, entries, queryIn, extensionOf}
 use Rattle.scripts.specs.Code.Codes.{TermRecord, origin, codeOf, codeAt}
+use Rattle.scripts.specs.Code.Index.{TermsBefore}
 use Rattle.scripts.specs.Code.Numbered.{usedNumbers}
 use Rattle.scripts.specs.declared.entry.Entry.{Entry}
 use Rattle.scripts.proofs.Theorems.Form.{KeepsForm, keeps-form}
@@ -22,10 +23,10 @@ use Rattle.scripts.proofs.Invariants.Indexing.{number-code, number-seco
 use Rattle.scripts.proofs.run.used_column.Statement.{statement}
 use Rattle.scripts.proofs.run.used_column.Tie as tie
 
--- the term for y, or the header in its place, is in the table
-second-within : (s : List ℕ) (n : ℕ) → (n ≡ 0) ⊎ TermRecord s n → 1 < entries s → n < entries s
-second-within s n (inl z) h = omega arith
-second-within s n (inr t) h = t .within
+-- the term for y, or the header in its place, is in the table where x is
+second-within : (s : List ℕ) (n m end : ℕ) → (n ≡ 0) ⊎ TermRecord s n → m < end → TermsBefore s end → n < end
+second-within s n m end (inl z) h room = omega arith
+second-within s n m end (inr t) h room = room n t
 
 -- the column at the codes that were found
 used-as : (v s : List ℕ) (h : Entry) (e : Extension ℕ) (cx cy cf : ℕ) → h ≡ entryAt s 0 → cx ≡ codeAt s (e .first)
@@ -56,17 +57,18 @@ at-fx c = at-y (c .before .before)
 code-in-requires : tie.Need-code-in-requires
 code-in-requires c κs =
     let b = c .before .before .before .before in
-    omega (arith, extends b .first .within, b .pre .1 .0 .size)
+    b .pre .1 .0 .room _ (extends b .first)
 
 code-in-requires-2 : tie.Need-code-in-requires-2
 code-in-requires-2 c κs =
     let b = at-x (c .before) in
-    omega (arith, second-within _ _ (extends b .second) (form b .present), b .pre .1 .0 .size)
+    let room = b .pre .1 .0 .room in
+    second-within _ _ _ _ (extends b .second) (room _ (extends b .first)) room
 
 origin-in-requires : tie.Need-origin-in-requires
 origin-in-requires c κs =
     let b = at-y (c .before) in
-    omega (arith, extends b .first .within, b .pre .1 .0 .size)
+    b .pre .1 .0 .room _ (extends b .first)
 
 -- the codes of the two terms, and the origin of the first
 first-code : (c : tie.After-code-in) → c .code-in .result ≡ codeAt (now (at-x c .args .s)) (at-x c .args .e .w3)
