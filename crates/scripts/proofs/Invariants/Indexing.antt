@@ -111,7 +111,7 @@ module _ (v s : List ℕ) (good : AcceptedFacts v) (f : KeepsForm v s) where
       inner = rw read (number-origin terms i t (entryAt s i .w2) (a .earlier) (a .inner))
 
   module _ (links terms : List ℕ) (i : ℕ) (x : IndexedBelow s links terms i) (later : 1 < i) where
-    -- a record that is no function term is none
+    -- only the first record is the constant, so a later one that is no function term is no term
     pub index-other : (entryAt s i .w0 ≡ 2 → ⊥) → IndexedBelow s links terms (i + 1)
     index-other other =
         record {
