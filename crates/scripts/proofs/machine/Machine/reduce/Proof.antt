@@ -1,5 +1,5 @@
--- `scripts::machine::Machine::reduce` meets its contract. The prover finds this by itself; it stands here so that the log of the edit
--- `closes_one_frame_only` shows the facts that fail, and no missing file.
+-- `scripts::machine::Machine::reduce` meets its contract. The prover finds this by itself; it stands here so that the log of
+-- the edit `closes_one_frame_only` shows the facts that fail, and no missing file.
 -- Assumes nothing.
 use borrow.Author.Needs.{needs}
 use Rattle.scripts.proofs.machine.Machine.reduce.Statement.{statement}
