@@ -3,7 +3,8 @@
 --   bit-first, bit-rest        the bits of a number one bit longer
 --   bit-number, number-small   the bits of a number given by them
 --   number-cong, number-step   two numbers, and a number built from the top
---   bits-same                  numbers with the same bits
+--   halved, none-left          what is left of a number without its lowest digits
+--   digits-same, bits-same     numbers with the same digits, and with the same bits
 --   bit-or, bit-and            bits of a bitwise or, and of a bitwise and
 --   cleared                    bits of a number without one of them
 -- Assumes nothing.
@@ -14,7 +15,7 @@ use mathlib.Core.Path.{_≡_, refl, sym, ap, ap₂, _∙_}
 use mathlib.Core.Bool.{Bool, true, false, not, _&&_, _||_, and-true, and-false}
 use lib.Dec.{eqb, eqb·zero-suc, eqb·suc-zero, eqb·suc-suc}
 use lib.Bits.{bitOr, or-shr, or-mod, bitAnd, and-shr, and-mod}
-use lib.Pow.{shr-shr}
+use lib.Pow.{shr-lt, shr-shr}
 use borrow.Author.Tests.{eq-eqb, ne-eqb}
 use Rattle.records.specs.Finite.{bit, number, digit}
 
@@ -70,22 +71,41 @@ bit-half x j =
     let p : 2 ^ (1 + j) ≡ 2 ^ suc j = ap (λ (y : ℕ). 2 ^ y) (omega arith) in
     ap (λ (y : ℕ). eqb (y % 2) 1) (shr-shr x 1 j ∙ ap (λ (y : ℕ). x / y) p)
 
--- a number's last digit is its bit 0
-last-digit : (x : ℕ) → x % 2 ≡ digit (bit x 0)
+-- a number's digit is its bit
+digit-bit : (x j : ℕ) → x / 2 ^ j % 2 ≡ digit (bit x j)
 unfolding bit
-last-digit x = at (ℕ-discrete (x % 2) 1)
+digit-bit x j = at (ℕ-discrete (x / 2 ^ j % 2) 1)
   where
-    at : Dec (x % 2 ≡ 1) → x % 2 ≡ digit (eqb (x / 1 % 2) 1)
-    at (yes e) = rw (eq-eqb (x / 1 % 2) 1 (omega arith)) e
-    at (no n) = rw (ne-eqb (x / 1 % 2) 1 (λ e. n (omega arith))) (omega arith)
+    at : Dec (x / 2 ^ j % 2 ≡ 1) → x / 2 ^ j % 2 ≡ digit (eqb (x / 2 ^ j % 2) 1)
+    at (yes e) = rw (eq-eqb (x / 2 ^ j % 2) 1 e) e
+    at (no n) = rw (ne-eqb (x / 2 ^ j % 2) 1 n) (omega arith)
+
+last-digit : (x : ℕ) → x % 2 ≡ digit (bit x 0)
+last-digit x = let own : x % 2 ≡ x / 1 % 2 = omega arith in own ∙ digit-bit x 0
+
+-- one digit less is left
+pub halved : (x n : ℕ) → x / 2 ^ n / 2 ≡ x / 2 ^ suc n
+halved x n = let more : n + 1 ≡ suc n = omega arith in shr-shr x n 1 ∙ ap (λ (y : ℕ). x / 2 ^ y) more
+
+-- numbers whose lowest n digits are the same, and what is above them
+pub digits-same : (n x y : ℕ) → ((j : ℕ) → j < n → x / 2 ^ j % 2 ≡ y / 2 ^ j % 2) → x / 2 ^ n ≡ y / 2 ^ n → x ≡ y
+digits-same zero x y low high = omega (arith, high)
+digits-same (suc n) x y low high =
+    let p = x / 2 ^ n in
+    let q = y / 2 ^ n in
+    let rest : p / 2 ≡ q / 2 = halved x n ∙ high ∙ sym (halved y n) in
+    let last : p % 2 ≡ q % 2 = low n (omega arith) in
+    digits-same n x y (λ j h. low j (omega arith)) (omega (arith, rest, last))
+
+-- nothing is left of a number below the power
+pub none-left : (n x : ℕ) → x < 2 ^ n → x / 2 ^ n ≡ 0
+none-left n x h =
+    let wide : 2 ^ (0 + n) ≡ 2 ^ n = ap (λ (y : ℕ). 2 ^ y) (omega arith) in
+    omega (arith, shr-lt {n = x} 0 n (omega arith))
 
 pub bits-same : (n x y : ℕ) → x < 2 ^ n → y < 2 ^ n → ((j : ℕ) → j < n → bit x j ≡ bit y j) → x ≡ y
-bits-same zero x y h k e = omega arith
-bits-same (suc n) x y h k e =
-    let half = bits-same n (x / 2) (y / 2) (omega arith) (omega arith)
-    (λ j l. bit-half x j ∙ e (suc j) (omega arith) ∙ sym (bit-half y j)) in
-    let odd : x % 2 ≡ y % 2 = last-digit x ∙ ap digit (e 0 (omega arith)) ∙ sym (last-digit y) in
-    omega arith
+bits-same n x y h k e =
+    digits-same n x y (λ j l. digit-bit x j ∙ ap digit (e j l) ∙ sym (digit-bit y j)) (none-left n x h ∙ sym (none-left n y k))
 
 -- what holds of all digits
 on-digits : (P : ℕ → ℕ → Type 0) → P 0 0 → P 0 1 → P 1 0 → P 1 1 → (p q : ℕ) → p < 2 → q < 2 → P p q

@@ -10,16 +10,15 @@ use mathlib.Core.Path.{_≡_, sym, ap, _∙_}
 use mathlib.Core.Bool.{Bool, true, false, _&&_, and-true}
 use lib.Dec.{eqb}
 use lib.Bits.{and-mask}
-use lib.Pow.{pow-pos, pow-mono, shr-lt, shr-shr}
+use lib.Pow.{pow-pos, pow-mono, shr-shr}
 use Rattle.records.specs.Finite.{bit, digit}
-use Rattle.records.proofs.Laws.Bits.{bit-first, bit-rest, bits-same, bit-and}
+use Rattle.records.proofs.Laws.Bits.{bit-first, bit-rest, none-left, bits-same, bit-and}
 
 pub bit-past : (n x j : ℕ) → x < 2 ^ n → n ≤ j → bit x j ≡ false
 unfolding bit
 bit-past n x j h l =
-    let wide : 2 ^ n ≤ 2 ^ (0 + j) = pow-mono (omega arith) in
-    let none : x / 2 ^ j ≡ 0 = omega (arith, shr-lt {n = x} 0 j (omega arith)) in
-    ap (λ (y : ℕ). eqb (y % 2) 1) none
+    let wide : 2 ^ n ≤ 2 ^ j = pow-mono l in
+    ap (λ (y : ℕ). eqb (y % 2) 1) (none-left j x (omega arith))
 
 pub bit-zero : (j : ℕ) → bit 0 j ≡ false
 bit-zero j = bit-past 0 0 j (omega arith) (omega arith)

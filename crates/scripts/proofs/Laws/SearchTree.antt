@@ -3,7 +3,6 @@
 --   came-start, came-next, came-over        a search begins, and passes a record; it came over records
 --   way-within, came-within                 the slot of a way is in the table
 --   found-none                              where a search ended at no record, no record of that code is met
---   halved, bits-same                       numbers by their bits
 --   Shared, shared-more, ways-shared        two ways to one slot
 --   came-few                                so a search is short
 --   kept-link, kept-met, new-met            what is linked and met once a record was linked at an empty slot
@@ -15,14 +14,14 @@ use mathlib.Core.Path.{_≡_, refl, sym, ap, subst, _∙_}
 use mathlib.Core.Bool.{true, false, not}
 use mathlib.Core.List.{List}
 use lib.ListN.{length, set}
-use lib.Pow.{shr-shr}
 use lib.Seq.{getD-set-same, getD-set-other}
 use lib.Dec.{eqb}
 use borrow.Author.Tests.{eq-eqb, ne-eqb}
 use Rattle.records.proofs.Laws.Tests.{clash, both-right}
+use Rattle.records.proofs.Laws.Bits.{digits-same}
 use Rattle.scripts.specs.Code.Codes.{functionLimit}
-use Rattle.scripts.specs.Code.Index.{codeIn, linkCount, linked, slotAt, Over, Met, Tree, passes, CameTo, functionBits}
-use Rattle.scripts.specs.Code.Index.{Found}
+use Rattle.scripts.specs.Code.Index.{codeIn, linkCount, linked, slotAt, LeadsOver, Met, Tree, passes, CameTo}
+use Rattle.scripts.specs.Code.Index.{functionBits, Found}
 
 module _ (links terms : List ℕ) (code : ℕ) where
   pub passes-some : (slot : ℕ) → passes links terms code slot ≡ true → 0 < linked links slot
@@ -67,12 +66,12 @@ module _ (links terms : List ℕ) (code : ℕ) where
       at m h (yes z) = rw (z, sym (c .place)) e
       at m h (no d) = c .over m (omega arith)
 
-  pub came-over : (slot n : ℕ) → CameTo links terms code slot n → Over links code n
+  pub came-over : (slot n : ℕ) → CameTo links terms code slot n → LeadsOver links code n
   came-over slot n c m h = passes-some (slotAt links code m) (c .over m h)
 
   -- the slot of a way over records belongs to the inner term, or to one of the records
   pub way-within : (b n : ℕ) → code / functionLimit < b → ((slot : ℕ) → 0 < linked links slot → linked links slot < b)
-      → Over links code n → slotAt links code n < linkCount * b
+      → LeadsOver links code n → slotAt links code n < linkCount * b
   unfolding slotAt
   way-within b zero h within over = omega arith
   way-within b (suc n) h within over =
@@ -101,20 +100,6 @@ module _ (links terms : List ℕ) (code : ℕ) where
           let here : linked links (slotAt links code (f .steps)) ≡ j = rw e (m .here) in
           omega (arith, none, here)
 
--- a number's half, further and further
-pub halved : (c n : ℕ) → c / 2 ^ n / 2 ≡ c / 2 ^ suc n
-halved c n = let more : n + 1 ≡ suc n = omega arith in shr-shr c n 1 ∙ ap (λ (y : ℕ). c / 2 ^ y) more
-
--- two numbers with the same lowest n bits, and the same above them
-bits-same : (c d n : ℕ) → ((k : ℕ) → k < n → c / 2 ^ k % 2 ≡ d / 2 ^ k % 2) → c / 2 ^ n ≡ d / 2 ^ n → c ≡ d
-bits-same c d zero low high = omega (arith, high)
-bits-same c d (suc n) low high =
-    let x = c / 2 ^ n in
-    let y = d / 2 ^ n in
-    let rest : x / 2 ≡ y / 2 = halved c n ∙ high ∙ sym (halved d n) in
-    let last : x % 2 ≡ y % 2 = low n (omega arith) in
-    bits-same c d n (λ k h. low k (omega arith)) (omega (arith, rest, last))
-
 module _ (links terms : List ℕ) (tree : Tree links terms) where
   -- two ways to one slot are equally long, and their codes have the inner term and as many bits in common
   record Shared (c d m n : ℕ) : Type 0 where
@@ -134,7 +119,8 @@ module _ (links terms : List ℕ) (tree : Tree links terms) where
       at k h (yes z) = rw z (last ∙ ap (λ (x : ℕ). d / 2 ^ x % 2) (sym (s .steps)))
       at k h (no z) = s .bits k (omega arith)
 
-  ways-shared : (c d m n : ℕ) → Over links c m → Over links d n → slotAt links c m ≡ slotAt links d n → Shared c d m n
+  ways-shared : (c d m n : ℕ) → LeadsOver links c m → LeadsOver links d n → slotAt links c m ≡ slotAt links d n
+      → Shared c d m n
   unfolding slotAt
   ways-shared c d zero zero p q e = record { steps = refl; inner = omega arith; bits = λ k h. absurd (omega arith) }
   ways-shared c d zero (suc n) p q e = absurd (omega arith)
@@ -160,20 +146,21 @@ module _ (links terms : List ℕ) (tree : Tree links terms) where
           let one = tree .apart p (slotAt links own (m .steps)) (passes-some links terms code p passed) (sym (m .here)) in
           let shared = ways-shared code own functionBits (m .steps) (λ k l. over k (omega arith)) (m .over) one in
           absurd (passes-other links terms code p passed
-          (sym (bits-same code own functionBits (shared .bits) (shared .inner))))
+          (sym (digits-same functionBits code own (shared .bits) (shared .inner))))
 
 -- Record i is linked at an empty slot.
 module _ (links : List ℕ) (slot i : ℕ) (empty : linked links slot ≡ 0) where
   pub kept-link : (p : ℕ) → 0 < linked links p → linked (set links slot i) p ≡ linked links p
   kept-link p h = getD-set-other links slot p i 0 (λ e. omega (arith, h, (subst (λ (x : ℕ). linked links x ≡ 0) (sym e) empty)))
 
-  kept-slot : (code n : ℕ) → Over links code n → (m : ℕ) → m ≤ n → slotAt (set links slot i) code m ≡ slotAt links code m
+  kept-slot : (code n : ℕ) → LeadsOver links code n → (m : ℕ) → m ≤ n
+      → slotAt (set links slot i) code m ≡ slotAt links code m
   unfolding slotAt
   kept-slot code n over zero h = refl
   kept-slot code n over (suc m) h =
       rw (kept-slot code n over m (omega arith), kept-link (slotAt links code m) (over m (omega arith))) refl
 
-  kept-over : (code n : ℕ) → Over links code n → Over (set links slot i) code n
+  kept-over : (code n : ℕ) → LeadsOver links code n → LeadsOver (set links slot i) code n
   kept-over code n over m h =
       rw (kept-slot code n over m (omega arith), kept-link (slotAt links code m) (over m h)) (over m h)
 

@@ -59,13 +59,13 @@ slotAt links code zero = linkCount * (code / functionLimit)
 slotAt links code (suc n) = linkCount * linked links (slotAt links code n) + 1 + code / 2 ^ n % 2
 
 -- The way to a code leads over n records.
-abbrev pub Over : List ℕ → ℕ → ℕ → Type 0
-Over links code n = (m : ℕ) → m < n → 0 < linked links (slotAt links code m)
+abbrev pub LeadsOver : List ℕ → ℕ → ℕ → Type 0
+LeadsOver links code n = (m : ℕ) → m < n → 0 < linked links (slotAt links code m)
 
 -- Record j is met on the way to a code.
 pub record Met (links : List ℕ) (code j : ℕ) : Type 0 where
   pub steps : ℕ
-  pub over : Over links code steps
+  pub over : LeadsOver links code steps
   pub here : linked links (slotAt links code steps) ≡ j
 
 -- Links lead to later records, for which the tables have room, so each way ends. No record is linked twice, and each is met on

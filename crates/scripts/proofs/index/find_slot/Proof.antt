@@ -10,7 +10,8 @@ use lib.ListN.{length}
 use denote.Ref.{now}
 use borrow.Author.Needs.{needs}
 use Rattle.scripts.specs.Code.Index.{linked, passes, CameTo}
-use Rattle.scripts.proofs.Laws.SearchTree.{passes-some, came-start, came-next, came-within, halved, came-few}
+use Rattle.records.proofs.Laws.Bits.{halved}
+use Rattle.scripts.proofs.Laws.SearchTree.{passes-some, came-start, came-next, came-within, came-few}
 use Rattle.scripts.proofs.index.find_slot.Statement.{statement}
 use Rattle.scripts.proofs.index.find_slot.Tie as tie
 
