@@ -3,6 +3,7 @@ pub mod Tests
 pub mod Checks
 pub mod Search
 pub mod Lists
+pub mod Parts
 pub mod Below
 pub mod Sets
 pub mod Bits

@@ -5,3 +5,4 @@ pub mod Following
 pub mod Chains
 pub mod Ranks
 pub mod Bounds
+pub mod Growth

@@ -2,7 +2,7 @@
 use Prim.Native.Nat.{ℕ, zero, suc}
 use mathlib.Core.Bool.{Bool}
 use mathlib.Core.List.{List, [], _∷_}
-use Rattle.records.specs.Finite.{occurs}
+use Rattle.records.specs.Finite.{occurs, lastOr}
 use Rattle.records.specs.Format.{recordAt, count, firstStatement}
 
 -- "Chains run by next, and zero ends the chain.": the records from i on, at most n of them.
@@ -25,3 +25,7 @@ chain v = chainFrom v (firstStatement v)
 -- Record i is a statement on the chain. "A statement off the chain is checked but states nothing."
 abbrev pub chained : List ℕ → ℕ → Bool
 chained v i = occurs i (chain v)
+
+-- the last statement on the chain; the header, record 0, where there is none
+abbrev pub chainEnd : List ℕ → ℕ
+chainEnd v = lastOr 0 (chain v)

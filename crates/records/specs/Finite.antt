@@ -3,11 +3,12 @@
 --   table, has, members                    values at the numbers below n; sets as tables
 --   digit, bit, number                     truths as digits, numbers by their bits
 --   occurs, without, isNil, allZero        lists
+--   lastOr, put                            the last of a list; a list with others over a part of it
 --   inRecordOrder                          a value for each record, from those before it
 use Prim.Native.Nat.{ℕ, zero, suc, _+_, _*_, _/_, _%_, _^_}
 use mathlib.Core.Bool.{Bool, true, false, cond, _&&_, _||_}
 use mathlib.Core.List.{List, [], _∷_, _++_}
-use lib.ListN.{getD}
+use lib.ListN.{length, getD, take, drop}
 use lib.Dec.{eqb}
 
 -- 1 for true, 0 for false.
@@ -80,6 +81,15 @@ isNil (x ∷ l) = false
 unfoldable pub allZero : List ℕ → Bool
 allZero [] = true
 allZero (w ∷ ws) = eqb w 0 && allZero ws
+
+-- The last of a list, or d where it is empty.
+unfoldable pub lastOr : {A : Type 0} → A → List A → A
+lastOr d [] = d
+lastOr d (x ∷ l) = lastOr x l
+
+-- A list with others in the place of those from `at` on.
+abbrev pub put : {A : Type 0} → List A → ℕ → List A → List A
+put l at others = take at l ++ (others ++ drop (at + length others) l)
 
 -- A value for each record, worked out in record order: from the values of the records before it.
 unfoldable pub unrolled : {A : Type 0} → A → ((ℕ → A) → ℕ → A) → ℕ → ℕ → A

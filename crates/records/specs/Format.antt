@@ -1,6 +1,6 @@
 -- The bytes of a vocabulary.
-use Prim.Native.Nat.{ℕ, _+_, _*_, _/_}
-use mathlib.Core.List.{List}
+use Prim.Native.Nat.{ℕ, _+_, _*_, _/_, _%_}
+use mathlib.Core.List.{List, [], _∷_, _++_}
 use lib.ListN.{length, getD, take, drop}
 use Rattle.records.specs.declared.fields.Record.{Record}
 
@@ -16,6 +16,10 @@ recordLimit = 512
 abbrev pub roleLimit : ℕ
 roleLimit = 64
 
+-- "A, B, next (two bytes each)"
+abbrev pub wordSize : ℕ
+wordSize = 2
+
 -- "Numbers in files are 16-bit, low byte first."
 abbrev pub wordAt : List ℕ → ℕ → ℕ
 wordAt s i = getD s i 0 + 256 * getD s (i + 1) 0
@@ -23,6 +27,20 @@ wordAt s i = getD s i 0 + 256 * getD s (i + 1) 0
 -- "A record is 8 bytes: kind, a second byte, A, B, next (two bytes each)."
 abbrev pub recordOf : List ℕ → Record
 recordOf s = record { kind = getD s 0 0; second = getD s 1 0; a = wordAt s 2; b = wordAt s 4; next = wordAt s 6 }
+
+-- where A and next stand in a record
+abbrev pub placeOfA : ℕ
+placeOfA = 2
+
+abbrev pub placeOfNext : ℕ
+placeOfNext = 6
+
+-- The same the other way: the bytes of a number, and of a record.
+abbrev pub wordBytes : ℕ → List ℕ
+wordBytes x = x % 256 ∷ x / 256 ∷ []
+
+abbrev pub recordBytes : Record → List ℕ
+recordBytes r = r .kind ∷ r .second ∷ wordBytes (r .a) ++ wordBytes (r .b) ++ wordBytes (r .next)
 
 -- the bytes of record i
 abbrev pub partAt : List ℕ → ℕ → List ℕ

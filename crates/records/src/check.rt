@@ -245,18 +245,25 @@ fn check_rows(v: &[u8], i: usize, roles: u16, f: Record) -> Checked
     }
 }
 
-// Rows 3 to 7 at record i, whose eight bytes are `part`.
-fn check_fields(v: &[u8], part: &[u8], i: usize, roles: u16) -> Checked
+// Rows 3 to 7 at record i, which need not stand there yet, with the fields f.
+pub fn check_fields(v: &[u8], i: usize, roles: u16, f: Record) -> Checked
+    requires { ⌜ AtRecord (now v) i roles ⌝ }
+    ensures { λ r. ⌜ checked r ≡ fieldsCheck (now (v .entry)) i f ⌝ }
+{
+    let kind = check_kind(f, i);
+    let Checked::Fine = kind else {
+        return kind;
+    };
+    check_rows(v, i, roles, f)
+}
+
+// The same at a record whose eight bytes are `part`.
+fn check_part(v: &[u8], part: &[u8], i: usize, roles: u16) -> Checked
     requires { ⌜ length (now part) ≡ recordSize ⌝ }
     requires { ⌜ AtRecord (now v) i roles ⌝ }
     ensures { λ r. ⌜ checked r ≡ fieldsCheck (now (v .entry)) i (recordOf (now (part .entry))) ⌝ }
 {
-    let fields = Record::read(part);
-    let kind = check_kind(fields, i);
-    let Checked::Fine = kind else {
-        return kind;
-    };
-    check_rows(v, i, roles, fields)
+    check_fields(v, i, roles, Record::read(part))
 }
 
 fn check_record(v: &[u8], i: usize, roles: u16) -> Checked
@@ -266,7 +273,7 @@ fn check_record(v: &[u8], i: usize, roles: u16) -> Checked
 {
     let at = Record::SIZE * i;
     let end = at + Record::SIZE;
-    check_fields(v, &v[at..end], i, roles)
+    check_part(v, &v[at..end], i, roles)
 }
 
 // Rows 3 to 7 at each record in turn.
@@ -322,7 +329,7 @@ fn check_links(v: &[u8]) -> Checked
 }
 
 // Rows 1 to 8: what later rows may ask of a vocabulary.
-fn check_records(v: &[u8]) -> Checked
+pub fn check_records(v: &[u8]) -> Checked
     ensures { λ r. ⌜ checked r ≡ recordsCheck (now (v .entry)) ⌝ }
 {
     let length = check_length(v);

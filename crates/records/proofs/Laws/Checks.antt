@@ -1,17 +1,17 @@
 -- Checks in order: what a chain of checks answers, what one turn of checks in turn does, and what passed checks tell.
---   then-assoc                                 checks one after the other, whichever are taken together
+--   then-assoc, then-pass                      checks one after the other, whichever are taken together; and none after them
 --   then-refused, then-refused-as, then-fine   a chain `a then b` where the first check refuses, or passes
 --   require-test                               a row whose test was made by a call
 --   checked-fine                               a check whose answer is `Fine`
 --   turn-refused, turn-passed, turns-end       `inTurn` at one turn, and past its end
 --   require-passed, then-passed                a row that passed; both checks of a chain that was accepted
---   turn-at                                    each check of a run that passed
+--   turn-at, turns-pass, turns-last            each check of a run that passed; all of them; a run with one more at its end
 -- Assumes nothing.
 use Prim.Native.Nat.{ℕ, zero, suc, _+_, _-_, _<_, _≤_}
 use native.Mathlib.Numerals.{add-one}
 use native.Mathlib.Omega.{arith}
 use native.Mathlib.Decide.{ℕ-discrete}
-use mathlib.Core.Path.{_≡_, refl, sym, subst, _∙_}
+use mathlib.Core.Path.{_≡_, refl, sym, ap, subst, _∙_}
 use mathlib.Core.Bool.{Bool, true, false}
 use Rattle.records.specs.Outcome.{Outcome, Check, accepted, refused, pass, _then_, require, inTurn}
 use Rattle.records.specs.Answers.{checked}
@@ -22,6 +22,10 @@ use Rattle.records.proofs.Laws.Tests.{clash}
 pub then-assoc : {A B C : Type 0} (a : Outcome A) (b : Outcome B) (c : Outcome C) → ((a then b) then c) ≡ (a then b then c)
 then-assoc (accepted x) b c = refl
 then-assoc (refused n p) b c = refl
+
+pub then-pass : (a : Check) → (a then pass) ≡ a
+then-pass (accepted u) = refl
+then-pass (refused n p) = refl
 
 module _ (k : Checked) {B : Type 0} (a : Check) (b : Outcome B) where
   -- what was made of a refusal
@@ -73,3 +77,17 @@ turn-at check (suc n) i e k l h =
     at : Dec (i ≡ k) → (suc i ≤ k → k < suc i + n → check k ≡ pass) → check k ≡ pass
     at (yes q) r = subst (λ (j : ℕ). check j ≡ pass) q (then-passed (check i) (inTurn check (suc i) n) tt e .0)
     at (no q) r = r (omega arith) (omega arith)
+
+pub turns-pass : (check : ℕ → Check) (n i : ℕ) → ((k : ℕ) → i ≤ k → k < i + n → check k ≡ pass) → inTurn check i n ≡ pass
+unfolding inTurn
+turns-pass check zero i each = refl
+turns-pass check (suc n) i each =
+    rw (each i (omega arith) (omega arith)) (turns-pass check n (suc i) (λ k l h. each k (omega arith) (omega arith)))
+
+pub turns-last : (check : ℕ → Check) (n i : ℕ) → inTurn check i (suc n) ≡ (inTurn check i n then check (i + n))
+unfolding inTurn
+turns-last check zero i = let same : i + 0 ≡ i = omega arith in rw same (then-pass (check i))
+turns-last check (suc n) i =
+    let same : suc i + n ≡ i + suc n = omega arith in
+    ap (λ (o : Check). check i then o) (turns-last check n (suc i) ∙ rw same)
+    ∙ sym (then-assoc (check i) (inTurn check (suc i) n) (check (i + suc n)))

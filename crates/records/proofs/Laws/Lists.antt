@@ -3,13 +3,15 @@
 --   all-entry, all-default   it holds at an index; and past the end, where it holds of the default
 --   all-map                  what follows from it
 --   all-occurring            what holds of every number that occurs
+--   sets-all                 a list of which every entry was set
 -- Assumes nothing.
-use Prim.Native.Nat.{ℕ, zero, suc, _<_}
+use Prim.Native.Nat.{ℕ, zero, suc, _+_, _<_}
 use native.Mathlib.Omega.{arith}
-use mathlib.Core.Path.{_≡_, refl}
+use mathlib.Core.Path.{_≡_, refl, sym, ap, _∙_}
 use mathlib.Core.Bool.{true, or-true}
-use mathlib.Core.List.{List, [], _∷_}
-use lib.ListN.{length, getD}
+use mathlib.Core.List.{List, [], _∷_, _++_, append-nil}
+use lib.ListN.{length, getD, drop, drop-of-length-le}
+use lib.Seq.{sets, sets-eq}
 use lib.Dec.{eqb}
 use borrow.Author.Tests.{eq-eqb}
 use Rattle.records.specs.Finite.{occurs}
@@ -38,3 +40,9 @@ pub all-occurring : (P : ℕ → Type 0) (is : List ℕ) → ((i : ℕ) → occu
 unfolding occurs
 all-occurring P [] h = tt
 all-occurring P (i ∷ is) h = (h i (rw (eq-eqb i i refl)), all-occurring P is (λ j o. h j (rw o (or-true (eqb j i)))))
+
+pub sets-all : {A : Type 0} (new l : List A) → length l ≡ length new → sets l 0 new ≡ new
+sets-all {A} new l e =
+    sets-eq new l 0 (omega arith)
+    ∙ ap (λ (r : List A). new ++ r) (drop-of-length-le l {i = 0 + length new} (omega arith))
+    ∙ append-nil new

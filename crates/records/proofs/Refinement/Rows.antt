@@ -13,7 +13,7 @@ use mathlib.Core.Bool.{Bool, true, false, cond, not, _&&_, _||_, or-true, or-fal
 use mathlib.Core.List.{List}
 use lib.Dec.{eqb}
 use borrow.Author.Tests.{eq-eqb, ne-eqb, eqb-true}
-use Rattle.records.specs.Outcome.{Check, accepted, refused, pass, _then_, require}
+use Rattle.records.specs.Outcome.{Check, refused, pass, _then_, require}
 use Rattle.records.specs.Format.{recordAt}
 use Rattle.records.specs.Kinds.{sortsOf, Sorts}
 use Rattle.records.specs.Check.{sortFits, row, clear, rowFits, rowsCheck, linkFits, firstStatementCheck}
@@ -22,11 +22,7 @@ use Rattle.records.specs.declared.fields.Record.{Record}
 use Rattle.records.specs.declared.kinds.Sort.{Sort}
 use Rattle.records.specs.declared.kinds.Sort.the-variants.{Spare, Term, Role, Label, Link}
 use Rattle.records.proofs.Laws.Tests.{clash}
-use Rattle.records.proofs.Laws.Checks.{require-passed}
-
-then-pass : (a : Check) → (a then pass) ≡ a
-then-pass (accepted u) = refl
-then-pass (refused n p) = refl
+use Rattle.records.proofs.Laws.Checks.{then-pass, require-passed}
 
 -- Three faults, and the rows that they are free of.
 module _ (i a b c : ℕ) where

@@ -3,7 +3,8 @@
 --   Sized, length-passed                           what row 1 tells
 --   Parts, partsOf, Over, over-map                 a construct's class, its roles and its operands; what holds of each operand
 --   Operand, Linked, SortHolds, WellFounded, AcceptedFacts   what is told of a field, of a record, of a vocabulary
---   well-formed-vocabulary                         a vocabulary that passed rows 1 to 8 gives AcceptedFacts
+--   RowsPassed, well-formed-rows                   rows 1 to 8 one by one, of a vocabulary that passed them
+--   well-formed-vocabulary                         such a vocabulary gives AcceptedFacts
 --   accepted-well-formed                           one that the vocabulary check accepts passed them
 --   vocabulary-then   what comes after the vocabulary check
 --   accepted-vocabulary                            and so gives them
@@ -217,36 +218,52 @@ module _ (v : List ℕ) (i : ℕ) where
       let is : isStatement (recordAt v i .kind) ≡ true = statement-range (recordAt v i .kind) ∙ eq-eqb _ 9 q in
       linked (recordAt v i .next) (rw is at fit)
 
--- The theorem: a vocabulary that passed rows 1 to 8.
-pub well-formed-vocabulary : (v : List ℕ) → IsWellFormed v → AcceptedFacts v
+-- What passed, row by row.
+pub record RowsPassed (v : List ℕ) : Type 0 where
+  pub length : lengthCheck v ≡ pass
+  pub header : headerCheck v ≡ pass
+  pub each : (i : ℕ) → 0 < i → i < count v → recordCheck v i ≡ pass
+  pub first : firstStatementCheck v ≡ pass
+  pub links : (i : ℕ) → 0 < i → i < count v → linkCheck v i ≡ pass
+
+pub well-formed-rows : (v : List ℕ) → IsWellFormed v → RowsPassed v
 unfolding recordsCheck
-well-formed-vocabulary v e =
+well-formed-rows v e =
     let records = inTurn (recordCheck v) 1 (count v - 1) in
     let links = inTurn (linkCheck v) 1 (count v - 1) in
     let a = then-passed (lengthCheck v) (headerCheck v then records then linksCheck v) tt e in
     let b = then-passed (headerCheck v) (records then linksCheck v) tt (a .1) in
     let c = then-passed records (linksCheck v) tt (b .1) in
     let l = then-passed (firstStatementCheck v) links tt (c .1) in
+    record {
+      length = a .0;
+      header = b .0;
+      each = λ i p h. turn-at (recordCheck v) (count v - 1) 1 (c .0) i p (omega arith);
+      first = l .0;
+      links = λ i p h. turn-at (linkCheck v) (count v - 1) 1 (l .1) i p (omega arith);
+    }
+
+-- The theorem: a vocabulary that passed rows 1 to 8.
+pub well-formed-vocabulary : (v : List ℕ) → IsWellFormed v → AcceptedFacts v
+well-formed-vocabulary v e =
+    let passed = well-formed-rows v e in
     let r = recordAt v 0 in
-    let fit : headerFits r ≡ true = require-passed (headerFits r) 2 0 (b .0) in
+    let fit : headerFits r ≡ true = require-passed (headerFits r) 2 0 (passed .header) in
     let after = both-right (eqb (r .kind) 16) (eqb (r .second) 1 && (leb (r .b) roleLimit && eqb (r .next) 0)) fit in
     let roles = both-right (eqb (r .second) 1) (leb (r .b) roleLimit && eqb (r .next) 0) after in
-    let sized = length-passed v (a .0) in
-    let passed : (i : ℕ) → 0 < i → i < count v → recordCheck v i ≡ pass
-    = λ i p h. turn-at (recordCheck v) (count v - 1) 1 (c .0) i p (omega arith) in
     record {
-      sized = sized;
+      sized = length-passed v (passed .length);
       header = eqb-true (r .kind) 16
           (both-left (eqb (r .kind) 16) (eqb (r .second) 1 && (leb (r .b) roleLimit && eqb (r .next) 0)) fit);
       roles = leb-true (r .b) roleLimit (both-left (leb (r .b) roleLimit) (eqb (r .next) 0) roles);
-      fields = λ i p h. record-held v i (passed i p h);
+      fields = λ i p h. record-held v i (passed .each i p h);
       labels = λ i j p h q k same.
-          let clear = record-unlabelled v i (record-held v i (passed i (omega arith) h)) q in
+          let clear = record-unlabelled v i (record-held v i (passed .each i (omega arith) h)) q in
           let at = any-at (named v (recordAt v i .a)) i clear j p in
           let hit : named v (recordAt v i .a) j ≡ true = rw (eq-eqb _ 3 k, eq-eqb _ _ (sym same)) in
           clash (cc);
-      first = linked v 0 (firstStatement v) (require-passed (linkFits v 0 (firstStatement v)) 8 0 (l .0));
-      rises = λ i p h q. record-linked v i (turn-at (linkCheck v) (count v - 1) 1 (l .1) i p (omega arith)) q;
+      first = linked v 0 (firstStatement v) (require-passed (linkFits v 0 (firstStatement v)) 8 0 (passed .first));
+      rises = λ i p h q. record-linked v i (passed .links i p h) q;
     }
 
 -- What the vocabulary check accepts passed rows 1 to 8.

@@ -6,18 +6,21 @@
 --   Rising, follow-rises      each is after the one before
 --   follow-target             what is on the chain may be on it
 --   left, left-falls          a walk along the chain ends: what is left of it falls
+--   last-above                the last of a chain that is not empty comes after where it started
+--   follow-cong               chains whose links are the same
+--   Carried, follow-linked    a chain that was linked on at its end has one number more
 -- Assumes nothing.
 use Prim.Native.Nat.{ℕ, zero, suc, _+_, _-_, _≤_, _<_}
 use native.Mathlib.Omega.{arith}
-use mathlib.Core.Path.{_≡_, refl, sym, ap, subst}
+use mathlib.Core.Path.{_≡_, refl, sym, ap, subst, _∙_}
 use mathlib.Core.Bool.{Bool, true, false, _||_}
-use mathlib.Core.List.{List, [], _∷_}
+use mathlib.Core.List.{List, [], _∷_, _++_}
 use mathlib.Core.Logic.{_⊎_, inl, inr}
 use lib.ListN.{length}
 use lib.Dec.{eqb}
 use borrow.Author.Tests.{eqb-true}
 use Rattle.records.specs.Chain.{follow}
-use Rattle.records.specs.Finite.{occurs}
+use Rattle.records.specs.Finite.{occurs, lastOr}
 use Rattle.records.proofs.Laws.Tests.{clash}
 
 -- x comes after i, below n, and may be on the chain.
@@ -54,6 +57,11 @@ unfolding follow
 follow-few next zero i = omega arith
 follow-few next (suc n) zero = omega arith
 follow-few next (suc n) (suc i) = omega (arith, follow-few next n (next (suc i)))
+
+rising-last : (i : ℕ) (l : List ℕ) → Rising i l → i ≤ lastOr i l
+unfolding lastOr
+rising-last i [] r = omega arith
+rising-last i (x ∷ xs) r = omega (arith, r .0, rising-last x xs (r .1))
 
 module _ (Target : ℕ → Type 0) (n : ℕ) where
   pub left-falls : (i x : ℕ) → 0 < i → i < n → Onward Target n i x → left n x < left n i
@@ -128,3 +136,81 @@ module _ (next : ℕ → ℕ) (Target : ℕ → Type 0) (count : ℕ)
       at false q h r =
           let t = r h in
           record { later = omega (arith, s .later, t .later); within = t .within; target = t .target }
+
+  pub last-above : (n i x : ℕ) → Ahead Target count i x → 0 < n → i < lastOr i (follow next n x)
+  unfolding follow lastOr
+  last-above zero i x s h = absurd (omega arith)
+  last-above (suc n) i zero s h = absurd (omega (arith, s .later))
+  last-above (suc n) i (suc x) s h =
+      omega (
+        arith,
+        s .later,
+        rising-last (suc x) (follow next n (next (suc x)))
+            (follow-rises n (suc x) (next (suc x)) (next-onward i x s)),
+      )
+
+  module _ (other : ℕ → ℕ) where
+    pub follow-cong : ((j : ℕ) → 0 < j → j < count → Target j → other j ≡ next j) → (n i x : ℕ) → Onward Target count i x
+        → follow other n x ≡ follow next n x
+    unfolding follow
+    follow-cong same zero i x l = refl
+    follow-cong same (suc n) i x (inl e) = rw e
+    follow-cong same (suc n) i zero (inr s) = refl
+    follow-cong same (suc n) i (suc x) (inr s) =
+        ap (λ (l : List ℕ). suc x ∷ l)
+        (ap (follow other n) (same (suc x) (omega arith) (s .within) (s .target))
+        ∙ follow-cong same n (suc x) (next (suc x)) (next-onward i x s))
+
+  -- The link x is as it was, but that the end of the chain leads to a new number.
+  abbrev pub Carried : ℕ → ℕ → ℕ → Type 0
+  Carried new x y = ((x ≡ 0) × (y ≡ new)) ⊎ ((0 < x) × (y ≡ x))
+
+  module _ (other : ℕ → ℕ) (new end : ℕ) (positive : 0 < new) (ends : other new ≡ 0)
+      (kept : (j : ℕ) → 0 < j → j < count → Target j → (j ≡ end → ⊥) → other j ≡ next j)
+      (onto : 0 < end → other end ≡ new) where
+    -- the chain from the new number
+    alone : (n : ℕ) → follow other (suc n) new ≡ new ∷ []
+    unfolding follow
+    alone n = at new positive refl
+      where
+        at : (x : ℕ) → 0 < x → x ≡ new → follow other (suc n) x ≡ x ∷ []
+        at zero p e = absurd (omega arith)
+        at (suc x) p e =
+            ap (λ (l : List ℕ). suc x ∷ l) (ap (follow other n) (ap other e ∙ ends) ∙ follow-nil other n)
+
+    -- where the link after x leads
+    carried-next : (n i x : ℕ) → Ahead Target count i (suc x) → Enough (suc n) i (suc x)
+        → lastOr (suc x) (follow next n (next (suc x))) ≡ end → Carried new (next (suc x)) (other (suc x))
+    unfolding lastOr Enough
+    carried-next n i x s enough last = at (next-onward i x s)
+      where
+        at : Onward Target count (suc x) (next (suc x)) → Carried new (next (suc x)) (other (suc x))
+        at (inl e) =
+            let here : suc x ≡ end
+            = sym (ap (lastOr (suc x)) (ap (follow next n) e ∙ follow-nil next n)) ∙ last in
+            inl (e, ap other here ∙ onto (omega arith))
+        at (inr t) =
+            let above = last-above n (suc x) (next (suc x)) t (omega (arith, enough s, t .later, t .within)) in
+            inr (omega (arith, t .later), kept (suc x) (omega arith) (s .within) (s .target) (λ e. omega arith))
+
+    linked-steps : (n i d x y : ℕ) → Onward Target count i x → Enough n i x → lastOr d (follow next n x) ≡ end
+        → Carried new x y → follow other (suc n) y ≡ follow next n x ++ (new ∷ [])
+    unfolding follow lastOr Enough
+    linked-steps zero i d x y (inl e) enough last (inl c) = ap (follow other 1) (c .1) ∙ alone 0
+    linked-steps zero i d x y (inl e) enough last (inr c) = absurd (omega (arith, c .0))
+    linked-steps zero i d x y (inr s) enough last c = absurd (omega (arith, enough s, s .within))
+    linked-steps (suc n) i d x y (inl e) enough last (inl c) =
+        rw e (ap (follow other (suc (suc n))) (c .1) ∙ alone (suc n))
+    linked-steps (suc n) i d x y (inl e) enough last (inr c) = absurd (omega (arith, c .0))
+    linked-steps (suc n) i d zero y (inr s) enough last c = absurd (omega (arith, s .later))
+    linked-steps (suc n) i d (suc x) y (inr s) enough last (inl c) = absurd (omega (arith, c .0))
+    linked-steps (suc n) i d (suc x) y (inr s) enough last (inr c) =
+        ap (follow other (suc (suc n))) (c .1)
+        ∙ ap (λ (l : List ℕ). suc x ∷ l)
+        (linked-steps n (suc x) (suc x) (next (suc x)) (other (suc x)) (next-onward i x s)
+        (λ t. omega (arith, enough s, t .later)) last (carried-next n i x s enough last))
+
+    pub follow-linked : (x y : ℕ) → Onward Target count 0 x → lastOr 0 (follow next count x) ≡ end → Carried new x y
+        → follow other (suc count) y ≡ follow next count x ++ (new ∷ [])
+    unfolding Enough
+    follow-linked x y l last c = linked-steps count 0 0 x y l (λ t. omega arith) last c

@@ -9,8 +9,9 @@ use denote.Ref.{now}
 use Rattle.records.specs.Format.{count}
 use Rattle.records.specs.declared.fields.Record.{Record}
 use Rattle.records.proofs.Theorems.Accepted.{AcceptedFacts, Later, well-formed-vocabulary}
+use Rattle.records.proofs.Theorems.Chains.{linked-here, walk-falls}
 use Rattle.records.proofs.Theorems.Following.{left}
-use Rattle.records.proofs.chain.mark_chain.Proof.Marks.{Marking, start, standing, next, done, falls}
+use Rattle.records.proofs.chain.mark_chain.Proof.Marks.{Marking, start, next, done}
 use Rattle.records.proofs.chain.mark_chain.Statement.{statement}
 use Rattle.records.proofs.chain.mark_chain.Tie as tie
 
@@ -26,7 +27,7 @@ good c = well-formed-vocabulary (now (c .args .v)) (c .pre .0)
 -- the statement that the walk stands at
 here : (c : tie.In-loop Inv-loop μ-loop) → Later (now (c .before .before .before .before .before .args .v)) 0
     (c .before .loop .at)
-here c = standing _ (good (c .before .before .before .before .before)) _ _ (c .before .loop .inv) (c .loop-test .taken)
+here c = linked-here _ (good (c .before .before .before .before .before)) _ (c .before .loop .inv .linked) (c .loop-test .taken)
 
 read-at-requires : tie.Need-read-at-requires Inv-loop μ-loop
 read-at-requires c κs = omega (arith, good (c .before) .sized .least)
@@ -44,7 +45,7 @@ read-at-requires-2 c κs = omega (arith, here c .within)
 
 loop-less : tie.Need-loop-less Inv-loop μ-loop
 loop-less c =
-    falls _ (good (c .before .before .before .before .before .before .before)) _ _ (here (c .before .before))
+    walk-falls _ (good (c .before .before .before .before .before .before .before)) _ _ (here (c .before .before))
     (ap (λ (r : Record). r .next) (c .before .read-at2 .ensures))
 
 loop-again : tie.Need-loop-again Inv-loop μ-loop

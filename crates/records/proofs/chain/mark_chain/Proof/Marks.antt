@@ -6,7 +6,6 @@ use native.Mathlib.Decide.{ℕ-discrete}
 use mathlib.Core.Path.{_≡_, refl, sym, _∙_, ap, subst}
 use mathlib.Core.Bool.{Bool, true, false, _||_, or-true, or-false}
 use mathlib.Core.List.{List}
-use mathlib.Core.Logic.{inl, inr}
 use lib.ListN.{length, getD, set, length-set}
 use lib.Seq.{getD-set-same, getD-set-other}
 use lib.Dec.{eqb}
@@ -14,9 +13,9 @@ use borrow.Author.Tests.{eq-eqb, ne-eqb}
 use Rattle.records.specs.Format.{recordLimit, recordAt, count, firstStatement}
 use Rattle.records.specs.Chain.{nextStatement, chainFrom, chained}
 use Rattle.records.specs.Finite.{occurs}
-use Rattle.records.proofs.Theorems.Accepted.{AcceptedFacts, IsStatement, Later, Linked}
-use Rattle.records.proofs.Theorems.Chains.{chain-step}
-use Rattle.records.proofs.Theorems.Following.{follow-nil, left, left-falls, onward-from}
+use Rattle.records.proofs.Theorems.Accepted.{AcceptedFacts, Later, Linked}
+use Rattle.records.proofs.Theorems.Chains.{linked-next, chain-step}
+use Rattle.records.proofs.Theorems.Following.{follow-nil}
 
 pub record Marking (v : List ℕ) (marks : List Bool) (at : ℕ) : Type 0 where
   pub size : length marks ≡ recordLimit
@@ -33,23 +32,13 @@ module _ (v : List ℕ) (good : AcceptedFacts v) where
         marked = λ i. rw (none i, e);
       }
 
-  -- the statement that a walk stands at
-  pub standing : (marks : List Bool) (at : ℕ) → Marking v marks at → (at ≡ 0 → ⊥) → Later v 0 at
-  standing marks at m h = of (m .linked)
-    where
-      of : Linked v 0 at → Later v 0 at
-      of (inl e) = absurd (h e)
-      of (inr s) = s
-
   pub next : (marks : List Bool) (at x : ℕ) → Marking v marks at → Later v 0 at → x ≡ recordAt v at .next → Marking v
       (set marks at true) x
   unfolding occurs
   next marks at x m s e =
       record {
         size = length-set marks at true ∙ m .size;
-        linked = subst (Linked v 0) (sym e)
-            (onward-from (IsStatement v) (count v) 0 at (recordAt v at .next) (omega arith)
-            (good .rises at (s .later) (s .within) (s .target)));
+        linked = linked-next v good at x s e;
         marked = λ i. mark i (ℕ-discrete i at);
       }
     where
@@ -65,11 +54,6 @@ module _ (v : List ℕ) (good : AcceptedFacts v) where
           rw (q, getD-set-same marks at true false full)
           (sym (or-true (getD marks at false)) ∙ rw (eq-eqb at at refl) at (told at))
       mark i (no q) = rw (e, getD-set-other marks at i true false q) (rw (ne-eqb i at q) at (told i))
-
-  pub falls : (at x : ℕ) → Later v 0 at → x ≡ recordAt v at .next → left (count v) x < left (count v) at
-  falls at x s e =
-      left-falls (IsStatement v) (count v) at x (s .later) (s .within)
-      (subst (Linked v at) (sym e) (good .rises at (s .later) (s .within) (s .target)))
 
   pub done : (marks : List Bool) → Marking v marks 0 → (i : ℕ) → getD marks i false ≡ chained v i
   unfolding occurs

@@ -1,0 +1,2 @@
+-- What only the code computes with. No promise of a call speaks of it.
+pub mod Checks
