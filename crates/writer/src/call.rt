@@ -9,12 +9,12 @@ use records::fields::Record;
 use records::fields::write_word;
 use records::kinds::is_term;
 ghost use mathlib.Core.Path.{_≡_};
-ghost use Prim.Native.Nat.{_+_, _≤_};
+ghost use Prim.Native.Nat.{_+_, _/_, _≤_};
 ghost use lib.ListN.{length, take};
 ghost use Rattle.records.specs.Answers.{checked};
 ghost use Rattle.records.specs.Check.{IsWellFormed};
 ghost use Rattle.records.specs.Finite.{put};
-ghost use Rattle.records.specs.Format.{recordSize, recordBytes};
+ghost use Rattle.records.specs.Format.{recordSize, wordBytes, recordBytes};
 ghost use Rattle.writer.specs.Additions.{recordWith, linkPlace, term, statement};
 ghost use Rattle.writer.specs.Answers.{lengthened};
 ghost use Rattle.writer.specs.Calls.{making, adding, newLength, bufferAfter};
@@ -38,6 +38,18 @@ fn find_link(v: &[u8]) -> usize
         return Record::A_AT;
     }
     Record::SIZE * end + Record::NEXT_AT
+}
+
+// Links the record behind the bytes in use, a new statement, to the end of their chain.
+fn link_behind(buffer: &mut [u8], used: usize)
+    requires { ⌜ used ≤ length (now buffer) ⌝ }
+    requires { ⌜ IsWellFormed (take used (now buffer)) ⌝ }
+    ensures { λ _. ⌜ now (buffer .exit)
+        ≡ put (now (buffer .entry)) (linkPlace (take used (now (buffer .entry)))) (wordBytes (used / recordSize)) ⌝ }
+{
+    let link = find_link(&buffer[..used]);
+    let end = link + Record::WORD;
+    write_word(&mut buffer[link..end], (used / Record::SIZE) as u16);
 }
 
 // An empty vocabulary with so many roles: its length, or the refusal, which writes nothing.
@@ -103,9 +115,7 @@ pub fn add_statement(buffer: &mut [u8], used: usize, a: u16, b: u16) -> Lengthen
     let Checked::Fine = check else {
         return length_after(check, 0);
     };
-    let link = find_link(&buffer[..used]);
-    let end = link + Record::WORD;
-    write_word(&mut buffer[link..end], (used / Record::SIZE) as u16);
+    link_behind(buffer, used);
     write_record(buffer, used, f);
     Lengthened::Length(used + Record::SIZE)
 }

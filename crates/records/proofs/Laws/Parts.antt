@@ -1,17 +1,21 @@
 -- Lists of which a part was replaced, and records by their bytes.
 --   put-length, put-before, put-inside, put-behind   a list with others in the place of some of its entries
+--   put-take, put-drop                               its front, and what lies behind them
+--   pair-off, pair-word                              a list with a number's two bytes in the place of some
 --   word-bytes                                       a number is read from its bytes
 --   fieldsAt, record-bytes                           a record's fields, by the bytes of the vocabulary
 --   record-written                                   a record is read from its bytes
 -- Assumes nothing.
 use Prim.Native.Nat.{ℕ, _+_, _*_, _-_, _/_, _%_, _≤_, _<_}
 use native.Mathlib.Omega.{arith}
+use native.Mathlib.Decide.{decLt}
 use mathlib.Core.Path.{_≡_, refl, sym, ap, _∙_}
 use mathlib.Core.List.{List, [], _∷_, _++_}
 use lib.ListN.{length, getD, take, drop, length-append, length-drop, List·getD-append}
-use lib.Seq.{length-take-le, getD-take, getD-drop, getD-append-add}
+use lib.Seq.{length-take-le, getD-take, getD-drop, getD-append-add, drop-at, drop-drop, take-take, take-add, take-append-add}
+use lib.Seq.{drop-append-add}
 use Rattle.records.specs.Finite.{put}
-use Rattle.records.specs.Format.{recordSize, wordAt, recordOf, partAt, recordAt, recordBytes}
+use Rattle.records.specs.Format.{recordSize, wordAt, wordBytes, recordOf, partAt, recordAt, recordBytes}
 use Rattle.records.specs.declared.fields.Record.{Record}
 
 module _ {A : Type 0} (l : List A) (at : ℕ) (others : List A) (fits : at + length others ≤ length l) where
@@ -47,8 +51,49 @@ module _ {A : Type 0} (l : List A) (at : ℕ) (others : List A) (fits : at + len
       ∙ getD-drop (at + length others) l k d
       ∙ ap (λ (n : ℕ). getD l n d) there
 
+  pub put-drop : (n : ℕ) → at + length others ≤ n → drop n (put l at others) ≡ drop n l
+  put-drop n h =
+      let past = at + length others in
+      let m = n - past in
+      let here : n ≡ length (take at l) + (length others + m) = omega (arith, front) in
+      let there : past + m ≡ n = omega arith in
+      ap (λ (k : ℕ). drop k (put l at others)) here
+      ∙ drop-append-add (take at l) (others ++ drop past l) (length others + m)
+      ∙ drop-append-add others (drop past l) m
+      ∙ drop-drop m past l
+      ∙ ap (λ (k : ℕ). drop k l) there
+
+  pub put-take : (n : ℕ) → at + length others ≤ n → n ≤ length l → take n (put l at others) ≡ put (take n l) at others
+  put-take n h k =
+      let past = at + length others in
+      let m = n - past in
+      let here : n ≡ length (take at l) + (length others + m) = omega (arith, front) in
+      let there : n ≡ past + m = omega arith in
+      let behind : drop past (take n l) ≡ take m (drop past l)
+      = ap (λ (i : ℕ). drop past (take i l)) there
+      ∙ ap (drop past) (take-add past m l)
+      ∙ drop-at (take past l) (take m (drop past l)) past (length-take-le past l (omega arith)) in
+      ap (λ (i : ℕ). take i (put l at others)) here
+      ∙ take-append-add (take at l) (others ++ drop past l) (length others + m)
+      ∙ rw (take-append-add others (drop past l) m, take-take at n l (omega arith), behind)
+
 pub word-bytes : (x : ℕ) → x % 256 + 256 * (x / 256) ≡ x
 word-bytes x = omega arith
+
+-- A number's two bytes in the place of some.
+module _ (l : List ℕ) (at x : ℕ) (fits : at + 2 ≤ length l) where
+  pub pair-off : (i : ℕ) → (i ≡ at → ⊥) → (i ≡ at + 1 → ⊥) → getD (put l at (wordBytes x)) i 0 ≡ getD l i 0
+  pair-off i n m = of (decLt i at)
+    where
+      of : Dec (i < at) → getD (put l at (wordBytes x)) i 0 ≡ getD l i 0
+      of (yes h) = put-before l at (wordBytes x) fits 0 i h
+      of (no h) = put-behind l at (wordBytes x) fits 0 i (omega arith)
+
+  pub pair-word : wordAt (put l at (wordBytes x)) at ≡ x
+  pair-word =
+      let first : at + 0 ≡ at = omega arith in
+      rw (rw first at (put-inside l at (wordBytes x) fits 0 0 (omega arith)), put-inside l at (wordBytes x) fits 0 1 (omega arith))
+      (word-bytes x)
 
 -- The fields that the bytes from `at` on hold.
 abbrev pub fieldsAt : List ℕ → ℕ → Record
@@ -66,9 +111,9 @@ unfolding recordAt
 record-bytes v i =
     let byte : (k n : ℕ) → k < recordSize → n ≡ recordSize * i + k → getD (partAt v i) k 0 ≡ getD v n 0
     = λ k n h e.
-        getD-take recordSize (drop (recordSize * i) v) k 0 h
-        ∙ getD-drop (recordSize * i) v k 0
-        ∙ ap (λ (m : ℕ). getD v m 0) (sym e) in
+    getD-take recordSize (drop (recordSize * i) v) k 0 h
+    ∙ getD-drop (recordSize * i) v k 0
+    ∙ ap (λ (m : ℕ). getD v m 0) (sym e) in
     rw (
       byte 0 (recordSize * i) (omega arith) (omega arith),
       byte 1 (recordSize * i + 1) (omega arith) (omega arith),

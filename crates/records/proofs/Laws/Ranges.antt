@@ -3,6 +3,7 @@
 --   kind-past, kind-tested             past the table there is no kind; a test that holds along the table
 --   term-range, atom-range, ..         which kinds are terms, atoms, names, restrictions, statements
 --   restriction-kind, statement-kind   a restriction is of kind 7 or 8, a statement of kind 9
+--   term-no-statement                  no term is a statement
 --   key-same                           a key made of kind and A
 -- Assumes nothing.
 use Prim.Native.Nat.{ℕ, zero, suc, _+_, _*_, _<_, _≤_}
@@ -15,7 +16,8 @@ use mathlib.Core.Logic.{_⊎_, inl, inr}
 use lib.ListN.{length, getD, List·getD-eq-default}
 use lib.Dec.{leb, eqb}
 use borrow.Author.Tests.{eq-eqb, ne-eqb, lt-leb, leb-true, eqb-true}
-use Rattle.records.specs.Kinds.{Class, Silent, areTerms, areAtoms, areNames, areRestrictions, areStatements, Kind}
+use Rattle.records.specs.Kinds.{Class, Silent, Connective, Name, Restriction, Statement, areTerms, areAtoms, areNames}
+use Rattle.records.specs.Kinds.{areRestrictions, areStatements, Kind}
 use Rattle.records.specs.Kinds.{noKind, kinds, kindOf, isTerm, isAtom, isName, isRestriction, isStatement}
 use Rattle.records.proofs.Laws.Tests.{clash, both-left, both-right}
 
@@ -101,6 +103,16 @@ name-range = class-range areNames (λ k. eqb k 3) refl refl (λ k h. ne-eqb k 3 
 
 pub statement-range : (k : ℕ) → isStatement k ≡ eqb k 9
 statement-range = class-range areStatements (λ k. eqb k 9) refl refl (λ k h. ne-eqb k 9 (λ e. omega arith))
+
+pub term-no-statement : (k : ℕ) → isTerm k ≡ true → isStatement k ≡ false
+term-no-statement k = at (kindOf k .class)
+  where
+    at : (c : Class) → areTerms c ≡ true → areStatements c ≡ false
+    at Silent e = refl
+    at Connective e = refl
+    at Name e = refl
+    at Restriction e = refl
+    at Statement e = absurd (clash (cc))
 
 pub statement-kind : (k : ℕ) → isStatement k ≡ true → k ≡ 9
 statement-kind k e = eqb-true k 9 (sym (statement-range k) ∙ e)

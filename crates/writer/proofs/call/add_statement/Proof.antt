@@ -1,115 +1,85 @@
+-- `writer::call::add_statement` meets its contract. A refusal leaves the buffer; else the link is written, and the record behind
+-- the bytes in use.
+-- Assumes nothing.
+use native.Mathlib.Omega.{arith}
+use mathlib.Core.Bool.{true}
+use mathlib.Core.Path.{_≡_, ap, _∙_}
+use denote.Ref.{now}
 use borrow.Author.Needs.{needs}
+use Rattle.records.specs.Answers.{checked}
+use Rattle.records.specs.Format.{recordBytes}
+use Rattle.records.specs.declared.fields.Record.{Record}
+use Rattle.records.specs.Finite.{put}
+use Rattle.writer.specs.Additions.{recordWith}
+use Rattle.writer.specs.Additions as additions
+use Rattle.writer.specs.Code.Checks.{additionCheck}
+use Rattle.writer.proofs.Refinement.Calls.{refused-answers, statement-answers, linked-length}
+use Rattle.writer.proofs.Theorems.Outcomes.{Fit, adding-refused, adding-fine, fine-fit, fit-small}
 use Rattle.writer.proofs.call.add_statement.Statement.{statement}
 use Rattle.writer.proofs.call.add_statement.Tie as tie
-use Rattle.writer.proofs.call.add_statement.Reads as reads
-use Rattle.writer.proofs.call.add_statement.Lts as lts
-use Rattle.records.proofs.fields.write_word.Reads as write-word-reads
-use Rattle.writer.proofs.answers.length_after.Reads as length-after-reads
-use Rattle.writer.proofs.call.fields_of.Reads as fields-of-reads
-use Rattle.writer.proofs.call.find_link.Reads as find-link-reads
-use Rattle.writer.proofs.call.write_record.Reads as write-record-reads
-use Rattle.writer.proofs.check.check_addition.Reads as check-addition-reads
 
--- src/call.rt:101:9
-fields-of-requires : tie.Need-fields-of-requires
-fields-of-requires c κs = search needs
+abbrev start : tie.After-check-addition → tie.Start
+start c = c .before .before .before .before
 
--- src/call.rt:102:9
-check-addition-requires : tie.Need-check-addition-requires
-check-addition-requires c κs = search needs
+-- the checks are those of the statement
+asked : (c : tie.After-check-addition) → let a = start c .args in
+    checked (c .check-addition .result) ≡ additionCheck (now (a .buffer)) (a .used) true (recordWith 9 (a .a) (a .b))
+asked c =
+    let a = start c .args in
+    c .check-addition .ensures
+    ∙ ap (λ (r : Record). additionCheck (now (a .buffer)) (a .used) true r) (c .before .before .fields-of .ensures)
 
-enum-told : tie.Need-enum-told
-enum-told c = search needs
-
--- src/call.rt:104:9
-enum-told-2 : tie.Need-enum-told-2
-enum-told-2 c = search needs
-
--- src/call.rt:104:9
-length-after-requires : tie.Need-length-after-requires
-length-after-requires c κs = search needs
-
--- src/call.rt:104:9
-same-length : tie.Need-same-length
-same-length c = search needs
-
--- src/call.rt:104:9
 returns : tie.Need-returns
-returns c = ?
+returns c =
+    let k = c .before .before .before in
+    let a = start k .args in
+    refused-answers _ (now (a .buffer)) _ _ _ _ _ (c .length-after .ensures) (c .before .enum-told2 .given .1)
+    (adding-refused (now (a .buffer)) (a .used) (additions.statement (a .a) (a .b)) _ (asked k) _ _
+    (c .before .enum-told2 .given .1))
 
--- src/call.rt:106:26
-slice-reshare-prefix-find-link : tie.Need-slice-reshare-prefix-find-link
-slice-reshare-prefix-find-link c = ?
+-- what the passed checks tell
+fit : (c : tie.After-enum-told) → let a = start (c .before .before) .args in Fit (now (a .buffer)) (a .used)
+fit c =
+    let k = c .before .before in
+    let a = start k .args in
+    fine-fit (now (a .buffer)) (a .used) (additions.statement (a .a) (a .b)) _ (asked k) (c .enum-told .given .1)
 
--- src/call.rt:106:26
-slice-aggregate-find-link : tie.Need-slice-aggregate-find-link
-slice-aggregate-find-link c = ?
+link-behind-requires : tie.Need-link-behind-requires
+link-behind-requires c κs = let f = fit (c .before) in (f .within, f .well)
 
--- src/call.rt:106:9
-find-link-requires : tie.Need-find-link-requires
-find-link-requires c κs = ?
-
--- src/call.rt:107:15
-add-end : tie.Need-add-end
-add-end c = ?
-
--- src/call.rt:108:16
-sub-write-word : tie.Need-sub-write-word
-sub-write-word c = search needs
-
--- src/call.rt:108:16
-part-write-word-start : tie.Need-part-write-word-start
-part-write-word-start c = search needs
-
--- src/call.rt:108:16
-part-write-word-end : tie.Need-part-write-word-end
-part-write-word-end c = ?
-
--- src/call.rt:108:40
-cast-write-word : tie.Need-cast-write-word
-cast-write-word c = ?
-
--- src/call.rt:108:5
-write-word-requires : tie.Need-write-word-requires
-write-word-requires c κs = search needs
-
--- src/call.rt:109:5
 write-record-requires : tie.Need-write-record-requires
-write-record-requires c κs = ?
+write-record-requires c κs =
+    let l = c .before .before .before in
+    let told = l .before .before in
+    let a = start (told .before .before) .args in
+    omega (
+      arith,
+      fit told .room,
+      linked-length (now (a .buffer)) (a .used) (fit told) (l .link-behind .last .0) (l .link-behind .ensures),
+    )
 
--- src/call.rt:110:24
-add-t15 : tie.Need-add-t15
-add-t15 c = ?
+add-t14 : tie.Need-add-t14
+add-t14 c =
+    let told = c .before .before .before .before .before .before .before .before in
+    let a = start (told .before .before) .args in
+    omega (arith, fit-small (now (a .buffer)) (a .used) (fit told))
 
--- src/call.rt:96:1
-same-length-2 : tie.Need-same-length-2
-same-length-2 c = search needs
-
--- src/call.rt:96:1
 returns-2 : tie.Need-returns-2
-returns-2 c = ?
+returns-2 c =
+    let w = c .before .before in
+    let l = w .before .before .before .before in
+    let told = l .before .before in
+    let k = told .before .before in
+    let a = start k .args in
+    statement-answers (now (a .buffer)) (a .used) (fit told) (a .a) (a .b) (l .link-behind .last .0) _
+    (adding-fine (now (a .buffer)) (a .used) (additions.statement (a .a) (a .b)) _ (asked k) (told .enum-told .given .1))
+    (l .link-behind .ensures)
+    (w .write-record .ensures
+    ∙ ap (λ (r : Record). put (l .link-behind .last .0) (a .used) (recordBytes r)) (k .before .before .fields-of .ensures))
 
 pub add-statement-spec : {M : Type 1} → statement M
 add-statement-spec =
     tie.close
-    (tie.spec
-    fields-of-requires
-    check-addition-requires
-    enum-told
-    enum-told-2
-    length-after-requires
-    same-length
-    returns
-    slice-reshare-prefix-find-link
-    slice-aggregate-find-link
-    find-link-requires
-    add-end
-    sub-write-word
-    part-write-word-start
-    part-write-word-end
-    cast-write-word
-    write-word-requires
-    write-record-requires
-    add-t15
-    same-length-2
-    returns-2)
+    (tie.spec (λ c κs. search needs) (λ c κs. search needs) (λ c. search needs) (λ c. search needs)
+    (λ c κs. search needs) (λ c. search needs) returns link-behind-requires write-record-requires add-t14
+    (λ c. search needs) returns-2)

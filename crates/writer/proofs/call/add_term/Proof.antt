@@ -1,74 +1,73 @@
+-- `writer::call::add_term` meets its contract. A refusal leaves the buffer; else the record is written behind the bytes in use.
+-- Assumes nothing.
+use native.Mathlib.Omega.{arith}
+use mathlib.Core.Bool.{Bool}
+use mathlib.Core.Path.{_≡_, ap, _∙_}
+use denote.Ref.{now}
 use borrow.Author.Needs.{needs}
+use Rattle.records.specs.Answers.{checked}
+use Rattle.records.specs.Format.{recordBytes}
+use Rattle.records.specs.Kinds.{isTerm}
+use Rattle.records.specs.declared.fields.Record.{Record}
+use Rattle.records.specs.Finite.{put}
+use Rattle.writer.specs.Additions.{term, recordWith}
+use Rattle.writer.specs.Code.Checks.{additionCheck}
+use Rattle.writer.proofs.Refinement.Calls.{refused-answers, term-answers}
+use Rattle.writer.proofs.Theorems.Outcomes.{Fit, adding-refused, adding-fine, fine-fit, fit-small}
 use Rattle.writer.proofs.call.add_term.Statement.{statement}
 use Rattle.writer.proofs.call.add_term.Tie as tie
-use Rattle.writer.proofs.call.add_term.Reads as reads
-use Rattle.writer.proofs.call.add_term.Lts as lts
-use Rattle.records.proofs.kinds.is_term.Reads as is-term-reads
-use Rattle.writer.proofs.answers.length_after.Reads as length-after-reads
-use Rattle.writer.proofs.call.fields_of.Reads as fields-of-reads
-use Rattle.writer.proofs.call.write_record.Reads as write-record-reads
-use Rattle.writer.proofs.check.check_addition.Reads as check-addition-reads
 
--- src/call.rt:86:9
-fields-of-requires : tie.Need-fields-of-requires
-fields-of-requires c κs = search needs
+abbrev start : tie.After-check-addition → tie.Start
+start c = c .before .before .before .before .before
 
--- src/call.rt:87:46
-is-term-requires : tie.Need-is-term-requires
-is-term-requires c κs = search needs
+-- the checks are those of the term
+asked : (c : tie.After-check-addition) → let a = start c .args in
+    checked (c .check-addition .result)
+    ≡ additionCheck (now (a .buffer)) (a .used) (isTerm (a .kind)) (recordWith (a .kind) (a .a) (a .b))
+asked c =
+    let a = start c .args in
+    c .check-addition .ensures
+    ∙ ap (λ (b : Bool). additionCheck (now (a .buffer)) (a .used) b (c .before .before .before .fields-of .result))
+    (c .before .is-term .ensures)
+    ∙ ap (λ (r : Record). additionCheck (now (a .buffer)) (a .used) (isTerm (a .kind)) r)
+    (c .before .before .before .fields-of .ensures)
 
--- src/call.rt:87:9
-check-addition-requires : tie.Need-check-addition-requires
-check-addition-requires c κs = search needs
-
-enum-told : tie.Need-enum-told
-enum-told c = search needs
-
--- src/call.rt:89:9
-enum-told-2 : tie.Need-enum-told-2
-enum-told-2 c = search needs
-
--- src/call.rt:89:9
-length-after-requires : tie.Need-length-after-requires
-length-after-requires c κs = search needs
-
--- src/call.rt:89:9
-same-length : tie.Need-same-length
-same-length c = search needs
-
--- src/call.rt:89:9
 returns : tie.Need-returns
-returns c = ?
+returns c =
+    let k = c .before .before .before in
+    let a = start k .args in
+    refused-answers _ (now (a .buffer)) _ _ _ _ _ (c .length-after .ensures) (c .before .enum-told2 .given .1)
+    (adding-refused (now (a .buffer)) (a .used) (term (a .kind) (a .a) (a .b)) _ (asked k) _ _ (c .before .enum-told2 .given .1))
 
--- src/call.rt:91:5
+-- what the passed checks tell
+fit : (c : tie.After-enum-told) → let a = start (c .before .before) .args in Fit (now (a .buffer)) (a .used)
+fit c =
+    let k = c .before .before in
+    let a = start k .args in
+    fine-fit (now (a .buffer)) (a .used) (term (a .kind) (a .a) (a .b)) _ (asked k) (c .enum-told .given .1)
+
 write-record-requires : tie.Need-write-record-requires
-write-record-requires c κs = ?
+write-record-requires c κs = fit (c .before) .room
 
--- src/call.rt:92:24
 add-t14 : tie.Need-add-t14
-add-t14 c = ?
+add-t14 c =
+    let told = c .before .before .before .before in
+    let a = start (told .before .before) .args in
+    omega (arith, fit-small (now (a .buffer)) (a .used) (fit told))
 
--- src/call.rt:81:1
-same-length-2 : tie.Need-same-length-2
-same-length-2 c = search needs
-
--- src/call.rt:81:1
 returns-2 : tie.Need-returns-2
-returns-2 c = ?
+returns-2 c =
+    let w = c .before .before in
+    let told = w .before .before in
+    let k = told .before .before in
+    let a = start k .args in
+    term-answers (now (a .buffer)) (a .used) (fit told) (a .kind) (a .a) (a .b) _
+    (adding-fine (now (a .buffer)) (a .used) (term (a .kind) (a .a) (a .b)) _ (asked k) (told .enum-told .given .1))
+    (w .write-record .ensures
+    ∙ ap (λ (r : Record). put (now (a .buffer)) (a .used) (recordBytes r)) (k .before .before .before .fields-of .ensures))
 
 pub add-term-spec : {M : Type 1} → statement M
 add-term-spec =
     tie.close
-    (tie.spec
-    fields-of-requires
-    is-term-requires
-    check-addition-requires
-    enum-told
-    enum-told-2
-    length-after-requires
-    same-length
-    returns
-    write-record-requires
-    add-t14
-    same-length-2
-    returns-2)
+    (tie.spec (λ c κs. search needs) (λ c κs. search needs) (λ c κs. search needs) (λ c. search needs) (λ c. search needs)
+    (λ c κs. search needs) (λ c. search needs) returns write-record-requires add-t14 (λ c. search needs) returns-2)

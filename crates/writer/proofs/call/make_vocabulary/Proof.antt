@@ -1,86 +1,57 @@
+-- `writer::call::make_vocabulary` meets its contract. A refusal leaves the buffer; else the header is written.
+-- Assumes nothing.
+use native.Mathlib.Omega.{arith}
+use denote.Ref.{now}
 use borrow.Author.Needs.{needs}
+use Rattle.writer.proofs.Refinement.Calls.{refused-answers, making-first, making-second, making-fine, making-answers}
+use Rattle.writer.proofs.Refinement.Calls.{roomy, few-roles}
 use Rattle.writer.proofs.call.make_vocabulary.Statement.{statement}
 use Rattle.writer.proofs.call.make_vocabulary.Tie as tie
-use Rattle.writer.proofs.call.make_vocabulary.Reads as reads
-use Rattle.writer.proofs.call.make_vocabulary.Lts as lts
-use Rattle.records.proofs.answers.pass_if.Reads as pass-if-reads
-use Rattle.writer.proofs.answers.length_after.Reads as length-after-reads
-use Rattle.writer.proofs.call.write_record.Reads as write-record-reads
 
--- src/call.rt:48:9
-pass-if-requires : tie.Need-pass-if-requires
-pass-if-requires c κs = search needs
-
-enum-told : tie.Need-enum-told
-enum-told c = search needs
-
--- src/call.rt:50:9
-enum-told-2 : tie.Need-enum-told-2
-enum-told-2 c = search needs
-
--- src/call.rt:50:9
-length-after-requires : tie.Need-length-after-requires
-length-after-requires c κs = search needs
-
--- src/call.rt:50:9
 returns : tie.Need-returns
-returns c = ?
+returns c =
+    let k = c .before .before .before in
+    let a = k .before .before .args in
+    refused-answers _ (now (a .buffer)) _ _ _ _ _ (c .length-after .ensures) (c .before .enum-told2 .given .1)
+    (making-first (now (a .buffer)) (a .roles) _ _ _ (k .pass-if .ensures) (c .before .enum-told2 .given .1))
 
--- src/call.rt:52:32
-cast-pass-if : tie.Need-cast-pass-if
-cast-pass-if c = search needs
-
--- src/call.rt:52:9
-pass-if-requires-2 : tie.Need-pass-if-requires-2
-pass-if-requires-2 c κs = search needs
-
-enum-told-3 : tie.Need-enum-told-3
-enum-told-3 c = search needs
-
--- src/call.rt:54:9
-enum-told-4 : tie.Need-enum-told-4
-enum-told-4 c = search needs
-
--- src/call.rt:54:9
-length-after-requires-2 : tie.Need-length-after-requires-2
-length-after-requires-2 c κs = search needs
-
--- src/call.rt:54:9
 returns-2 : tie.Need-returns-2
-returns-2 c = ?
+returns-2 c =
+    let j = c .before .before .before in
+    let k = j .before .before .before in
+    let a = k .before .before .args in
+    refused-answers _ (now (a .buffer)) _ _ _ _ _ (c .length-after2 .ensures) (c .before .enum-told4 .given .1)
+    (making-second (now (a .buffer)) (a .roles) _ _ _ _ (k .pass-if .ensures) (j .before .enum-told .given .1)
+    (j .pass-if2 .ensures) (c .before .enum-told4 .given .1))
 
--- src/call.rt:60:12
 cast-t9 : tie.Need-cast-t9
-cast-t9 c = ?
+cast-t9 c =
+    let j = c .before .before in
+    let a = j .before .before .before .before .before .args in
+    omega (arith, few-roles (now (a .buffer)) (a .roles) _ (j .pass-if2 .ensures) (c .enum-told3 .given .1))
 
--- src/call.rt:63:5
 write-record-requires : tie.Need-write-record-requires
-write-record-requires c κs = ?
+write-record-requires c κs =
+    let j = c .before .before .before in
+    let k = j .before .before .before in
+    let a = k .before .before .args in
+    roomy (now (a .buffer)) (a .roles) _ (k .pass-if .ensures) (j .before .enum-told .given .1)
 
--- src/call.rt:44:1
-same-length : tie.Need-same-length
-same-length c = search needs
-
--- src/call.rt:44:1
 returns-3 : tie.Need-returns-3
-returns-3 c = ?
+returns-3 c =
+    let w = c .before .before in
+    let told = w .before .before in
+    let j = told .before .before in
+    let k = j .before .before .before in
+    let a = k .before .before .args in
+    making-answers (now (a .buffer)) (a .roles) _
+    (making-fine (now (a .buffer)) (a .roles) _ _ (k .pass-if .ensures) (j .before .enum-told .given .1)
+    (j .pass-if2 .ensures) (told .enum-told3 .given .1))
+    (w .write-record .ensures)
 
 pub make-vocabulary-spec : {M : Type 1} → statement M
 make-vocabulary-spec =
     tie.close
-    (tie.spec
-    pass-if-requires
-    enum-told
-    enum-told-2
-    length-after-requires
-    returns
-    cast-pass-if
-    pass-if-requires-2
-    enum-told-3
-    enum-told-4
-    length-after-requires-2
-    returns-2
-    cast-t9
-    write-record-requires
-    same-length
-    returns-3)
+    (tie.spec (λ c κs. search needs) (λ c. search needs) (λ c. search needs) (λ c κs. search needs) returns
+    (λ c. search needs) (λ c κs. search needs) (λ c. search needs) (λ c. search needs) (λ c κs. search needs) returns-2
+    cast-t9 write-record-requires (λ c. search needs) returns-3)

@@ -1,46 +1,48 @@
+-- `writer::check::check_addition` meets its contract. The other checks are made where the length is within the buffer.
+-- Assumes nothing.
+use native.Mathlib.Omega.{arith}
+use Prim.Native.Nat.{_≤_}
+use mathlib.Core.Path.{_≡_, sym}
+use lib.ListN.{length}
+use lib.Dec.{leb}
 use borrow.Author.Needs.{needs}
+use borrow.Author.Tests.{leb-true}
+use denote.Ref.{now}
+use Rattle.records.proofs.Laws.Checks.{then-refused, then-fine, checked-fine, require-passed}
+use Rattle.writer.specs.Code.Checks.{additionCheck}
+use Rattle.writer.proofs.Refinement.Buffer.{use-length}
 use Rattle.writer.proofs.check.check_addition.Statement.{statement}
 use Rattle.writer.proofs.check.check_addition.Tie as tie
-use Rattle.writer.proofs.check.check_addition.Reads as reads
-use Rattle.writer.proofs.check.check_addition.Lts as lts
-use Rattle.records.proofs.answers.pass_if.Reads as pass-if-reads
-use Rattle.writer.proofs.check.check_new_record.Reads as check-new-record-reads
 
--- src/check.rt:63:9
-pass-if-requires : tie.Need-pass-if-requires
-pass-if-requires c κs = search needs
-
-enum-told : tie.Need-enum-told
-enum-told c = search needs
-
--- src/check.rt:65:9
-enum-told-2 : tie.Need-enum-told-2
-enum-told-2 c = search needs
-
--- src/check.rt:65:9
 returns : tie.Need-returns
-returns c = ?
+unfolding additionCheck
+returns c = then-refused _ _ _ _ _ (c .before .before .pass-if .ensures) (c .enum-told2 .given .1)
 
--- src/check.rt:67:22
+-- the length is within the buffer
+within : (c : tie.After-enum-told) → let a = c .before .before .before .before .args in a .used ≤ length (now (a .buffer))
+within c =
+    let a = c .before .before .before .before .args in
+    leb-true _ _ (require-passed (leb (a .used) (length (now (a .buffer)))) 1 0
+    (checked-fine _ _ (c .before .before .pass-if .ensures) (c .enum-told .given .1)))
+
 slice-aggregate-check-new-record : tie.Need-slice-aggregate-check-new-record
-slice-aggregate-check-new-record c = ?
+slice-aggregate-check-new-record c =
+    let a = c .before .before .before .before .before .args in
+    sym (use-length (now (a .buffer)) (a .used) (within (c .before)))
 
--- src/check.rt:67:5
 check-new-record-requires : tie.Need-check-new-record-requires
-check-new-record-requires c κs = ?
+check-new-record-requires c κs =
+    let a = c .before .before .before .before .before .args in
+    omega (arith, within (c .before), use-length (now (a .buffer)) (a .used) (within (c .before)))
 
--- src/check.rt:60:1
 returns-2 : tie.Need-returns-2
-returns-2 c = ?
+unfolding additionCheck
+returns-2 c =
+    then-fine _ _ _ _ (c .before .before .before .before .pass-if .ensures) (c .before .before .enum-told .given .1)
+    (c .check-new-record .ensures)
 
 pub check-addition-spec : {M : Type 1} → statement M
 check-addition-spec =
     tie.close
-    (tie.spec
-    pass-if-requires
-    enum-told
-    enum-told-2
-    returns
-    slice-aggregate-check-new-record
-    check-new-record-requires
-    returns-2)
+    (tie.spec (λ c κs. search needs) (λ c. search needs) (λ c. search needs) returns slice-aggregate-check-new-record
+    check-new-record-requires returns-2)

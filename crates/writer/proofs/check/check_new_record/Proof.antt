@@ -1,67 +1,55 @@
+-- `writer::check::check_new_record` meets its contract. Rows 1 to 8 and 27 come first; then the new record is checked.
+-- Assumes nothing.
+use native.Mathlib.Omega.{arith}
+use mathlib.Core.Path.{_∙_, ap}
+use denote.Ref.{now}
 use borrow.Author.Needs.{needs}
+use Rattle.records.specs.declared.fields.Record.{Record}
+use Rattle.records.proofs.Laws.Checks.{then-refused, then-fine, checked-fine}
+use Rattle.records.proofs.Theorems.Accepted.{AcceptedFacts}
+use Rattle.writer.proofs.Refinement.Checks.{new-record-split, room-passed}
 use Rattle.writer.proofs.check.check_new_record.Statement.{statement}
 use Rattle.writer.proofs.check.check_new_record.Tie as tie
-use Rattle.writer.proofs.check.check_new_record.Reads as reads
-use Rattle.writer.proofs.check.check_new_record.Lts as lts
-use Rattle.records.proofs.answers.pass_if.Reads as pass-if-reads
-use Rattle.records.proofs.check_fields.Reads as check-fields-reads
-use Rattle.records.proofs.fields.read_at.Reads as read-at-reads
-use Rattle.writer.proofs.check.check_room.Reads as check-room-reads
 
--- src/check.rt:47:9
-check-room-requires : tie.Need-check-room-requires
-check-room-requires c κs = search needs
-
-enum-told : tie.Need-enum-told
-enum-told c = search needs
-
--- src/check.rt:49:9
-enum-told-2 : tie.Need-enum-told-2
-enum-told-2 c = search needs
-
--- src/check.rt:49:9
 returns : tie.Need-returns
-returns c = ?
+returns c =
+    let a = c .before .before .before .before .args in
+    then-refused _ _ _ _ _ (c .before .before .check-room .ensures) (c .enum-told2 .given .1)
+    ∙ new-record-split (now (a .v)) (a .size) (a .addable) (a .f)
 
--- src/check.rt:52:9
-pass-if-requires : tie.Need-pass-if-requires
-pass-if-requires c κs = search needs
-
-enum-told-3 : tie.Need-enum-told-3
-enum-told-3 c = search needs
-
--- src/check.rt:54:9
-enum-told-4 : tie.Need-enum-told-4
-enum-told-4 c = search needs
-
--- src/check.rt:54:9
 returns-2 : tie.Need-returns-2
-returns-2 c = ?
+returns-2 c =
+    let a = c .before .before .before .before .before .before .before .args in
+    then-fine _ _ _ _ (c .before .before .before .before .before .check-room .ensures)
+    (c .before .before .before .enum-told .given .1)
+    (then-refused _ _ _ _ _ (c .before .before .pass-if .ensures) (c .enum-told4 .given .1))
+    ∙ new-record-split (now (a .v)) (a .size) (a .addable) (a .f)
 
--- src/check.rt:56:33
+-- the vocabulary, where its rows passed
+good : (c : tie.After-enum-told3) → AcceptedFacts (now (c .before .before .before .before .before .before .before .args .v))
+good c =
+    let room = c .before .before .before .before .before in
+    let a = room .before .before .args in
+    room-passed (now (a .v)) (a .size) (checked-fine _ _ (room .check-room .ensures)
+    (c .before .before .before .enum-told .given .1))
+
 read-at-requires : tie.Need-read-at-requires
-read-at-requires c κs = ?
+read-at-requires c κs = omega (arith, good c .sized .least)
 
--- src/check.rt:56:5
 check-fields-requires : tie.Need-check-fields-requires
-check-fields-requires c κs = ?
+check-fields-requires c κs = record { earlier = omega arith; counted = ap (λ (r : Record). r .b) (c .read-at .ensures) }
 
--- src/check.rt:43:1
 returns-3 : tie.Need-returns-3
-returns-3 c = ?
+returns-3 c =
+    let d = c .before .before in
+    let a = d .before .before .before .before .before .before .before .args in
+    then-fine _ _ _ _ (d .before .before .before .before .before .check-room .ensures)
+    (d .before .before .before .enum-told .given .1)
+    (then-fine _ _ _ _ (d .before .before .pass-if .ensures) (d .enum-told3 .given .1) (c .check-fields .ensures))
+    ∙ new-record-split (now (a .v)) (a .size) (a .addable) (a .f)
 
 pub check-new-record-spec : {M : Type 1} → statement M
 check-new-record-spec =
     tie.close
-    (tie.spec
-    check-room-requires
-    enum-told
-    enum-told-2
-    returns
-    pass-if-requires
-    enum-told-3
-    enum-told-4
-    returns-2
-    read-at-requires
-    check-fields-requires
-    returns-3)
+    (tie.spec (λ c κs. search needs) (λ c. search needs) (λ c. search needs) returns (λ c κs. search needs)
+    (λ c. search needs) (λ c. search needs) returns-2 read-at-requires check-fields-requires returns-3)

@@ -1,0 +1,238 @@
+-- The bytes in use with an addition: a vocabulary with one record more, and the link that reaches it.
+--   relinked-length, grown-length   how many bytes they are
+--   end-small, link-within          the link stands in the bytes in use
+--   byte-kept, link-written         which bytes stay, and what the link says
+--   grown-grows                     they grow as `records` says
+-- Assumes nothing.
+use Prim.Native.Nat.{ℕ, _+_, _*_, _≤_, _<_}
+use native.Mathlib.Omega.{arith}
+use native.Mathlib.Decide.{ℕ-discrete, decLt}
+use mathlib.Core.Path.{_≡_, refl, sym, ap, subst, _∙_}
+use mathlib.Core.Bool.{true, false}
+use mathlib.Core.List.{List, _++_}
+use mathlib.Core.Logic.{_⊎_, inl, inr}
+use lib.ListN.{length, getD, take, length-append, List·getD-append}
+use lib.Seq.{drop-at}
+use borrow.Author.Tests.{eq-eqb, ne-eqb}
+use Rattle.records.specs.Format.{recordSize, recordLimit, wordSize, placeOfA, placeOfNext, wordAt, wordBytes, recordOf}
+use Rattle.records.specs.Format.{recordBytes, recordAt, count, firstStatement}
+use Rattle.records.specs.Kinds.{kindOf, isStatement}
+use Rattle.records.specs.Chain.{chainEnd}
+use Rattle.records.specs.declared.fields.Record.{Record}
+use Rattle.records.proofs.Laws.Parts.{put-length, pair-off, pair-word, record-bytes, record-written}
+use Rattle.records.proofs.Laws.Ranges.{term-no-statement}
+use Rattle.records.proofs.Theorems.Accepted.{AcceptedFacts}
+use Rattle.records.proofs.Theorems.Chains.{end-statement}
+use Rattle.records.proofs.Theorems.Growth.{Grows, relink}
+use Rattle.writer.specs.Additions.{Addition, term, statement, newRecord, linkPlace, relinked, grown}
+use Rattle.writer.specs.Calls.{isAddable}
+
+module _ (v : List ℕ) (good : AcceptedFacts v) where
+  -- there is a header, and the records are all bytes
+  some : 0 < count v
+  some = omega (arith, good .sized .least)
+
+  whole : recordSize * count v ≡ length v
+  whole = omega (arith, good .sized .whole)
+
+  end-within : chainEnd v < count v
+  end-within = at (decLt 0 (chainEnd v))
+    where
+      at : Dec (0 < chainEnd v) → chainEnd v < count v
+      at (yes h) = end-statement v good h .within
+      at (no n) = omega (arith, some)
+
+  pub end-small : chainEnd v < recordLimit
+  end-small = omega (arith, end-within, whole, good .sized .most)
+
+  -- the two places that the link may have
+  pub data LinkAt : Type 0 where
+    inHeader : chainEnd v ≡ 0 → linkPlace v ≡ placeOfA → LinkAt
+    inStatement : 0 < chainEnd v → linkPlace v ≡ recordSize * chainEnd v + placeOfNext → LinkAt
+
+  pub link-at : LinkAt
+  link-at = at (ℕ-discrete (chainEnd v) 0)
+    where
+      at : Dec (chainEnd v ≡ 0) → LinkAt
+      at (yes e) = inHeader e (rw (eq-eqb (chainEnd v) 0 e, e))
+      at (no n) = inStatement (omega arith) (rw (ne-eqb (chainEnd v) 0 n))
+
+  pub link-within : linkPlace v + wordSize ≤ length v
+  link-within = at link-at
+    where
+      at : LinkAt → linkPlace v + wordSize ≤ length v
+      at (inHeader e p) = omega (arith, p, good .sized .least)
+      at (inStatement h p) = omega (arith, p, end-within, whole)
+
+  pub relinked-length : (x : Addition) → length (relinked x v) ≡ length v
+  relinked-length (term kind a b) = refl
+  relinked-length (statement a b) = put-length v (linkPlace v) (wordBytes (count v)) link-within
+
+  pub grown-length : (x : Addition) → length (grown v x) ≡ length v + recordSize
+  unfolding grown
+  grown-length x =
+      length-append (relinked x v) (recordBytes (newRecord x)) ∙ ap (λ (n : ℕ). n + recordSize) (relinked-length x)
+
+  record-new : (x : Addition) → recordAt (grown v x) (count v) ≡ newRecord x
+  unfolding grown recordAt
+  record-new x =
+      ap (λ (l : List ℕ). recordOf (take recordSize l))
+      (drop-at (relinked x v) (recordBytes (newRecord x)) (recordSize * count v) (relinked-length x ∙ sym whole))
+      ∙ record-written (newRecord x)
+
+  -- a byte of the records that were there
+  byte-front : (x : Addition) (i : ℕ) → i < length v → getD (grown v x) i 0 ≡ getD (relinked x v) i 0
+  unfolding grown
+  byte-front x i h = List·getD-append (relinked x v) (recordBytes (newRecord x)) 0 i (omega (arith, relinked-length x))
+
+  -- A byte that is not the link's.
+  abbrev pub OffLink : Addition → ℕ → Type 0
+  OffLink (term kind a b) i = Unit {0}
+  OffLink (statement a b) i = (i ≡ linkPlace v → ⊥) × (i ≡ linkPlace v + 1 → ⊥)
+
+  pub byte-kept : (x : Addition) (i : ℕ) → i < length v → OffLink x i → getD (grown v x) i 0 ≡ getD v i 0
+  byte-kept (term kind a b) i h off = byte-front (term kind a b) i h
+  byte-kept (statement a b) i h off =
+      byte-front (statement a b) i h ∙ pair-off v (linkPlace v) (count v) link-within i (off .0) (off .1)
+
+  pub link-written : (a b : ℕ) → wordAt (grown v (statement a b)) (linkPlace v) ≡ count v
+  link-written a b =
+      rw (
+        byte-front (statement a b) (linkPlace v) (omega (arith, link-within)),
+        byte-front (statement a b) (linkPlace v + 1) (omega (arith, link-within)),
+      )
+      (pair-word v (linkPlace v) (count v) link-within)
+
+  -- a number that is not the link
+  word-kept : (x : Addition) (i : ℕ) → i + 1 < length v → OffLink x i → OffLink x (i + 1)
+      → wordAt (grown v x) i ≡ wordAt v i
+  word-kept x i h first second = rw (byte-kept x i (omega arith) first, byte-kept x (i + 1) h second)
+
+  -- A byte of record j is not the link's, unless it is of the header's A or of the last statement's next.
+  off : (x : Addition) (j k : ℕ) → k < recordSize → (2 ≤ k → k < 4 → chainEnd v ≡ 0 → 0 < j)
+      → (6 ≤ k → 0 < chainEnd v → j ≡ chainEnd v → ⊥) → OffLink x (recordSize * j + k)
+  off (term kind a b) j k h p q = tt
+  off (statement a b) j k h p q = at link-at
+    where
+      at : LinkAt → OffLink (statement a b) (recordSize * j + k)
+      at (inHeader e z) = (
+        λ n. omega (arith, z, p (omega (arith, z)) (omega (arith, z)) e),
+        λ n. omega (arith, z, p (omega (arith, z)) (omega (arith, z)) e),
+      )
+      at (inStatement l z) = (
+        λ n. q (omega (arith, z)) l (omega (arith, z)),
+        λ n. q (omega (arith, z)) l (omega (arith, z)),
+      )
+
+  module _ (x : Addition) (j : ℕ) (h : j < count v) where
+    abbrev at : ℕ
+    at = recordSize * j
+
+    -- the bytes of the kind, of the second byte and of B
+    plain : (k : ℕ) → (k < 2) ⊎ ((4 ≤ k) × (k < 6)) → getD (grown v x) (at + k) 0 ≡ getD v (at + k) 0
+    plain k (inl l) =
+        byte-kept x (at + k) (omega (arith, whole))
+        (off x j k (omega arith) (λ m. absurd (omega arith)) (λ m. absurd (omega arith)))
+    plain k (inr l) =
+        byte-kept x (at + k) (omega (arith, whole, l .1))
+        (off x j k (omega (arith, l .1)) (λ m n. absurd (omega (arith, l .0))) (λ m. absurd (omega (arith, l .1))))
+
+    kind-kept : recordAt (grown v x) j .kind ≡ recordAt v j .kind
+    kind-kept =
+        let same : at + 0 ≡ at = omega arith in
+        rw (record-bytes (grown v x) j, record-bytes v j) (rw same at (plain 0 (inl (omega arith))))
+
+    second-kept : recordAt (grown v x) j .second ≡ recordAt v j .second
+    second-kept = rw (record-bytes (grown v x) j, record-bytes v j) (plain 1 (inl (omega arith)))
+
+    b-kept : recordAt (grown v x) j .b ≡ recordAt v j .b
+    b-kept =
+        let same : at + 5 ≡ at + 4 + 1 = omega arith in
+        rw (record-bytes (grown v x) j, record-bytes v j)
+        (rw (plain 4 (inr (omega arith, omega arith)), rw same at (plain 5 (inr (omega arith, omega arith)))))
+
+    -- A and next, unless the link stands there
+    a-kept : OffLink x (at + 2) → OffLink x (at + 2 + 1) → recordAt (grown v x) j .a ≡ recordAt v j .a
+    a-kept first second =
+        rw (record-bytes (grown v x) j, record-bytes v j) (word-kept x (at + 2) (omega (arith, whole)) first second)
+
+    next-kept : OffLink x (at + 6) → OffLink x (at + 6 + 1) → recordAt (grown v x) j .next ≡ recordAt v j .next
+    next-kept first second =
+        rw (record-bytes (grown v x) j, record-bytes v j) (word-kept x (at + 6) (omega (arith, whole)) first second)
+
+    -- the link stands in another record's A
+    a-apart : (chainEnd v ≡ 0 → 0 < j) → recordAt (grown v x) j .a ≡ recordAt v j .a
+    a-apart p =
+        let same : at + 2 + 1 ≡ at + 3 = omega arith in
+        a-kept (off x j 2 (omega arith) (λ m n. p) (λ m. absurd (omega arith)))
+        (rw same (off x j 3 (omega arith) (λ m n. p) (λ m. absurd (omega arith))))
+
+    -- or in another's next
+    next-apart : (0 < chainEnd v → j ≡ chainEnd v → ⊥) → recordAt (grown v x) j .next ≡ recordAt v j .next
+    next-apart p =
+        let same : at + 6 + 1 ≡ at + 7 = omega arith in
+        next-kept (off x j 6 (omega arith) (λ m n. absurd (omega arith)) (λ m. p))
+        (rw same (off x j 7 (omega arith) (λ m n. absurd (omega arith)) (λ m. p)))
+
+  -- A term changes no link.
+  term-grows : (kind a b : ℕ) → isStatement kind ≡ false → Grows v (grown v (term kind a b)) (newRecord (term kind a b))
+  term-grows kind a b is =
+      let x = term kind a b in
+      record {
+        longer = grown-length x;
+        new = record-new x;
+        kind = λ j h. kind-kept x j h;
+        second = λ j h. second-kept x j h;
+        b = λ j h. b-kept x j h;
+        a = λ j p h. a-kept x j h tt tt;
+        first = rw is (a-kept x 0 some tt tt);
+        next = λ j p h. rw is (next-kept x j h tt tt);
+        unlinked = next-kept x 0 some tt tt;
+      }
+
+  -- A statement changes the link at the end of the chain.
+  module _ (a b : ℕ) where
+    abbrev x : Addition
+    x = statement a b
+
+    first-linked : LinkAt → firstStatement (grown v x) ≡ relink v (newRecord x) 0 (firstStatement v)
+    unfolding kindOf
+    first-linked (inHeader e z) =
+        ap (λ (r : Record). r .a) (record-bytes (grown v x) 0)
+        ∙ subst (λ (i : ℕ). wordAt (grown v x) i ≡ count v) z (link-written a b)
+        ∙ rw (eq-eqb 0 (chainEnd v) (sym e))
+    first-linked (inStatement l z) = rw (ne-eqb 0 (chainEnd v) (λ e. omega arith)) (a-apart x 0 some (λ e. omega arith))
+
+    next-linked : (j : ℕ) → 0 < j → j < count v → LinkAt
+        → recordAt (grown v x) j .next ≡ relink v (newRecord x) j (recordAt v j .next)
+    unfolding kindOf
+    next-linked j p h (inHeader e z) =
+        rw (ne-eqb j (chainEnd v) (λ q. omega arith)) (next-apart x j h (λ l q. omega arith))
+    next-linked j p h (inStatement l z) = at (ℕ-discrete j (chainEnd v))
+      where
+        at : Dec (j ≡ chainEnd v) → recordAt (grown v x) j .next ≡ relink v (newRecord x) j (recordAt v j .next)
+        at (yes e) =
+            let place : linkPlace v ≡ recordSize * j + placeOfNext = omega (arith, z, e) in
+            ap (λ (r : Record). r .next) (record-bytes (grown v x) j)
+            ∙ subst (λ (i : ℕ). wordAt (grown v x) i ≡ count v) place (link-written a b)
+            ∙ rw (eq-eqb j (chainEnd v) e)
+        at (no n) = rw (ne-eqb j (chainEnd v) n) (next-apart x j h (λ m. n))
+
+    statement-grows : Grows v (grown v x) (newRecord x)
+    statement-grows =
+        record {
+          longer = grown-length x;
+          new = record-new x;
+          kind = λ j h. kind-kept x j h;
+          second = λ j h. second-kept x j h;
+          b = λ j h. b-kept x j h;
+          a = λ j p h. a-apart x j h (λ e. p);
+          first = first-linked link-at;
+          next = λ j p h. next-linked j p h link-at;
+          unlinked = next-apart x 0 some (λ l e. omega arith);
+        }
+
+  -- What no row 3 speaks against grows as `records` says.
+  pub grown-grows : (x : Addition) → isAddable x ≡ true → Grows v (grown v x) (newRecord x)
+  grown-grows (term kind a b) is = term-grows kind a b (term-no-statement kind is)
+  grown-grows (statement a b) is = statement-grows a b
