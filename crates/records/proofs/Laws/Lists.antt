@@ -2,14 +2,14 @@
 --   All                      the property
 --   all-entry, all-default   it holds at an index; and past the end, where it holds of the default
 --   all-map                  what follows from it
---   all-occurring            what holds of every number that occurs
+--   all-occurring, map-same  what holds of every number that occurs; so lists of their values are the same
 --   sets-all                 a list of which every entry was set
 -- Assumes nothing.
 use Prim.Native.Nat.{ℕ, zero, suc, _+_, _<_}
 use native.Mathlib.Omega.{arith}
 use mathlib.Core.Path.{_≡_, refl, sym, ap, _∙_}
 use mathlib.Core.Bool.{true, or-true}
-use mathlib.Core.List.{List, [], _∷_, _++_, append-nil}
+use mathlib.Core.List.{List, [], _∷_, _++_, map, append-nil}
 use lib.ListN.{length, getD, drop, drop-of-length-le}
 use lib.Seq.{sets, sets-eq}
 use lib.Dec.{eqb}
@@ -40,6 +40,12 @@ pub all-occurring : (P : ℕ → Type 0) (is : List ℕ) → ((i : ℕ) → occu
 unfolding occurs
 all-occurring P [] h = tt
 all-occurring P (i ∷ is) h = (h i (rw (eq-eqb i i refl)), all-occurring P is (λ j o. h j (rw o (or-true (eqb j i)))))
+
+pub map-same : {A : Type 0} (f g : ℕ → A) (is : List ℕ) → ((i : ℕ) → occurs i is ≡ true → f i ≡ g i) → map f is ≡ map g is
+unfolding occurs
+map-same f g [] h = refl
+map-same f g (i ∷ is) h =
+    rw (h i (rw (eq-eqb i i refl)), map-same f g is (λ j o. h j (rw o (or-true (eqb j i)))))
 
 pub sets-all : {A : Type 0} (new l : List A) → length l ≡ length new → sets l 0 new ≡ new
 sets-all {A} new l e =

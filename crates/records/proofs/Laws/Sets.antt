@@ -1,6 +1,6 @@
 -- Tables, and sets of numbers as tables.
 --   length-table, table-at, table-past   a table's entries
---   table-cong                           tables of the same values
+--   table-cong, table-last               tables of the same values; one with an entry more at its end
 --   has-inside                           a member is in the table
 --   members-bound, members-within        how many are in a set, and in one within it
 --   members-less                         a set within another that misses one
@@ -12,7 +12,7 @@ use Prim.Native.Nat.{ℕ, zero, suc, _+_, _≤_, _<_}
 use native.Mathlib.Omega.{arith}
 use mathlib.Core.Path.{_≡_, refl, sym, ap}
 use mathlib.Core.Bool.{Bool, true, false}
-use mathlib.Core.List.{List, [], _∷_}
+use mathlib.Core.List.{List, [], _∷_, _++_}
 use lib.ListN.{length, getD, set}
 use Rattle.records.proofs.Laws.Tests.{clash}
 use Rattle.records.specs.Finite.{digit, table, has, members}
@@ -34,6 +34,11 @@ module _ {A : Type 0} where
   table-past zero f d i h = refl
   table-past (suc n) f d zero h = absurd (omega arith)
   table-past (suc n) f d (suc i) h = table-past n (λ j. f (suc j)) d i (omega arith)
+
+  pub table-last : (n : ℕ) (f : ℕ → A) → table (suc n) f ≡ table n f ++ (f n ∷ [])
+  unfolding table
+  table-last zero f = refl
+  table-last (suc n) f = ap (λ (l : List A). f 0 ∷ l) (table-last n (λ i. f (suc i)))
 
   pub table-cong : (n : ℕ) (f g : ℕ → A) → ((i : ℕ) → i < n → f i ≡ g i) → table n f ≡ table n g
   unfolding table

@@ -39,7 +39,7 @@ pub written-answers : (o : Outcome (List ℕ)) (buffer w after : List ℕ) (n : 
     → after ≡ bufferAfter (accepted w) buffer → Answers o buffer (accepted n) after
 written-answers o buffer w after n q e b = (rw (q, e), b ∙ rw q)
 
-module _ (buffer : List ℕ) (used : ℕ) (fit : Fit buffer used) where
+module _ (buffer : List ℕ) (used : ℕ) (y : Addition) (fit : Fit buffer used y) where
   abbrev inUse : List ℕ
   inUse = take used buffer
 

@@ -3,6 +3,7 @@
 --   reader-own                       the reader's check of the grown bytes is that of the new record
 --   Fit, checks-fit, fit-small       what passed checks tell
 --   adding-refused, adding-fine      the outcome, by what the checks answered
+--   Succeeded, adding-succeeded      an addition that succeeded
 -- Assumes nothing.
 use Prim.Native.Nat.{ℕ, _+_, _*_, _≤_, _<_}
 use native.Mathlib.Omega.{arith}
@@ -20,12 +21,12 @@ use Rattle.records.specs.Check.{recordsCheck, fieldsCheck, vocabularyCheck, IsW
 use Rattle.records.specs.declared.answers.Checked.{Checked}
 use Rattle.records.specs.declared.answers.Checked.the-variants.{Fine, Refused}
 use Rattle.records.specs.declared.fields.Record.{Record}
-use Rattle.records.proofs.Laws.Tests.{both-left, both-right}
+use Rattle.records.proofs.Laws.Tests.{clash, both-left, both-right}
 use Rattle.records.proofs.Laws.Checks.{then-assoc, require-passed, then-passed, checked-fine}
 use Rattle.records.proofs.Theorems.Accepted.{well-formed-vocabulary, vocabulary-then}
 use Rattle.records.proofs.Theorems.Growth.{grows-check}
 use Rattle.writer.specs.Additions.{Addition, term, statement, newRecord, grown}
-use Rattle.writer.specs.Calls.{roomCheck, isAddable, addition, adding}
+use Rattle.writer.specs.Calls.{roomCheck, isAddable, addition, adding, newLength}
 use Rattle.writer.specs.Code.Checks.{newRecordCheck, additionCheck}
 use Rattle.writer.proofs.Theorems.Grown.{grown-grows}
 
@@ -73,21 +74,23 @@ module _ (v : List ℕ) (size : ℕ) (x : Addition) where
       first (accepted u) e = second roomy refl e
       first (refused n p) e = refl
 
--- What passed checks tell of the buffer.
-pub record Fit (buffer : List ℕ) (used : ℕ) : Type 0 where
+-- What passed checks tell of the buffer, and of the addition.
+pub record Fit (buffer : List ℕ) (used : ℕ) (x : Addition) : Type 0 where
   pub within : used ≤ length buffer
   pub well : IsWellFormed (take used buffer)
   pub few : count (take used buffer) < recordLimit
   pub room : used + recordSize ≤ length buffer
-
-pub fit-small : (buffer : List ℕ) (used : ℕ) → Fit buffer used → used ≤ recordSize * recordLimit
-fit-small buffer used fit =
-    let good = well-formed-vocabulary (take used buffer) (fit .well) in
-    omega (arith, good .sized .most, length-take-le used buffer (fit .within))
+  pub addable : isAddable x ≡ true
+  pub own : fieldsCheck (take used buffer) (count (take used buffer)) (newRecord x) ≡ pass
 
 module _ (buffer : List ℕ) (used : ℕ) (x : Addition) where
   abbrev inUse : List ℕ
   inUse = take used buffer
+
+  pub fit-small : Fit buffer used x → used ≤ recordSize * recordLimit
+  fit-small fit =
+      let good = well-formed-vocabulary inUse (fit .well) in
+      omega (arith, good .sized .most, length-take-le used buffer (fit .within))
 
   abbrev checks : Check
   checks = additionCheck buffer used (isAddable x) (newRecord x)
@@ -99,7 +102,7 @@ module _ (buffer : List ℕ) (used : ℕ) (x : Addition) where
       ∙ sym (then-assoc (require (leb used (length buffer)) 1 0)
       (newRecordCheck inUse (length buffer) (isAddable x) (newRecord x)) (accepted (grown inUse x)))
 
-  pub checks-fit : checks ≡ pass → Fit buffer used
+  pub checks-fit : checks ≡ pass → Fit buffer used x
   unfolding additionCheck newRecordCheck
   checks-fit e =
       let new = require (isAddable x) 3 (count inUse) then fieldsCheck inUse (count inUse) (newRecord x) in
@@ -107,6 +110,7 @@ module _ (buffer : List ℕ) (used : ℕ) (x : Addition) where
       (newRecordCheck inUse (length buffer) (isAddable x) (newRecord x)) tt e in
       let b = then-passed (recordsCheck inUse) (roomCheck inUse (length buffer) then new) tt (a .1) in
       let c = then-passed (roomCheck inUse (length buffer)) new tt (b .1) in
+      let d = then-passed (require (isAddable x) 3 (count inUse)) (fieldsCheck inUse (count inUse) (newRecord x)) tt (c .1) in
       let within : used ≤ length buffer = leb-true _ _ (require-passed (leb used (length buffer)) 1 0 (a .0)) in
       let room = require-passed (roomy inUse (length buffer) x) 27 (count inUse) (c .0) in
       let fits = leb-true (length inUse + recordSize) (length buffer)
@@ -116,6 +120,8 @@ module _ (buffer : List ℕ) (used : ℕ) (x : Addition) where
         well = b .0;
         few = ltb-true _ _ (both-left (ltb (count inUse) recordLimit) (leb (length inUse + recordSize) (length buffer)) room);
         room = omega (arith, length-take-le used buffer within, fits);
+        addable = require-passed (isAddable x) 3 (count inUse) (d .0);
+        own = d .1;
       }
 
   module _ (k : Checked) (e : checked k ≡ checks) where
@@ -125,5 +131,20 @@ module _ (buffer : List ℕ) (used : ℕ) (x : Addition) where
     pub adding-fine : k ≡ Fine → adding buffer used x ≡ accepted (grown inUse x)
     adding-fine r = adding-checks ∙ rw (← e, r)
 
-    pub fine-fit : k ≡ Fine → Fit buffer used
+    pub fine-fit : k ≡ Fine → Fit buffer used x
     fine-fit r = checks-fit (checked-fine k checks e r)
+
+  -- An addition that succeeded.
+  pub record Succeeded (n : ℕ) : Type 0 where
+    pub fit : Fit buffer used x
+    pub outcome : adding buffer used x ≡ accepted (grown inUse x)
+    pub long : n ≡ length (grown inUse x)
+
+  pub adding-succeeded : (n : ℕ) → newLength (adding buffer used x) ≡ accepted n → Succeeded n
+  adding-succeeded n e = at checks refl (sym (ap newLength adding-checks) ∙ e)
+    where
+      at : (c : Check) → checks ≡ c → newLength (c then accepted (grown inUse x)) ≡ accepted n → Succeeded n
+      at (accepted u) q h =
+          let same : accepted (length (grown inUse x)) ≡ accepted n = h in
+          record { fit = checks-fit q; outcome = adding-checks ∙ rw q; long = cc }
+      at (refused m p) q h = absurd (clash (cc))

@@ -1,1 +1,141 @@
--- x
+-- What reading shows after an addition that succeeded: that addition, after what was shown before.
+--   statements-append                  the statements of a list of additions and another
+--   grown-well, grown-roles            the bytes pass rows 1 to 8, with the same roles
+--   grown-contents, grown-stated       the records from 1 on, and the statements on the chain
+--   empty-well, .., empty-stated       the same of an empty vocabulary
+-- Assumes nothing.
+use Prim.Native.Nat.{ℕ, suc, _-_, _≤_, _<_}
+use native.Mathlib.Omega.{arith}
+use mathlib.Core.Path.{_≡_, refl, sym, ap, _∙_}
+use mathlib.Core.Bool.{true}
+use mathlib.Core.List.{List, [], _∷_, _++_, map, map-append, append-nil}
+use borrow.Author.Tests.{le-leb}
+use Rattle.records.specs.Outcome.{pass, inTurn}
+use Rattle.records.specs.Finite.{table}
+use Rattle.records.specs.Format.{recordLimit, roleLimit, recordBytes, recordAt, count, firstStatement, roleCount}
+use Rattle.records.specs.Kinds.{kindOf}
+use Rattle.records.specs.Chain.{nextStatement, follow, chain}
+use Rattle.records.specs.Check.{headerFits, fieldsCheck, recordsCheck, IsWellFormed}
+use Rattle.records.specs.declared.fields.Record.{Record}
+use Rattle.records.proofs.Laws.Lists.{map-same}
+use Rattle.records.proofs.Laws.Parts.{record-written}
+use Rattle.records.proofs.Laws.Ranges.{term-no-statement}
+use Rattle.records.proofs.Laws.Sets.{table-cong, table-last}
+use Rattle.records.proofs.Theorems.Accepted.{AcceptedFacts, well-formed-vocabulary}
+use Rattle.records.proofs.Theorems.Chains.{chain-statement}
+use Rattle.records.proofs.Theorems.Following.{follow-nil}
+use Rattle.records.proofs.Theorems.Growth.{Grows, grown-count, grows-records, chain-kept, chain-grown}
+use Rattle.writer.specs.Additions.{Addition, term, statement, newRecord, grown, shown, contents, stated, statementsOf}
+use Rattle.writer.specs.Calls.{emptyHeader, isAddable}
+use Rattle.writer.proofs.Theorems.Grown.{grown-grows}
+use Rattle.writer.proofs.Theorems.Outcomes.{new-ends}
+
+pub statements-append : (l m : List Addition) → statementsOf (l ++ m) ≡ statementsOf l ++ statementsOf m
+unfolding statementsOf
+statements-append [] m = refl
+statements-append (term kind a b ∷ l) m = statements-append l m
+statements-append (statement a b ∷ l) m = ap (λ (r : List Addition). statement a b ∷ r) (statements-append l m)
+
+-- a record that was added shows the addition
+shown-new : (x : Addition) → isAddable x ≡ true → shown (newRecord x) ≡ x
+unfolding kindOf
+shown-new (term kind a b) is = rw (term-no-statement kind is)
+shown-new (statement a b) is = refl
+
+module _ (v : List ℕ) (x : Addition) (well : IsWellFormed v) (few : count v < recordLimit) (is : isAddable x ≡ true)
+    (own : fieldsCheck v (count v) (newRecord x) ≡ pass) where
+  abbrev w : List ℕ
+  w = grown v x
+
+  abbrev good : AcceptedFacts v
+  good = well-formed-vocabulary v well
+
+  grows : Grows v w (newRecord x)
+  grows = grown-grows v good x is
+
+  -- there is a header
+  some : 0 < count v
+  some = omega (arith, good .sized .least)
+
+  pub grown-well : IsWellFormed w
+  grown-well = grows-records v w (newRecord x) well few grows (new-ends x) ∙ own
+
+  pub grown-counted : count w ≡ suc (count v)
+  grown-counted = grown-count v w (newRecord x) well few grows
+
+  pub grown-roles : roleCount w ≡ roleCount v
+  grown-roles = grows .b 0 some
+
+  shown-kept : (j : ℕ) → 0 < j → j < count v → shown (recordAt w j) ≡ shown (recordAt v j)
+  shown-kept j p h = rw (grows .kind j h, grows .a j p h, grows .b j h)
+
+  shown-last : shown (recordAt w (count v)) ≡ x
+  shown-last = ap shown (grows .new) ∙ shown-new x is
+
+  pub grown-contents : contents w ≡ contents v ++ (x ∷ [])
+  unfolding contents
+  grown-contents =
+      let n = count v - 1 in
+      let more : count w - 1 ≡ suc n = omega (arith, grown-counted, some) in
+      let last : suc n ≡ count v = omega (arith, some) in
+      ap (λ (m : ℕ). table m (λ i. shown (recordAt w (suc i)))) more
+      ∙ table-last n (λ i. shown (recordAt w (suc i)))
+      ∙ rw (
+        table-cong n (λ i. shown (recordAt w (suc i))) (λ i. shown (recordAt v (suc i)))
+            (λ i h. shown-kept (suc i) (omega arith) (omega arith)),
+        last,
+        shown-last,
+      )
+
+  -- the statements that were on the chain show what they did
+  chain-shown : map (λ i. shown (recordAt w i)) (chain v) ≡ map (λ i. shown (recordAt v i)) (chain v)
+  chain-shown =
+      map-same (λ i. shown (recordAt w i)) (λ i. shown (recordAt v i)) (chain v)
+      (λ i o. let s = chain-statement v good i o in shown-kept i (s .later) (s .within))
+
+-- Of each sort of addition.
+module _ (v : List ℕ) (well : IsWellFormed v) (few : count v < recordLimit) where
+  pub grown-stated : (x : Addition) → isAddable x ≡ true → fieldsCheck v (count v) (newRecord x) ≡ pass
+      → stated (grown v x) ≡ stated v ++ statementsOf (x ∷ [])
+  unfolding stated statementsOf kindOf
+  grown-stated (term kind a b) is own =
+      let x = term kind a b in
+      rw (chain-kept v (grown v x) (newRecord x) well few (grows v x well few is own) (term-no-statement kind is))
+      (chain-shown v x well few is own ∙ sym (append-nil _))
+  grown-stated (statement a b) is own =
+      let x = statement a b in
+      rw (chain-grown v (grown v x) (newRecord x) well few (grows v x well few is own) refl refl)
+      (map-append (λ i. shown (recordAt (grown v x) i)) (chain v) (count v ∷ [])
+      ∙ rw (chain-shown v x well few is own, shown-last v x well few is own))
+
+-- An empty vocabulary.
+module _ (roles : ℕ) (few : roles ≤ roleLimit) where
+  abbrev empty : List ℕ
+  empty = recordBytes (emptyHeader roles)
+
+  header : recordAt empty 0 ≡ emptyHeader roles
+  unfolding recordAt
+  header = record-written (emptyHeader roles)
+
+  first : firstStatement empty ≡ 0
+  first = ap (λ (r : Record). r .a) header
+
+  header-fits : headerFits (recordAt empty 0) ≡ true
+  header-fits = rw (header, le-leb roles roleLimit few)
+
+  pub empty-well : IsWellFormed empty
+  unfolding recordsCheck inTurn
+  empty-well = rw (header-fits, first)
+
+  pub empty-roles : roleCount empty ≡ roles
+  empty-roles = ap (λ (r : Record). r .b) header
+
+  pub empty-contents : contents empty ≡ []
+  unfolding contents table
+  empty-contents = refl
+
+  pub empty-stated : stated empty ≡ []
+  unfolding stated
+  empty-stated =
+      ap (map (λ i. shown (recordAt empty i)))
+      (ap (follow (nextStatement empty) (count empty)) first ∙ follow-nil (nextStatement empty) (count empty))

@@ -38,7 +38,7 @@ returns c =
     (c .before .enum-told2 .given .1))
 
 -- what the passed checks tell
-fit : (c : tie.After-enum-told) → let a = start (c .before .before) .args in Fit (now (a .buffer)) (a .used)
+fit : (c : tie.After-enum-told) → let a = start (c .before .before) .args in Fit (now (a .buffer)) (a .used) (additions.statement (a .a) (a .b))
 fit c =
     let k = c .before .before in
     let a = start k .args in
@@ -55,14 +55,14 @@ write-record-requires c κs =
     omega (
       arith,
       fit told .room,
-      linked-length (now (a .buffer)) (a .used) (fit told) (l .link-behind .last .0) (l .link-behind .ensures),
+      linked-length (now (a .buffer)) (a .used) _ (fit told) (l .link-behind .last .0) (l .link-behind .ensures),
     )
 
 add-t14 : tie.Need-add-t14
 add-t14 c =
     let told = c .before .before .before .before .before .before .before .before in
     let a = start (told .before .before) .args in
-    omega (arith, fit-small (now (a .buffer)) (a .used) (fit told))
+    omega (arith, fit-small (now (a .buffer)) (a .used) (additions.statement (a .a) (a .b)) (fit told))
 
 returns-2 : tie.Need-returns-2
 returns-2 c =
@@ -71,7 +71,7 @@ returns-2 c =
     let told = l .before .before in
     let k = told .before .before in
     let a = start k .args in
-    statement-answers (now (a .buffer)) (a .used) (fit told) (a .a) (a .b) (l .link-behind .last .0) _
+    statement-answers (now (a .buffer)) (a .used) _ (fit told) (a .a) (a .b) (l .link-behind .last .0) _
     (adding-fine (now (a .buffer)) (a .used) (additions.statement (a .a) (a .b)) _ (asked k) (told .enum-told .given .1))
     (l .link-behind .ensures)
     (w .write-record .ensures

@@ -40,7 +40,7 @@ returns c =
     (adding-refused (now (a .buffer)) (a .used) (term (a .kind) (a .a) (a .b)) _ (asked k) _ _ (c .before .enum-told2 .given .1))
 
 -- what the passed checks tell
-fit : (c : tie.After-enum-told) → let a = start (c .before .before) .args in Fit (now (a .buffer)) (a .used)
+fit : (c : tie.After-enum-told) → let a = start (c .before .before) .args in Fit (now (a .buffer)) (a .used) (term (a .kind) (a .a) (a .b))
 fit c =
     let k = c .before .before in
     let a = start k .args in
@@ -53,7 +53,7 @@ add-t14 : tie.Need-add-t14
 add-t14 c =
     let told = c .before .before .before .before in
     let a = start (told .before .before) .args in
-    omega (arith, fit-small (now (a .buffer)) (a .used) (fit told))
+    omega (arith, fit-small (now (a .buffer)) (a .used) (term (a .kind) (a .a) (a .b)) (fit told))
 
 returns-2 : tie.Need-returns-2
 returns-2 c =
@@ -61,7 +61,7 @@ returns-2 c =
     let told = w .before .before in
     let k = told .before .before in
     let a = start k .args in
-    term-answers (now (a .buffer)) (a .used) (fit told) (a .kind) (a .a) (a .b) _
+    term-answers (now (a .buffer)) (a .used) _ (fit told) (a .kind) (a .a) (a .b) _
     (adding-fine (now (a .buffer)) (a .used) (term (a .kind) (a .a) (a .b)) _ (asked k) (told .enum-told .given .1))
     (w .write-record .ensures
     ∙ ap (λ (r : Record). put (now (a .buffer)) (a .used) (recordBytes r)) (k .before .before .before .fields-of .ensures))
