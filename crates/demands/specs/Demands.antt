@@ -1,7 +1,7 @@
 -- The three demands, as statements over the definitions of the crates below and nothing else; proofs/Theorems/Demands.antt
 -- proves each.
 -- The contracts of src/lib.rt carry them to the calls; Returns.antt says what they come to there.
-use Prim.Native.Nat.{ℕ, _*_, _≤_}
+use Prim.Native.Nat.{ℕ, _+_, _*_, _≤_}
 use mathlib.Core.Path.{_≡_}
 use mathlib.Core.Bool.{true, not}
 use mathlib.Core.List.{List, [], map}
@@ -11,6 +11,8 @@ use Rattle.records.specs.Format.{count}
 use Rattle.records.specs.Check.{vocabularyCheck}
 use Rattle.records.specs.Call.{recordCall, recordPart}
 use Rattle.records.specs.Atoms.{atoms}
+use Rattle.writer.specs.Additions.{Addition}
+use Rattle.writer.specs.Calls.{making, adding, newLength, bufferAfter}
 use Rattle.types.specs.Meaning.{Interpretation, Element, belongs, Model, AlwaysEqual, AlwaysWithin}
 use Rattle.types.specs.Comparison.{Verdict, equal, different, verdict, comparison, counts}
 use Rattle.types.specs.Bitmap.{written, readBack}
@@ -19,14 +21,15 @@ use Rattle.scripts.specs.Format.{queryOf, chain}
 use Rattle.scripts.specs.Calculus.{Derives}
 use Rattle.scripts.specs.Run.{stepAt, scriptCheck}
 use Rattle.demands.specs.Table.{vocabularyTable, recordTable, comparisonTable, classificationTable, scriptTable}
-use Rattle.demands.specs.Table.{Follows, AcceptedVocabulary, TermOf, InForm}
+use Rattle.demands.specs.Table.{makingTable, additionTable, Follows, AcceptedVocabulary, TermOf, InForm}
 
 -- Demand 1: "Every call ends on every input, refuses unfit input itself by a fixed number and place, and a refusal alters no
 -- lent byte." Each call follows its table, and where no row applies answers the number of records, the record's offset, the
--- verdict, the counts, the number of steps. That a call ends is part of what the prover checks of every function. Two calls
--- are lent bytes that they may write: the comparison one buffer, the classification two. The record call, refused, hands back
--- an empty part. `untouched`, `both-untouched` and `empty` speak of the definitions; of the bytes themselves
--- ComparisonReturns, ClassificationReturns and RecordReturns (Returns.antt) and `.exit` in src/lib.rt speak.
+-- verdict, the counts, the number of steps, the new length. That a call ends is part of what the prover checks of every
+-- function. Some calls are lent bytes that they may write: the comparison one buffer, the classification two, and each call of
+-- the writer one. The record call, refused, hands back an empty part. `untouched`, `both-untouched`, `unmade`, `unadded` and
+-- `empty` speak of the definitions; of the bytes themselves ComparisonReturns, ClassificationReturns, MakingReturns,
+-- AdditionReturns and RecordReturns (Returns.antt) and `.exit` in src/lib.rt speak.
 pub record Demand1 : Type 0 where
   pub vocabulary : (v : List ℕ) → Follows (vocabularyTable v) (count v) (vocabularyCheck v)
   pub recording : (v : List ℕ) (number : ℕ) → Follows (recordTable v number) (8 * number) (recordCall v number)
@@ -34,10 +37,17 @@ pub record Demand1 : Type 0 where
   pub classifies : (v : List ℕ) (lent room : ℕ)
       → Follows (classificationTable v lent room) (counts v) (classification v lent room)
   pub checks : (v s : List ℕ) → Follows (scriptTable v s) (length (chain s)) (scriptCheck v s)
+  pub makes : (size roles : ℕ) → Follows (makingTable size roles) 8 (newLength (making size roles))
+  pub adds : (buffer : List ℕ) (used : ℕ) (x : Addition)
+      → Follows (additionTable buffer used x) (used + 8) (newLength (adding buffer used x))
   pub untouched : (v : List ℕ) (a b n p : ℕ) (lent : List ℕ) → comparison v a b (length lent) ≡ refused n p
       → written (comparison v a b (length lent)) v lent ≡ lent
   pub both-untouched : (v lent room : List ℕ) (n p : ℕ) → classification v (length lent) (length room) ≡ refused n p
       → (firstAfter v lent room ≡ lent) × (secondAfter v lent room ≡ room)
+  pub unmade : (lent : List ℕ) (roles n p : ℕ) → newLength (making (length lent) roles) ≡ refused n p
+      → bufferAfter (making (length lent) roles) lent ≡ lent
+  pub unadded : (buffer : List ℕ) (used n p : ℕ) (x : Addition) → newLength (adding buffer used x) ≡ refused n p
+      → bufferAfter (adding buffer used x) buffer ≡ buffer
   pub empty : (v : List ℕ) (number n p : ℕ) → recordCall v number ≡ refused n p → recordPart v number ≡ []
 
 -- The script's chain is a derivation, of at most 64 open frames, by start, extension and reduction over the listed columns.

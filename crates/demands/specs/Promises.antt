@@ -2,16 +2,22 @@
 -- proofs/Theorems/Promises.antt proves each. The contracts of src/lib.rt carry them to the calls, as they do the demands.
 use Prim.Native.Nat.{ℕ, _+_, _*_, _≤_, _<_}
 use mathlib.Core.Path.{_≡_}
-use mathlib.Core.List.{List, _++_}
-use lib.ListN.{length, getD, drop}
+use mathlib.Core.Bool.{true}
+use mathlib.Core.List.{List, [], _∷_, _++_}
+use mathlib.Core.Logic.{_⊎_}
+use lib.ListN.{length, getD, take, drop}
 use Rattle.records.specs.Outcome.{accepted}
+use Rattle.records.specs.Format.{wordAt, recordBytes, count, roleCount}
+use Rattle.records.specs.Check.{vocabularyCheck}
 use Rattle.records.specs.Atoms.{atoms}
+use Rattle.writer.specs.Additions.{Addition, term, statement, newRecord, linkPlace, grown, contents, stated, statementsOf}
+use Rattle.writer.specs.Calls.{emptyHeader, making, isAddable, adding, newLength, bufferAfter}
 use Rattle.types.specs.Meaning.{Interpretation, Model, AlwaysEqual}
 use Rattle.types.specs.Comparison.{counts, comparison}
 use Rattle.types.specs.Bitmap.{bitmap, written}
 use Rattle.taxonomy.specs.Nearest.{NameOf, Nearest}
 use Rattle.taxonomy.specs.Taxonomy.{names, nameCount, nameAt, classification, firstAfter, secondAfter}
-use Rattle.demands.specs.Table.{AcceptedVocabulary, TermOf}
+use Rattle.demands.specs.Table.{vocabularyTable, AcceptedVocabulary, TermOf, Refuses, Follows}
 
 -- Slip 1, "Nearest broader names".
 
@@ -57,3 +63,68 @@ abbrev pub NearestNames : Type 0
 NearestNames =
     (v lent room : List ℕ) → AcceptedVocabulary v → atoms v ≤ 12 → 512 ≤ length lent → 144 ≤ length room
     → Tabulated v lent room
+
+-- Slip 4, "A vocabulary writer".
+
+-- "the link that reaches it": a statement is reached by a link, which has its number; byte i is not of that link.
+abbrev pub Reached : List ℕ → Addition → List ℕ → Type 0
+Reached v (term kind a b) after = Unit {0}
+Reached v (statement a b) after = wordAt after (linkPlace v) ≡ count v
+
+abbrev pub OffLink : List ℕ → Addition → ℕ → Type 0
+OffLink v (term kind a b) i = Unit {0}
+OffLink v (statement a b) i = (i < linkPlace v) ⊎ (linkPlace v + 2 ≤ i)
+
+-- "On success only the new record, and the link that reaches it, change.": the record stands behind the bytes in use, and every
+-- other byte of the buffer is as it was. The bytes now in use are the grown ones.
+pub record OnlyNew (buffer : List ℕ) (used : ℕ) (x : Addition) (after : List ℕ) : Type 0 where
+  pub new : take 8 (drop used after) ≡ recordBytes (newRecord x)
+  pub reached : Reached (take used buffer) x after
+  pub kept : (i : ℕ) → (i < used) ⊎ (used + 8 ≤ i) → OffLink (take used buffer) x i → getD after i 0 ≡ getD buffer i 0
+  pub size : length after ≡ length buffer
+  pub grows : take (used + 8) after ≡ grown (take used buffer) x
+
+-- There is room for one more record behind an accepted vocabulary.
+pub record Roomy (buffer : List ℕ) (used : ℕ) : Type 0 where
+  pub within : used ≤ length buffer
+  pub accepts : AcceptedVocabulary (take used buffer)
+  pub few : count (take used buffer) < 512
+  pub free : used + 8 ≤ length buffer
+
+-- "An added record that the reader would refuse gets the reader's number and place.": the call answers what the vocabulary check
+-- of the grown bytes does, so that a record is added exactly when they are accepted; a refusal is at the new record.
+pub record AsReader (buffer : List ℕ) (used : ℕ) (x : Addition) : Type 0 where
+  pub same : Follows (vocabularyTable (grown (take used buffer) x)) (used + 8) (newLength (adding buffer used x))
+  pub own : (n p : ℕ) → Refuses (vocabularyTable (grown (take used buffer) x)) n p → p ≡ count (take used buffer)
+
+-- A list of additions that succeed, each given the length that the one before answered: from a buffer and a length in use to
+-- those after them.
+abbrev pub Succeed : List ℕ → ℕ → List Addition → List ℕ → ℕ → Type 0
+Succeed buffer used [] after end = (after ≡ buffer) × (end ≡ used)
+Succeed buffer used (x ∷ l) after end =
+    (n : ℕ) × (newLength (adding buffer used x) ≡ accepted n) × Succeed (bufferAfter (adding buffer used x) buffer) n l after end
+
+-- "from an empty vocabulary", made in the same buffer.
+pub record Built (lent : List ℕ) (roles : ℕ) (l : List Addition) (after : List ℕ) (used : ℕ) : Type 0 where
+  pub start : ℕ
+  pub made : newLength (making (length lent) roles) ≡ accepted start
+  pub added : Succeed (bufferAfter (making (length lent) roles) lent) start l after used
+
+-- "reading the buffer shows exactly those terms and statements in their order": the vocabulary check accepts the bytes, with the
+-- header and a record for each; the records from 1 on are the additions, and the statements on the chain those among them.
+pub record Shows (v : List ℕ) (roles : ℕ) (l : List Addition) : Type 0 where
+  pub accepts : AcceptedVocabulary v
+  pub counted : vocabularyCheck v ≡ accepted (1 + length l)
+  pub roles : roleCount v ≡ roles
+  pub records : contents v ≡ l
+  pub statements : stated v ≡ statementsOf l
+
+-- The promise. An empty vocabulary is its header, and later bytes keep their content.
+pub record WritesVocabularies : Type 0 where
+  pub makes : (lent : List ℕ) (roles n : ℕ) → newLength (making (length lent) roles) ≡ accepted n
+      → bufferAfter (making (length lent) roles) lent ≡ recordBytes (emptyHeader roles) ++ drop 8 lent
+  pub only : (buffer : List ℕ) (used n : ℕ) (x : Addition) → newLength (adding buffer used x) ≡ accepted n
+      → OnlyNew buffer used x (bufferAfter (adding buffer used x) buffer)
+  pub reader : (buffer : List ℕ) (used : ℕ) (x : Addition) → Roomy buffer used → isAddable x ≡ true → AsReader buffer used x
+  pub shows : (lent : List ℕ) (roles : ℕ) (l : List Addition) (after : List ℕ) (used : ℕ) → Built lent roles l after used
+      → Shows (take used after) roles l

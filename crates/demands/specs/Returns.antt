@@ -1,15 +1,19 @@
 -- The demands and promises over what the calls return, for every input: what the contracts of src/lib.rt promise to a caller.
-use Prim.Native.Nat.{ℕ, _*_, _≤_, _<_}
+use Prim.Native.Nat.{ℕ, _+_, _*_, _≤_, _<_}
 use mathlib.Core.Bool.{true, not}
 use mathlib.Core.Path.{_≡_}
 use mathlib.Core.List.{List, [], _++_}
 use lib.ListN.{length, take, drop}
-use Rattle.records.specs.Format.{count}
+use Rattle.records.specs.Format.{recordBytes, count}
 use Rattle.records.specs.declared.answers.Counted.{Counted}
 use Rattle.records.specs.declared.answers.Counted.the-variants as counted
 use Rattle.records.specs.declared.answers.Located.{Located}
 use Rattle.records.specs.declared.answers.Located.the-variants as located
 use Rattle.records.specs.Finite.{has, members}
+use Rattle.writer.specs.Additions.{Addition}
+use Rattle.writer.specs.Calls.{emptyHeader}
+use Rattle.writer.specs.declared.answers.Lengthened.{Lengthened}
+use Rattle.writer.specs.declared.answers.Lengthened.the-variants as lengthened
 use Rattle.types.specs.Types.{types, truth}
 use Rattle.types.specs.Meaning.{AlwaysEqual, AlwaysWithin}
 use Rattle.types.specs.Survivors.{survivors, rounds}
@@ -23,9 +27,9 @@ use Rattle.scripts.specs.Format.{queryOf, chain}
 use Rattle.scripts.specs.declared.answers.Judged.{Judged}
 use Rattle.scripts.specs.declared.answers.Judged.the-variants as judged
 use Rattle.demands.specs.Table.{Row, vocabularyTable, recordTable, comparisonTable, classificationTable, scriptTable}
-use Rattle.demands.specs.Table.{AcceptedVocabulary, NoneApplies, Refuses, InForm}
+use Rattle.demands.specs.Table.{makingTable, additionTable, AcceptedVocabulary, NoneApplies, Refuses, InForm}
 use Rattle.demands.specs.Demands.{ChainDerives, Shown}
-use Rattle.demands.specs.Promises.{RightTable}
+use Rattle.demands.specs.Promises.{RightTable, OnlyNew}
 
 -- The vocabulary check "answers the number of records, header included".
 abbrev pub VocabularyReturns : List ℕ → Counted → Type 0
@@ -78,6 +82,21 @@ ClassificationReturns v before after room filled (classified.Counts alive done) 
     × (filled ≡ taxonomy v ++ drop 144 room) × RightTable v room filled
 ClassificationReturns v before after room filled (classified.Refused n p) =
     Refuses (classificationTable v (length before) (length room)) n p × (after ≡ before) × (filled ≡ room)
+
+-- The new length of an empty vocabulary, which is its header; "each call answers the new length". Refused: the buffer is as it
+-- was.
+abbrev pub MakingReturns : List ℕ → ℕ → List ℕ → Lengthened → Type 0
+MakingReturns before roles after (lengthened.Length n) =
+    NoneApplies (makingTable (length before) roles) × (n ≡ 8) × (after ≡ recordBytes (emptyHeader roles) ++ drop 8 before)
+MakingReturns before roles after (lengthened.Refused n p) = Refuses (makingTable (length before) roles) n p × (after ≡ before)
+
+-- The new length of a vocabulary with an addition, which is accepted; only what belongs to the addition changed. Refused: the
+-- buffer is as it was.
+abbrev pub AdditionReturns : List ℕ → ℕ → Addition → List ℕ → Lengthened → Type 0
+AdditionReturns before used x after (lengthened.Length n) =
+    NoneApplies (additionTable before used x) × (n ≡ used + 8) × AcceptedVocabulary (take n after) × OnlyNew before used x after
+AdditionReturns before used x after (lengthened.Refused n p) =
+    Refuses (additionTable before used x) n p × (after ≡ before)
 
 -- Accepted: what the script asks is so in every finite interpretation satisfying the statements, and its chain, of so many steps,
 -- derives it. Refused, where the vocabulary and the form were fit: the chain is no derivation of at most 64 open frames.

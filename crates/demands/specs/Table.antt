@@ -1,17 +1,20 @@
 -- The paper's table of refusals, as a list of rows for each call: each row with its number, its place and whether it applies.
--- Row 26 is paper 02's.
+-- Rows 26 and 27 are paper 02's.
 -- "Every refusal gives number and place and leaves all lent memory untouched. The first that applies in table order is given
 -- and never otherwise."
-use Prim.Native.Nat.{ℕ, zero, suc, _-_}
+use Prim.Native.Nat.{ℕ, zero, suc, _+_, _-_}
 use mathlib.Core.Path.{_≡_}
 use mathlib.Core.Bool.{Bool, true, false, not, _&&_}
 use mathlib.Core.List.{List, [], _∷_, _++_}
+use lib.ListN.{length, take}
 use lib.Dec.{ltb, leb}
 use Rattle.records.specs.Outcome.{Outcome, accepted, refused}
 use Rattle.records.specs.Format.{recordAt, count, firstStatement}
 use Rattle.records.specs.Kinds.{sortsOf, isTerm}
 use Rattle.records.specs.Check.{lengthFits, headerFits, kindFits, rowFits, linkFits, nextFits}
 use Rattle.records.specs.Atoms.{atoms}
+use Rattle.writer.specs.Additions.{Addition, grown}
+use Rattle.writer.specs.Calls.{isAddable}
 use Rattle.columns.specs.Literals.{SkolemTerm, Literal}
 use Rattle.scripts.specs.Format.{entryAt, entries, queryOf, firstStep, lineOf, chain}
 use Rattle.scripts.specs.Form as script
@@ -82,6 +85,24 @@ lentRow lent = row 12 0 (not (leb 512 lent))
 -- Slip 1 of paper 02: "Turned away: 26, after 12, for fewer than 144 bytes in the second buffer, place 0."
 abbrev pub tableRow : ℕ → Row
 tableRow lent = row 26 0 (not (leb 144 lent))
+
+-- Slip 4 of paper 02: "a length past the buffer giving 1"; "then 27, before the new record's own checks, at 512 records or fewer
+-- than 8 free bytes, place the record count (0 when an empty one is being made); role counts over 64 then get 2."
+abbrev pub usedRow : List ℕ → ℕ → Row
+usedRow buffer used = row 1 0 (not (leb used (length buffer)))
+
+abbrev pub roomRow : List ℕ → ℕ → Row
+roomRow v size = row 27 (count v) (not (ltb (count v) 512 && leb (length v + 8) size))
+
+abbrev pub emptyRoomRow : ℕ → Row
+emptyRoomRow size = row 27 0 (not (leb 8 size))
+
+abbrev pub rolesRow : ℕ → Row
+rolesRow roles = row 2 0 (not (leb roles 64))
+
+-- "a term, kinds 1 to 8 (else 3)"
+abbrev pub addableRow : List ℕ → Addition → Row
+addableRow v x = row 3 (count v) (not (isAddable x))
 
 -- | Script length, after 1 to 8 | 13 | under 16, over 32,768 or no multiple of 16 | 0 |
 abbrev pub scriptLengthRow : List ℕ → Row
@@ -181,6 +202,21 @@ classificationTable v lent room =
     ∷ lentRow lent
     ∷ tableRow room
     ∷ []
+
+-- Making an empty vocabulary: 27, 2.
+abbrev pub makingTable : ℕ → ℕ → List Row
+makingTable size roles = emptyRoomRow size ∷ rolesRow roles ∷ []
+
+-- An addition: "the bytes in use first meet 1 to 8", then 27, then "the new record's own checks", which are the reader's at that
+-- record: its number is the record count.
+abbrev pub additionTable : List ℕ → ℕ → Addition → List Row
+additionTable buffer used x =
+    let v = take used buffer in
+    usedRow buffer used
+    ∷ vocabularyTable v
+    ++ roomRow v (length buffer)
+    ∷ addableRow v x
+    ∷ recordRows (grown v x) (count v)
 
 -- "for a script check 1 to 8, 13, 14, 10, then 15 on", of which 13 to 19 are the form:
 abbrev pub formTable : List ℕ → List ℕ → List Row

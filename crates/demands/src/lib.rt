@@ -1,17 +1,21 @@
 // The library's calls: those of the crates below, with the demands and the promises as their contracts. Each says that the
 // answer is the definition's, what that tells a caller (specs/Returns.antt), and what the lent bytes are after the call. Only
-// the comparison and the classification are lent bytes that they may write. That a call ends on every input is part of what
-// the prover checks of every function.
+// the comparison, the classification and the writer are lent bytes that they may write. That a call ends on every input is part
+// of what the prover checks of every function.
 use records::answers::Counted;
 use records::answers::Located;
 use scripts::answers::Judged;
 use taxonomy::answers::Classified;
 use types::answers::Compared;
+use writer::answers::Lengthened;
 ghost use mathlib.Core.Path.{_≡_};
 ghost use lib.ListN.{length};
 ghost use Rattle.records.specs.Answers.{counted, located};
 ghost use Rattle.records.specs.Check.{vocabularyCheck};
 ghost use Rattle.records.specs.Call.{recordCall, recordPart, recordPlace};
+ghost use Rattle.writer.specs.Additions.{term, statement};
+ghost use Rattle.writer.specs.Answers.{lengthened};
+ghost use Rattle.writer.specs.Calls.{making, adding, newLength, bufferAfter};
 ghost use Rattle.types.specs.Answers.{compared};
 ghost use Rattle.types.specs.Comparison.{comparison};
 ghost use Rattle.types.specs.Bitmap.{written};
@@ -20,7 +24,7 @@ ghost use Rattle.taxonomy.specs.Taxonomy.{classification, firstAfter, secondAft
 ghost use Rattle.scripts.specs.Answers.{judged};
 ghost use Rattle.scripts.specs.Run.{scriptCheck};
 ghost use Rattle.demands.specs.Returns.{VocabularyReturns, OffsetReturns, RecordReturns, ComparisonReturns};
-ghost use Rattle.demands.specs.Returns.{ClassificationReturns, ScriptReturns};
+ghost use Rattle.demands.specs.Returns.{ClassificationReturns, ScriptReturns, MakingReturns, AdditionReturns};
 
 // The vocabulary check.
 pub fn check_vocabulary(v: &[u8]) -> Counted
@@ -82,4 +86,33 @@ pub fn check_script(v: &[u8], s: &[u8]) -> Judged
     ensures { λ _. ⌜ now (s .exit) ≡ now (s .entry) ⌝ }
 {
     scripts::check_script(v, s)
+}
+
+// An empty vocabulary in a lent buffer.
+pub fn make_vocabulary(buffer: &mut [u8], roles: u32) -> Lengthened
+    ensures { λ r. ⌜ lengthened r ≡ newLength (making (length (now (buffer .entry))) roles) ⌝ }
+    ensures { λ _. ⌜ now (buffer .exit) ≡ bufferAfter (making (length (now (buffer .entry))) roles) (now (buffer .entry)) ⌝ }
+    ensures { λ r. ⌜ MakingReturns (now (buffer .entry)) roles (now (buffer .exit)) r ⌝ }
+{
+    writer::make_vocabulary(buffer, roles)
+}
+
+// A term behind the bytes in use.
+pub fn add_term(buffer: &mut [u8], used: usize, kind: u8, a: u16, b: u16) -> Lengthened
+    ensures { λ r. ⌜ lengthened r ≡ newLength (adding (now (buffer .entry)) used (term kind a b)) ⌝ }
+    ensures { λ _. ⌜ now (buffer .exit)
+        ≡ bufferAfter (adding (now (buffer .entry)) used (term kind a b)) (now (buffer .entry)) ⌝ }
+    ensures { λ r. ⌜ AdditionReturns (now (buffer .entry)) used (term kind a b) (now (buffer .exit)) r ⌝ }
+{
+    writer::add_term(buffer, used, kind, a, b)
+}
+
+// A statement behind the bytes in use, at the end of their chain.
+pub fn add_statement(buffer: &mut [u8], used: usize, a: u16, b: u16) -> Lengthened
+    ensures { λ r. ⌜ lengthened r ≡ newLength (adding (now (buffer .entry)) used (statement a b)) ⌝ }
+    ensures { λ _. ⌜ now (buffer .exit)
+        ≡ bufferAfter (adding (now (buffer .entry)) used (statement a b)) (now (buffer .entry)) ⌝ }
+    ensures { λ r. ⌜ AdditionReturns (now (buffer .entry)) used (statement a b) (now (buffer .exit)) r ⌝ }
+{
+    writer::add_statement(buffer, used, a, b)
 }

@@ -1,5 +1,6 @@
 -- Checks in order: what a chain of checks answers, what one turn of checks in turn does, and what passed checks tell.
 --   then-assoc, then-pass                      checks one after the other, whichever are taken together; and none after them
+--   then-same                                  what comes after a check that passed
 --   then-refused, then-refused-as, then-fine   a chain `a then b` where the first check refuses, or passes
 --   require-test                               a row whose test was made by a call
 --   checked-fine                               a check whose answer is `Fine`
@@ -22,6 +23,11 @@ use Rattle.records.proofs.Laws.Tests.{clash}
 pub then-assoc : {A B C : Type 0} (a : Outcome A) (b : Outcome B) (c : Outcome C) → ((a then b) then c) ≡ (a then b then c)
 then-assoc (accepted x) b c = refl
 then-assoc (refused n p) b c = refl
+
+-- what comes after a check matters where that passed
+pub then-same : {B : Type 0} (a : Check) (b c : Outcome B) → (a ≡ pass → b ≡ c) → (a then b) ≡ (a then c)
+then-same (accepted u) b c h = h refl
+then-same (refused n p) b c h = refl
 
 pub then-pass : (a : Check) → (a then pass) ≡ a
 then-pass (accepted u) = refl

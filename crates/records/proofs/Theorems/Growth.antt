@@ -1,7 +1,7 @@
 -- A vocabulary with one record more, and the link that reaches it.
 --   relink, Grows                what w has of v: all but the new record and a link
 --   grown-count                  there is one record more
---   fields-same                  a record's rows look at the records before it
+--   fields-same, grown-record    a record's rows look at the records before it, and so do those of the new one
 --   grows-records, grows-check   rows 1 to 8, and the vocabulary check, of w are those of the new record
 --   chain-kept, chain-grown      the chain of w
 -- Assumes nothing.
@@ -132,9 +132,9 @@ module _ (v w : List ℕ) (r : Record) (well : IsWellFormed v) (few : count v < 
       at (inl e) = inl (grows .next j p h ∙ e)
       at (inr e) = inr (subst (IsStatement v) (sym (e .1)) (end-statement v good (omega (arith, e .1)) .target))
 
-  record-new : recordCheck w (count v) ≡ fieldsCheck v (count v) r
+  pub grown-record : recordCheck w (count v) ≡ fieldsCheck v (count v) r
   unfolding recordCheck
-  record-new = rw (grows .new) (fields-same (count v) r (omega arith))
+  grown-record = rw (grows .new) (fields-same (count v) r (omega arith))
 
   abbrev passed : RowsPassed v
   passed = well-formed-rows v well
@@ -147,7 +147,7 @@ module _ (v w : List ℕ) (r : Record) (well : IsWellFormed v) (few : count v < 
       (λ k l h. record-same k l (omega arith) ∙ passed .each k l (omega arith)) in
       ap (λ (n : ℕ). inTurn (recordCheck w) 1 n) more
       ∙ turns-last (recordCheck w) (count v - 1) 1
-      ∙ rw (each, last) record-new
+      ∙ rw (each, last) grown-record
 
   length-grown : lengthCheck w ≡ pass
   length-grown =

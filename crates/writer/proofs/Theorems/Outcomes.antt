@@ -1,11 +1,12 @@
 -- What an addition comes to: the code's checks, of which the last is of the new record alone, and then the grown bytes.
---   addition-checks, adding-checks   an addition is those checks, and then the grown bytes
---   reader-own                       the reader's check of the grown bytes is that of the new record
+--   reader-own, record-own           the reader's check of the grown bytes is that of the new record
+--   addition-checks, adding-checks   an addition is the code's checks, and then the grown bytes
+--   length-then, adding-rows         the new length, after the rows of an addition
 --   Fit, checks-fit, fit-small       what passed checks tell
 --   adding-refused, adding-fine      the outcome, by what the checks answered
 --   Succeeded, adding-succeeded      an addition that succeeded
 -- Assumes nothing.
-use Prim.Native.Nat.{ℕ, _+_, _*_, _≤_, _<_}
+use Prim.Native.Nat.{ℕ, suc, _+_, _*_, _≤_, _<_}
 use native.Mathlib.Omega.{arith}
 use mathlib.Core.Path.{_≡_, refl, sym, ap, _∙_}
 use mathlib.Core.Bool.{Bool, true, false, _&&_}
@@ -17,23 +18,35 @@ use borrow.Author.Tests.{ltb-true, leb-true}
 use Rattle.records.specs.Outcome.{Outcome, Check, accepted, refused, pass, _then_, require}
 use Rattle.records.specs.Answers.{checked}
 use Rattle.records.specs.Format.{recordSize, recordLimit, count}
-use Rattle.records.specs.Check.{recordsCheck, fieldsCheck, vocabularyCheck, IsWellFormed}
+use Rattle.records.specs.Check.{recordsCheck, fieldsCheck, recordCheck, vocabularyCheck, IsWellFormed}
 use Rattle.records.specs.declared.answers.Checked.{Checked}
 use Rattle.records.specs.declared.answers.Checked.the-variants.{Fine, Refused}
 use Rattle.records.specs.declared.fields.Record.{Record}
 use Rattle.records.proofs.Laws.Tests.{clash, both-left, both-right}
-use Rattle.records.proofs.Laws.Checks.{then-assoc, require-passed, then-passed, checked-fine}
+use Rattle.records.proofs.Laws.Checks.{then-assoc, then-same, require-passed, then-passed, checked-fine}
 use Rattle.records.proofs.Theorems.Accepted.{well-formed-vocabulary, vocabulary-then}
-use Rattle.records.proofs.Theorems.Growth.{grows-check}
+use Rattle.records.proofs.Theorems.Growth.{Grows, grows-check, grown-record}
 use Rattle.writer.specs.Additions.{Addition, term, statement, newRecord, grown}
 use Rattle.writer.specs.Calls.{roomCheck, isAddable, addition, adding, newLength}
 use Rattle.writer.specs.Code.Checks.{newRecordCheck, additionCheck}
-use Rattle.writer.proofs.Theorems.Grown.{grown-grows}
+use Rattle.writer.proofs.Theorems.Grown.{grown-length, grown-grows}
+
+-- four checks, taken together
+regroup : {B : Type 0} (a b c d : Check) (o : Outcome B) → (a then b then c then d then o) ≡ ((a then b then c then d) then o)
+regroup (accepted u) (accepted w) (accepted z) d o = refl
+regroup (accepted u) (accepted w) (refused n p) d o = refl
+regroup (accepted u) (refused n p) c d o = refl
+regroup (refused n p) b c d o = refl
 
 -- nothing comes after the new record
 pub new-ends : (x : Addition) → newRecord x .next ≡ 0
 new-ends (term kind a b) = refl
 new-ends (statement a b) = refl
+
+-- the new length, after checks
+pub length-then : (c : Check) (w : List ℕ) → newLength (c then accepted w) ≡ (c then accepted (length w))
+length-then (accepted u) w = refl
+length-then (refused n p) w = refl
 
 module _ (v : List ℕ) (size : ℕ) (x : Addition) where
   abbrev roomy : Bool
@@ -45,34 +58,36 @@ module _ (v : List ℕ) (size : ℕ) (x : Addition) where
   abbrev rest : Outcome (List ℕ)
   rest = require (isAddable x) 3 (count v) then vocabularyCheck (grown v x) then accepted (grown v x)
 
-  -- The reader's check of the bytes with the record is that of the record.
-  pub reader-own : IsWellFormed v → count v < recordLimit → isAddable x ≡ true
-      → (vocabularyCheck (grown v x) then accepted (grown v x)) ≡ (own then accepted (grown v x))
-  reader-own well few is =
-      rw (grows-check v (grown v x) (newRecord x) well few (grown-grows v (well-formed-vocabulary v well) x is) (new-ends x))
-      (then-assoc own (accepted _) (accepted (grown v x)))
+  -- What a record that passed rows 1 to 8, 27 and 3 is checked for.
+  module _ (well : recordsCheck v ≡ pass) (fits : roomCheck v size ≡ pass) (is : require (isAddable x) 3 (count v) ≡ pass) where
+    few : count v < recordLimit
+    few =
+        ltb-true (count v) recordLimit
+        (both-left (ltb (count v) recordLimit) (leb (length v + recordSize) size) (require-passed roomy 27 (count v) fits))
+
+    grows : Grows v (grown v x) (newRecord x)
+    grows = grown-grows v (well-formed-vocabulary v well) x (require-passed (isAddable x) 3 (count v) is)
+
+    -- the reader's check of the bytes with the record is that of the record
+    pub reader-own : {B : Type 0} (o : Outcome B) → (vocabularyCheck (grown v x) then o) ≡ (own then o)
+    reader-own o =
+        rw (grows-check v (grown v x) (newRecord x) well few grows (new-ends x)) (then-assoc own (accepted (suc (count v))) o)
+
+    pub record-own : recordCheck (grown v x) (count v) ≡ own
+    record-own = grown-record v (grown v x) (newRecord x) well few grows
 
   pub addition-checks : addition v size x ≡ (newRecordCheck v size (isAddable x) (newRecord x) then accepted (grown v x))
   unfolding addition newRecordCheck
-  addition-checks = vocabulary-then v (roomCheck v size) rest ∙ first (recordsCheck v) refl
-    where
-      third : (is : Bool) → isAddable x ≡ is → IsWellFormed v → count v < recordLimit
-          → (require is 3 (count v) then vocabularyCheck (grown v x) then accepted (grown v x))
-          ≡ ((require is 3 (count v) then own) then accepted (grown v x))
-      third true e well few = reader-own well few e
-      third false e well few = refl
-
-      second : (b : Bool) → roomy ≡ b → IsWellFormed v
-          → (require b 27 (count v) then rest)
-          ≡ ((require b 27 (count v) then require (isAddable x) 3 (count v) then own) then accepted (grown v x))
-      second true e well = third (isAddable x) refl well (ltb-true (count v) recordLimit (both-left _ _ e))
-      second false e well = refl
-
-      first : (o : Check) → recordsCheck v ≡ o
-          → ((o then roomCheck v size) then rest)
-          ≡ ((o then roomCheck v size then require (isAddable x) 3 (count v) then own) then accepted (grown v x))
-      first (accepted u) e = second roomy refl e
-      first (refused n p) e = refl
+  addition-checks =
+      let is = require (isAddable x) 3 (count v) in
+      let done = accepted (grown v x) in
+      vocabulary-then v (roomCheck v size) rest
+      ∙ then-assoc (recordsCheck v) (roomCheck v size) rest
+      ∙ then-same (recordsCheck v) (roomCheck v size then rest) (roomCheck v size then is then own then done)
+      (λ well. then-same (roomCheck v size) rest (is then own then done)
+      (λ fits. then-same is (vocabularyCheck (grown v x) then done) (own then done)
+      (λ adds. reader-own well fits adds done)))
+      ∙ regroup (recordsCheck v) (roomCheck v size) is own done
 
 -- What passed checks tell of the buffer, and of the addition.
 pub record Fit (buffer : List ℕ) (used : ℕ) (x : Addition) : Type 0 where
@@ -123,6 +138,39 @@ module _ (buffer : List ℕ) (used : ℕ) (x : Addition) where
         addable = require-passed (isAddable x) 3 (count inUse) (d .0);
         own = d .1;
       }
+
+  length-fit : Fit buffer used x → length (grown inUse x) ≡ used + recordSize
+  length-fit fit =
+      grown-length inUse (well-formed-vocabulary inUse (fit .well)) x
+      ∙ ap (λ (n : ℕ). n + recordSize) (length-take-le used buffer (fit .within))
+
+  -- The rows of an addition, the last of them those of the reader at the new record.
+  abbrev pub rows : Check
+  rows =
+      require (leb used (length buffer)) 1 0
+      then recordsCheck inUse
+      then roomCheck inUse (length buffer)
+      then require (isAddable x) 3 (count inUse)
+      then recordCheck (grown inUse x) (count inUse)
+
+  checks-rows : checks ≡ rows
+  unfolding additionCheck newRecordCheck
+  checks-rows =
+      let is = require (isAddable x) 3 (count inUse) in
+      let room = roomCheck inUse (length buffer) in
+      let new = fieldsCheck inUse (count inUse) (newRecord x) in
+      let read = recordCheck (grown inUse x) (count inUse) in
+      ap (λ (o : Check). require (leb used (length buffer)) 1 0 then o)
+      (then-same (recordsCheck inUse) (room then is then new) (room then is then read)
+      (λ well. then-same room (is then new) (is then read)
+      (λ fits. then-same is new read (λ adds. sym (record-own inUse (length buffer) x well fits adds)))))
+
+  pub adding-rows : newLength (adding buffer used x) ≡ (rows then accepted (used + recordSize))
+  adding-rows =
+      ap newLength (adding-checks ∙ ap (λ (c : Check). c then accepted (grown inUse x)) checks-rows)
+      ∙ length-then rows (grown inUse x)
+      ∙ then-same rows (accepted (length (grown inUse x))) (accepted (used + recordSize))
+      (λ e. ap (λ (n : ℕ). accepted n) (length-fit (checks-fit (checks-rows ∙ e))))
 
   module _ (k : Checked) (e : checked k ≡ checks) where
     pub adding-refused : (n p : ℕ) → k ≡ Refused n p → adding buffer used x ≡ refused n p
