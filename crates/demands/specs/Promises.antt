@@ -112,10 +112,10 @@ pub record Built (lent : List ℕ) (roles : ℕ) (l : List Addition) (after : Li
 
 -- "reading the buffer shows exactly those terms and statements in their order": the vocabulary check accepts the bytes, with the
 -- header and a record for each; the records from 1 on are the additions, and the statements on the chain those among them.
-pub record Shows (v : List ℕ) (roles : ℕ) (l : List Addition) : Type 0 where
+pub record Shows (v : List ℕ) (n : ℕ) (l : List Addition) : Type 0 where
   pub accepts : AcceptedVocabulary v
   pub counted : vocabularyCheck v ≡ accepted (1 + length l)
-  pub roles : roleCount v ≡ roles
+  pub roles : roleCount v ≡ n
   pub records : contents v ≡ l
   pub statements : stated v ≡ statementsOf l
 

@@ -4,6 +4,8 @@
 --   check-unpacked               the vocabulary check's
 --   record-unpacked              the record call's
 --   script-unpacked              the script check's
+--   making-unpacked,
+--   addition-unpacked            those of the writer's calls
 --   Verdicts, compare-unpacked   the comparison's
 --   Counted, classify-unpacked   the classification's
 -- Assumes nothing.
@@ -17,12 +19,15 @@ use Rattle.records.specs.Outcome.{Outcome, accepted, refused}
 use Rattle.records.specs.Check.{vocabularyCheck}
 use Rattle.records.specs.Call.{recordCall}
 use Rattle.records.proofs.Laws.Tests.{clash}
+use Rattle.writer.specs.Additions.{Addition}
+use Rattle.writer.specs.Calls.{making, adding, newLength}
 use Rattle.types.specs.Comparison.{Verdict, equal, different, comparison}
 use Rattle.types.specs.declared.answers.Counts.{Counts}
 use Rattle.taxonomy.specs.Taxonomy.{classification}
 use Rattle.scripts.specs.Run.{scriptCheck}
 use Rattle.demands.proofs.Theorems.Bounds.{Small, SmallVerdict, vocabulary-small, record-small, most, comparison-small}
-use Rattle.demands.proofs.Theorems.Bounds.{SmallCounts, classification-small, mostPlace, script-small}
+use Rattle.demands.proofs.Theorems.Bounds.{SmallCounts, classification-small, mostPlace, script-small, making-small}
+use Rattle.demands.proofs.Theorems.Bounds.{addition-small}
 use Rattle.scripts.proofs.Theorems.Form.{query-below}
 use Rattle.judge.specs.Packed.{numberOf, valueOf, packed, packedVerdict, packedCounts}
 
@@ -57,6 +62,12 @@ pub script-unpacked : (v s : List ℕ) → ((i : ℕ) → getD s i 0 < 256) → 
 script-unpacked v s bytes =
     let query = query-below s bytes in
     unpacked (mostPlace s) (scriptCheck v s) (omega (arith, query .0, query .1)) (script-small v s)
+
+pub making-unpacked : (size roles : ℕ) → Unpacked (newLength (making size roles))
+making-unpacked size roles = unpacked (recordSize * recordLimit) _ (omega arith) (making-small size roles)
+
+pub addition-unpacked : (buffer : List ℕ) (used : ℕ) (x : Addition) → Unpacked (newLength (adding buffer used x))
+addition-unpacked buffer used x = unpacked (recordSize * recordLimit) _ (omega arith) (addition-small buffer used x)
 
 -- What the bits of the comparison's number are.
 abbrev pub Verdicts : ℕ → Outcome Verdict → Type 0

@@ -5,16 +5,20 @@ use records::answers::Located;
 use scripts::answers::Judged;
 use taxonomy::answers::Classified;
 use types::answers::Compared;
+use writer::answers::Lengthened;
 ghost use mathlib.Core.Path.{_≡_};
 ghost use Prim.Native.Nat.{_+_, _*_, _<_, _^_};
 ghost use lib.ListN.{length};
 ghost use Rattle.records.specs.Check.{vocabularyCheck};
 ghost use Rattle.records.specs.Call.{recordCall};
+ghost use Rattle.writer.specs.Additions.{term, statement};
+ghost use Rattle.writer.specs.Answers.{lengthened};
+ghost use Rattle.writer.specs.Calls.{making, adding, newLength, bufferAfter};
 ghost use Rattle.types.specs.Comparison.{comparison};
 ghost use Rattle.types.specs.Bitmap.{written};
 ghost use Rattle.taxonomy.specs.Taxonomy.{classification, firstAfter, secondAfter};
 ghost use Rattle.scripts.specs.Run.{scriptCheck};
-ghost use Rattle.judge.specs.Packed.{packed, flag, packedParts, packedVerdict, packedCounts};
+ghost use Rattle.judge.specs.Packed.{valueOf, packed, flag, packedParts, packedVerdict, packedCounts};
 
 // Bits 0 to 7: the refusal's number, or 0. Bits 8 to 39: its place, or the value answered.
 fn pack(number: u8, value: usize) -> u64
@@ -122,4 +126,41 @@ pub extern "C" fn judge_check_script(vocabulary: &[u8], script: &[u8]) -> u64
         Judged::Accepted(steps) => pack(0, steps),
         Judged::Refused { number, place } => pack(number, place),
     }
+}
+
+// The number of a new length, or of its refusal.
+fn pack_length(answer: Lengthened) -> u64
+    requires { ⌜ valueOf (lengthened answer) < 2 ^ 32 ⌝ }
+    ensures { λ r. ⌜ r ≡ packed (lengthened answer) ⌝ }
+{
+    match answer {
+        Lengthened::Length(length) => pack(0, length),
+        Lengthened::Refused { number, place } => pack(number, place),
+    }
+}
+
+#[no_mangle]
+pub extern "C" fn judge_make_vocabulary(buffer: &mut [u8], roles: u32) -> u64
+    ensures { λ r. ⌜ r ≡ packed (newLength (making (length (now (buffer .entry))) roles)) ⌝ }
+    ensures { λ _. ⌜ now (buffer .exit) ≡ bufferAfter (making (length (now (buffer .entry))) roles) (now (buffer .entry)) ⌝ }
+{
+    pack_length(demands::make_vocabulary(buffer, roles))
+}
+
+#[no_mangle]
+pub extern "C" fn judge_add_term(buffer: &mut [u8], used: usize, kind: u8, a: u16, b: u16) -> u64
+    ensures { λ r. ⌜ r ≡ packed (newLength (adding (now (buffer .entry)) used (term kind a b))) ⌝ }
+    ensures { λ _. ⌜ now (buffer .exit)
+        ≡ bufferAfter (adding (now (buffer .entry)) used (term kind a b)) (now (buffer .entry)) ⌝ }
+{
+    pack_length(demands::add_term(buffer, used, kind, a, b))
+}
+
+#[no_mangle]
+pub extern "C" fn judge_add_statement(buffer: &mut [u8], used: usize, a: u16, b: u16) -> u64
+    ensures { λ r. ⌜ r ≡ packed (newLength (adding (now (buffer .entry)) used (statement a b))) ⌝ }
+    ensures { λ _. ⌜ now (buffer .exit)
+        ≡ bufferAfter (adding (now (buffer .entry)) used (statement a b)) (now (buffer .entry)) ⌝ }
+{
+    pack_length(demands::add_statement(buffer, used, a, b))
 }

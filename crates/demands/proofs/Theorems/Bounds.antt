@@ -7,24 +7,29 @@
 --   most, comparison-small                   the verdict's numbers are at most 2^12
 --   classification-small                     the counts are at most 2^12, the place 512
 --   mostPlace, script-small                  the steps or place are at most 2,048, or a number of the query
+--   making-small, addition-small             the new length is at most 4,096
 -- Assumes nothing.
 use Prim.Native.Nat.{ℕ, zero, suc, _+_, _-_, _*_, _≤_, _<_, max}
 use native.Mathlib.Omega.{arith}
 use mathlib.Core.Path.{_≡_, refl}
-use mathlib.Core.Bool.{Bool, true, false, not}
+use mathlib.Core.Bool.{Bool, true, false, not, _&&_}
 use mathlib.Core.List.{List, [], _∷_, _++_, tail}
-use lib.Dec.{ltb}
-use borrow.Author.Tests.{ltb-true}
+use lib.ListN.{length, take}
+use lib.Seq.{length-take-le}
+use lib.Dec.{ltb, leb}
+use borrow.Author.Tests.{ltb-true, leb-true, not-false}
 use Rattle.records.specs.Outcome.{Outcome, Check, accepted, refused, _then_, require}
 use Rattle.records.specs.Format.{recordSize, recordLimit, count}
 use Rattle.records.specs.Check.{lengthFits, vocabularyCheck}
 use Rattle.records.specs.Call.{recordCall}
 use Rattle.records.specs.Atoms.{atoms}
-use Rattle.records.proofs.Laws.Tests.{clash}
+use Rattle.records.proofs.Laws.Tests.{clash, both-left}
 use Rattle.records.proofs.Theorems.Accepted.{Sized, length-passed}
 use Rattle.records.proofs.Laws.Checks.{require-passed}
 use Rattle.records.proofs.Laws.Lists.{All}
 use Rattle.records.proofs.Theorems.Ranks.{rank-bound}
+use Rattle.writer.specs.Additions.{Addition, grown}
+use Rattle.writer.specs.Calls.{making, adding, newLength}
 use Rattle.types.specs.declared.answers.Counts.{Counts}
 use Rattle.types.specs.Comparison.{Verdict, equal, different, typeLimit, comparison}
 use Rattle.types.proofs.Theorems.Survivors.{types-bound, rounds-bound, survivors-serving, survivors-few}
@@ -38,10 +43,11 @@ use Rattle.scripts.specs.Run.{scriptCheck}
 use Rattle.scripts.proofs.Theorems.Form.{OnChain, KeepsForm, length-sized, keeps-form, chain-ahead, chain-few}
 use Rattle.demands.specs.Table.{Row, row, rowsInTurn, recordRows, nextRows, vocabularyTable, recordTable, termRow}
 use Rattle.demands.specs.Table.{comparisonTable, classificationTable, entryRows, firstStepRow, nextStepRows, formTable}
+use Rattle.demands.specs.Table.{makingTable, roomRow, addableRow, additionTable}
 use Rattle.demands.specs.Table.{OpenFrames, framesAfter, stepRows, laterRows, chainTable, NoneApplies, Refuses, Follows}
 use Rattle.demands.proofs.Laws.Rows.{first, row-passed, refuses-first}
 use Rattle.demands.proofs.Theorems.Tables.{form-passed, vocabulary-follows, record-follows, comparison-follows}
-use Rattle.demands.proofs.Theorems.Tables.{classification-follows, script-follows}
+use Rattle.demands.proofs.Theorems.Tables.{classification-follows, script-follows, making-follows, addition-follows}
 
 -- A refusal's number is not 0 and fits a byte, and its place is at most m.
 abbrev pub Near : ℕ → ℕ → ℕ → Type 0
@@ -261,3 +267,41 @@ script-small v s =
     let chained = chain-within m s (chain s) (omega (arith, f .sized .most)) (chain-ahead v s f) in
     near-bounded m (chainTable v s (chain s)) (chain-near m v s (chain s) chained)))
     (λ none. omega (arith, kept-form v s (none-left begun _ none) .sized .most, chain-few s (firstStep s)))
+
+pub making-small : (size roles : ℕ) → Small (recordSize * recordLimit) (newLength (making size roles))
+making-small size roles =
+    let m = recordSize * recordLimit in
+    small m (making-follows size roles) (near-bounded m (makingTable size roles) (omega arith)) (λ none. omega arith)
+
+module _ (buffer : List ℕ) (used : ℕ) (x : Addition) where
+  abbrev inUse : List ℕ
+  inUse = take used buffer
+
+  abbrev lengthLimit : ℕ
+  lengthLimit = recordSize * recordLimit
+
+  -- the rows of the new record, and those before them
+  abbrev newRows : List Row
+  newRows =
+      roomRow inUse (length buffer) ∷ addableRow inUse x ∷ recordRows (grown inUse x) (count inUse)
+
+  addition-bounded : Bounded lengthLimit (additionTable buffer used x)
+  addition-bounded = (
+    omega arith,
+    λ q. bounded-append lengthLimit (vocabularyTable inUse) newRows (vocabulary-bounded lengthLimit (omega arith) inUse)
+        (λ none. let sized = measured inUse (none .0) in near-bounded lengthLimit newRows (omega arith)),
+  )
+
+  -- an accepted vocabulary of less than 512 records, and one record more
+  added-few : NoneApplies (additionTable buffer used x) → used + recordSize ≤ lengthLimit
+  added-few none =
+      let sized = measured inUse (none-left (vocabularyTable inUse) newRows (none .1) .0) in
+      let roomy = none-right (vocabularyTable inUse) newRows (none .1) .0 in
+      let fits = not-false (ltb (count inUse) recordLimit && leb (length inUse + recordSize) (length buffer)) roomy in
+      let few = ltb-true (count inUse) recordLimit
+      (both-left (ltb (count inUse) recordLimit) (leb (length inUse + recordSize) (length buffer)) fits) in
+      let within = leb-true used (length buffer) (not-false (leb used (length buffer)) (none .0)) in
+      omega (arith, length-take-le used buffer within)
+
+  pub addition-small : Small lengthLimit (newLength (adding buffer used x))
+  addition-small = small lengthLimit (addition-follows buffer used x) addition-bounded added-few

@@ -2,12 +2,14 @@
 -- Assumes nothing.
 use lib.ListN.{length}
 use Rattle.records.specs.Format.{count}
+use Rattle.writer.specs.Calls.{making, adding}
+use Rattle.writer.proofs.Theorems.Outcomes.{refused-length}
 use Rattle.types.specs.Comparison.{verdict}
 use Rattle.types.proofs.Theorems.Verdicts.{answers-always}
 use Rattle.scripts.proofs.Theorems.Scripts.{checked-parts, accepted-derives, derives-accepted, accepted-within}
 use Rattle.demands.specs.Demands.{Demand1, Demand2, Demand3}
 use Rattle.demands.proofs.Theorems.Tables.{form-passed, term-passed, vocabulary-follows, record-follows}
-use Rattle.demands.proofs.Theorems.Tables.{comparison-follows, classification-follows, script-follows}
+use Rattle.demands.proofs.Theorems.Tables.{comparison-follows, classification-follows, script-follows, making-follows, addition-follows}
 use Rattle.demands.proofs.Theorems.Denials.{right-verdict}
 
 pub demand-1 : Demand1
@@ -18,8 +20,12 @@ demand-1 =
       compares = comparison-follows;
       classifies = classification-follows;
       checks = script-follows;
+      makes = making-follows;
+      adds = addition-follows;
       untouched = λ v a b n p lent e. rw e;
       both-untouched = λ v lent room n p e. (rw e, rw e);
+      unmade = λ lent roles n p e. rw (refused-length (making (length lent) roles) n p e);
+      unadded = λ buffer used n p x e. rw (refused-length (adding buffer used x) n p e);
       empty = λ v number n p e. rw e;
     }
 

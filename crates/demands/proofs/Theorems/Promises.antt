@@ -1,6 +1,7 @@
 -- The promises of the requests, proved: specs/Promises.antt states them.
 --   right-entry, right-table   an entry, and the second buffer, of a vocabulary that is compared
 --   nearest-names              slip 1
+--   writes-vocabularies        slip 4 (Writing has it)
 -- Assumes nothing.
 use Prim.Native.Nat.{ℕ, _≤_}
 use native.Mathlib.Omega.{arith}
@@ -21,6 +22,7 @@ use Rattle.taxonomy.proofs.Theorems.Entries.{taxonomy-entry, taxonomy-rest, len
 use Rattle.taxonomy.proofs.Theorems.Answers.{answers-always}
 use Rattle.demands.specs.Promises.{RightEntry, RightTable, NearestNames}
 use Rattle.demands.proofs.Theorems.Tables.{vocabulary-follows, term-passed}
+pub use Rattle.demands.proofs.Theorems.Writing.{writes-vocabularies, addition-accepted}
 
 module _ (v : List ℕ) (good : AcceptedFacts v) (few : atoms v ≤ atomLimit) where
   right-entry : (a b : ℕ) → RightEntry v a b (entry v a b)

@@ -1,6 +1,7 @@
 -- What the calls return, from the equations of their contracts.
 --   vocabulary-returns, offset-returns, record-returns,
---   comparison-returns, classification-returns, script-returns   of each call
+--   comparison-returns, classification-returns, script-returns,
+--   making-returns, addition-returns                             of each call
 --   survivors-told                                               what goes with the survivors
 -- Assumes nothing.
 use Prim.Native.Nat.{ℕ, _+_, _≤_}
@@ -17,6 +18,11 @@ use Rattle.records.specs.declared.answers.Counted.the-variants as counted
 use Rattle.records.specs.declared.answers.Located.{Located}
 use Rattle.records.specs.declared.answers.Located.the-variants as located
 use Rattle.records.proofs.Theorems.Bounds.{record-within}
+use Rattle.writer.specs.Additions.{Addition}
+use Rattle.writer.specs.Answers as writer
+use Rattle.writer.specs.Calls.{making, adding, newLength, bufferAfter}
+use Rattle.writer.specs.declared.answers.Lengthened.{Lengthened}
+use Rattle.writer.specs.declared.answers.Lengthened.the-variants as lengthened
 use Rattle.types.specs.declared.answers.Counts.{Counts}
 use Rattle.types.specs.Comparison.{equal, different, countsOf, comparison}
 use Rattle.types.specs.Bitmap.{written}
@@ -39,11 +45,12 @@ use Rattle.scripts.specs.declared.answers.Judged.the-variants as judged
 use Rattle.scripts.proofs.Theorems.Scripts.{checked-parts, accepted-derives, accepted-within}
 use Rattle.demands.specs.Table.{Row, Follows}
 use Rattle.demands.specs.Returns.{VocabularyReturns, OffsetReturns, RecordReturns, handed, empty, SurvivorsTold, Smallest}
-use Rattle.demands.specs.Returns.{ComparisonReturns, ClassificationReturns, ScriptReturns}
-use Rattle.demands.proofs.Theorems.Demands.{demand-2}
-use Rattle.demands.proofs.Theorems.Promises.{right-table}
+use Rattle.demands.specs.Returns.{ComparisonReturns, ClassificationReturns, ScriptReturns, MakingReturns}
+use Rattle.demands.specs.Returns.{AdditionReturns}
+use Rattle.demands.proofs.Theorems.Demands.{demand-1, demand-2}
+use Rattle.demands.proofs.Theorems.Promises.{right-table, writes-vocabularies, addition-accepted}
 use Rattle.demands.proofs.Theorems.Tables.{vocabulary-follows, record-follows, comparison-follows}
-use Rattle.demands.proofs.Theorems.Tables.{classification-follows, script-follows}
+use Rattle.demands.proofs.Theorems.Tables.{classification-follows, script-follows, making-follows, addition-follows}
 use Rattle.demands.proofs.Theorems.Denials.{right-verdict}
 
 pub vocabulary-returns : (v : List ℕ) (r : Counted) → records.counted r ≡ vocabularyCheck v → VocabularyReturns v r
@@ -121,4 +128,26 @@ script-returns v s (judged.Refused n p) e = (
       let accepts = demand-2 .exact v s good kept .always derives in
       let no : refused n p ≡ accepted (length (chain s)) = e ∙ accepts in
       clash (cc),
+)
+
+pub making-returns : (before : List ℕ) (roles : ℕ) (after : List ℕ) (r : Lengthened)
+    → writer.lengthened r ≡ newLength (making (length before) roles)
+    → after ≡ bufferAfter (making (length before) roles) before → MakingReturns before roles after r
+making-returns before roles after (lengthened.Length n) e w =
+    let f = making-follows (length before) roles .accepted-only n (sym e) in
+    (f .0, f .1, w ∙ writes-vocabularies .makes before roles n (sym e))
+making-returns before roles after (lengthened.Refused n p) e w = (
+  making-follows (length before) roles .refused-only n p (sym e),
+  w ∙ demand-1 .unmade before roles n p (sym e),
+)
+
+pub addition-returns : (before : List ℕ) (used : ℕ) (x : Addition) (after : List ℕ) (r : Lengthened)
+    → writer.lengthened r ≡ newLength (adding before used x) → after ≡ bufferAfter (adding before used x) before
+    → AdditionReturns before used x after r
+addition-returns before used x after (lengthened.Length n) e w =
+    let f = addition-follows before used x .accepted-only n (sym e) in
+    rw w (f .0, f .1, rw (f .1) (addition-accepted before used x n (sym e)), writes-vocabularies .only before used n x (sym e))
+addition-returns before used x after (lengthened.Refused n p) e w = (
+  addition-follows before used x .refused-only n p (sym e),
+  w ∙ demand-1 .unadded before used n p x (sym e),
 )

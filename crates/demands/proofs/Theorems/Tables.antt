@@ -2,21 +2,25 @@
 --   tries-vocabulary, tries-form, tries-chain                    rows 1 to 8; 13 to 19; 20 to 25
 --   term-passed, form-passed                                     what row 10, and what the form, lets through
 --   vocabulary-follows, record-follows, comparison-follows,
---   classification-follows, script-follows                       the five calls
+--   making-follows, addition-follows,
+--   classification-follows, script-follows                       the calls
 -- Assumes nothing.
-use Prim.Native.Nat.{ℕ, _*_, _-_}
-use mathlib.Core.Path.{_≡_, refl, sym, _∙_}
+use Prim.Native.Nat.{ℕ, _+_, _*_, _-_}
+use mathlib.Core.Path.{_≡_, refl, sym, ap, _∙_}
 use mathlib.Core.Bool.{_&&_}
 use mathlib.Core.List.{List, [], _∷_}
-use lib.ListN.{length}
+use lib.ListN.{length, take}
 use lib.Dec.{ltb, leb}
 use Rattle.records.specs.Outcome.{Check, accepted, refused, pass, _then_, require}
-use Rattle.records.specs.Format.{recordAt, count, firstStatement}
+use Rattle.records.specs.Format.{recordSize, recordLimit, roleLimit, recordBytes, recordAt, count, firstStatement}
 use Rattle.records.specs.Kinds.{sortsOf, isTerm}
 use Rattle.records.specs.Check.{lengthFits, lengthCheck, headerFits, kindFits, rowFits, recordCheck, linkFits, nextFits}
 use Rattle.records.specs.Check.{linkCheck, recordsCheck, vocabularyCheck}
 use Rattle.records.specs.Call.{recordCall}
 use Rattle.records.specs.Atoms.{atoms}
+use Rattle.writer.specs.Additions.{Addition, grown}
+use Rattle.writer.specs.Calls.{emptyHeader, making, isAddable, adding, newLength}
+use Rattle.writer.proofs.Theorems.Outcomes.{length-then, adding-rows}
 use Rattle.types.specs.Comparison.{verdict, counts, termCheck, atomsCheck, lentCheck, sizeCheck, queryCheck}
 use Rattle.types.specs.Comparison.{atomLimit, bitmapBytes, comparison}
 use Rattle.taxonomy.specs.Taxonomy.{taxonomyBytes, tableCheck, classification}
@@ -27,6 +31,7 @@ use Rattle.scripts.specs.Run.{isStart, connects, reduces, hasRoom, stepCheck, r
 use Rattle.records.proofs.Laws.Checks.{then-assoc}
 use Rattle.records.proofs.Theorems.Accepted.{vocabulary-then}
 use Rattle.demands.specs.Table.{Row, Follows, recordRows, nextRows, vocabularyTable, recordTable, termRow}
+use Rattle.demands.specs.Table.{makingTable, additionTable}
 use Rattle.demands.specs.Table.{comparisonTable, classificationTable, entryRows, nextStepRows, formTable, OpenFrames}
 use Rattle.demands.specs.Table.{framesAfter, stepRows, laterRows, chainTable, scriptTable, TermOf, InForm}
 use Rattle.demands.proofs.Laws.Rows.{none-passed, row-passed, Tries, follows, tries-append, tries-row, tries-plain}
@@ -92,6 +97,25 @@ module _ (v : List ℕ) where
       regroup (accepted u) (accepted w) l t = sym (then-assoc l t (accepted (counts v)))
       regroup (accepted u) (refused n p) l t = refl
       regroup (refused n p) k l t = refl
+
+-- The writer's calls.
+pub making-follows : (size roles : ℕ) → Follows (makingTable size roles) 8 (newLength (making size roles))
+unfolding making
+making-follows size roles =
+    let room = require (leb recordSize size) 27 0 in
+    let few = require (leb roles roleLimit) 2 0 in
+    let made = recordBytes (emptyHeader roles) in
+    follows (tries-row (leb recordSize size) 27 0 (tries-last (leb roles roleLimit) 2 0))
+    (ap newLength (sym (then-assoc room few (accepted made))) ∙ length-then (room then few) made)
+
+pub addition-follows : (buffer : List ℕ) (used : ℕ) (x : Addition)
+    → Follows (additionTable buffer used x) (used + 8) (newLength (adding buffer used x))
+addition-follows buffer used x =
+    let v = take used buffer in
+    let size = length buffer in
+    let new = tries-row (isAddable x) 3 (count v) (tries-record (grown v x) (count v)) in
+    let room = tries-row (ltb (count v) recordLimit && leb (length v + recordSize) size) 27 (count v) new in
+    follows (tries-row (leb used size) 1 0 (tries-append (tries-vocabulary v) room)) (adding-rows buffer used x)
 
 module _ (v s : List ℕ) where
   tries-entry : (i : ℕ) → Tries (entryRows v s i) (script.entryCheck v s i)

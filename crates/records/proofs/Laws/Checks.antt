@@ -1,6 +1,7 @@
 -- Checks in order: what a chain of checks answers, what one turn of checks in turn does, and what passed checks tell.
 --   then-assoc, then-pass                      checks one after the other, whichever are taken together; and none after them
 --   then-same                                  what comes after a check that passed
+--   RefusesAt, require-at, then-at             checks that refuse at one place
 --   then-refused, then-refused-as, then-fine   a chain `a then b` where the first check refuses, or passes
 --   require-test                               a row whose test was made by a call
 --   checked-fine                               a check whose answer is `Fine`
@@ -28,6 +29,21 @@ then-assoc (refused n p) b c = refl
 pub then-same : {B : Type 0} (a : Check) (b c : Outcome B) → (a ≡ pass → b ≡ c) → (a then b) ≡ (a then c)
 then-same (accepted u) b c h = h refl
 then-same (refused n p) b c h = refl
+
+-- A check refuses at a place, or not at all.
+abbrev pub RefusesAt : ℕ → Check → Type 0
+RefusesAt i check = (n p : ℕ) → check ≡ refused n p → p ≡ i
+
+pub require-at : (b : Bool) (k i : ℕ) → RefusesAt i (require b k i)
+require-at true k i n p e = absurd (clash (cc))
+require-at false k i n p e =
+    let same : _≡_ {A = Check} (refused k i) (refused n p) = e in
+    let place : i ≡ p = cc in
+    sym place
+
+pub then-at : (i : ℕ) (a b : Check) → RefusesAt i a → RefusesAt i b → RefusesAt i (a then b)
+then-at i (accepted u) b f g n p e = g n p e
+then-at i (refused m q) b f g n p e = f n p e
 
 pub then-pass : (a : Check) → (a then pass) ≡ a
 then-pass (accepted u) = refl

@@ -1,6 +1,7 @@
 -- A vocabulary with one record more, and the link that reaches it.
 --   relink, Grows                what w has of v: all but the new record and a link
 --   grown-count                  there is one record more
+--   fields-at                    a record's rows refuse at its number
 --   fields-same, grown-record    a record's rows look at the records before it, and so do those of the new one
 --   grows-records, grows-check   rows 1 to 8, and the vocabulary check, of w are those of the new record
 --   chain-kept, chain-grown      the chain of w
@@ -21,13 +22,14 @@ use Rattle.records.specs.Format.{recordSize, recordLimit, recordAt, coun
 use Rattle.records.specs.Kinds.{Sorts, kindOf, isTerm, isStatement, sortsOf}
 use Rattle.records.specs.Chain.{nextStatement, follow, chain, chainEnd}
 use Rattle.records.specs.Check.{lengthFits, lengthCheck, headerFits, headerCheck, named, labelled, termFits, linkFits}
-use Rattle.records.specs.Check.{clear, rowFits, rowsCheck, fieldsCheck, recordCheck, firstStatementCheck, nextFits}
-use Rattle.records.specs.Check.{linkCheck, linksCheck, recordsCheck, IsWellFormed, vocabularyCheck}
+use Rattle.records.specs.Check.{kindFits, kindCheck, clear, rowFits, rowCheck, rowsCheck, fieldsCheck, recordCheck}
+use Rattle.records.specs.Check.{firstStatementCheck, nextFits, linkCheck, linksCheck, recordsCheck, IsWellFormed}
+use Rattle.records.specs.Check.{vocabularyCheck}
 use Rattle.records.specs.declared.fields.Record.{Record}
 use Rattle.records.specs.declared.kinds.Sort.{Sort}
 use Rattle.records.specs.declared.kinds.Sort.the-variants.{Spare, Term, Role, Label, Link}
 use Rattle.records.proofs.Laws.Tests.{clash, both-left, both-right, implies-true}
-use Rattle.records.proofs.Laws.Checks.{then-pass, turns-pass, turns-last}
+use Rattle.records.proofs.Laws.Checks.{then-pass, RefusesAt, require-at, then-at, turns-pass, turns-last}
 use Rattle.records.proofs.Laws.Search.{any-cong}
 use Rattle.records.proofs.Laws.Ranges.{statement-range, statement-kind}
 use Rattle.records.proofs.Theorems.Accepted.{AcceptedFacts, IsStatement, Later, Linked, RowsPassed}
@@ -51,6 +53,16 @@ pub record Grows (v w : List ℕ) (r : Record) : Type 0 where
   pub first : firstStatement w ≡ relink v r 0 (firstStatement v)
   pub next : (j : ℕ) → 0 < j → j < count v → recordAt w j .next ≡ relink v r j (recordAt v j .next)
   pub unlinked : recordAt w 0 .next ≡ recordAt v 0 .next
+
+-- A record's rows refuse at its number.
+pub fields-at : (v : List ℕ) (i : ℕ) (r : Record) → RefusesAt i (fieldsCheck v i r)
+fields-at v i r =
+    let s = sortsOf (r .kind) in
+    let row : (n : ℕ) → RefusesAt i (rowCheck v i n s r) = λ n. require-at (rowFits v i n s r) n i in
+    then-at i (kindCheck r i) (rowsCheck v i s r) (require-at (kindFits r) 3 i)
+    (then-at i (rowCheck v i 4 s r) (rowCheck v i 5 s r then rowCheck v i 6 s r then rowCheck v i 7 s r) (row 4)
+    (then-at i (rowCheck v i 5 s r) (rowCheck v i 6 s r then rowCheck v i 7 s r) (row 5)
+    (then-at i (rowCheck v i 6 s r) (rowCheck v i 7 s r) (row 6) (row 7))))
 
 module _ (v w : List ℕ) (r : Record) (well : IsWellFormed v) (few : count v < recordLimit) (grows : Grows v w r) where
   abbrev good : AcceptedFacts v

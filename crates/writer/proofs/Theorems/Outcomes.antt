@@ -1,10 +1,12 @@
 -- What an addition comes to: the code's checks, of which the last is of the new record alone, and then the grown bytes.
---   reader-own, record-own           the reader's check of the grown bytes is that of the new record
+--   reader-own, ..                   the reader's check of the grown bytes is that of the new record
 --   addition-checks, adding-checks   an addition is the code's checks, and then the grown bytes
---   length-then, adding-rows         the new length, after the rows of an addition
+--   length-then, refused-length      the new length, after checks; a refusal
+--   adding-rows, adding-reader       the new length, after the rows of an addition, and after the reader's
 --   Fit, checks-fit, fit-small       what passed checks tell
 --   adding-refused, adding-fine      the outcome, by what the checks answered
 --   Succeeded, adding-succeeded      an addition that succeeded
+--   Made, making-succeeded           an empty vocabulary that was made
 -- Assumes nothing.
 use Prim.Native.Nat.{ℕ, suc, _+_, _*_, _≤_, _<_}
 use native.Mathlib.Omega.{arith}
@@ -14,10 +16,10 @@ use mathlib.Core.List.{List}
 use lib.ListN.{length, take}
 use lib.Seq.{length-take-le}
 use lib.Dec.{ltb, leb}
-use borrow.Author.Tests.{ltb-true, leb-true}
+use borrow.Author.Tests.{ltb-true, leb-true, le-leb}
 use Rattle.records.specs.Outcome.{Outcome, Check, accepted, refused, pass, _then_, require}
 use Rattle.records.specs.Answers.{checked}
-use Rattle.records.specs.Format.{recordSize, recordLimit, count}
+use Rattle.records.specs.Format.{recordSize, recordLimit, roleLimit, recordBytes, count}
 use Rattle.records.specs.Check.{recordsCheck, fieldsCheck, recordCheck, vocabularyCheck, IsWellFormed}
 use Rattle.records.specs.declared.answers.Checked.{Checked}
 use Rattle.records.specs.declared.answers.Checked.the-variants.{Fine, Refused}
@@ -25,9 +27,9 @@ use Rattle.records.specs.declared.fields.Record.{Record}
 use Rattle.records.proofs.Laws.Tests.{clash, both-left, both-right}
 use Rattle.records.proofs.Laws.Checks.{then-assoc, then-same, require-passed, then-passed, checked-fine}
 use Rattle.records.proofs.Theorems.Accepted.{well-formed-vocabulary, vocabulary-then}
-use Rattle.records.proofs.Theorems.Growth.{Grows, grows-check, grown-record}
+use Rattle.records.proofs.Theorems.Growth.{Grows, grows-records, grows-check, grown-record}
 use Rattle.writer.specs.Additions.{Addition, term, statement, newRecord, grown}
-use Rattle.writer.specs.Calls.{roomCheck, isAddable, addition, adding, newLength}
+use Rattle.writer.specs.Calls.{emptyHeader, making, roomCheck, isAddable, addition, adding, newLength}
 use Rattle.writer.specs.Code.Checks.{newRecordCheck, additionCheck}
 use Rattle.writer.proofs.Theorems.Grown.{grown-length, grown-grows}
 
@@ -47,6 +49,15 @@ new-ends (statement a b) = refl
 pub length-then : (c : Check) (w : List ℕ) → newLength (c then accepted w) ≡ (c then accepted (length w))
 length-then (accepted u) w = refl
 length-then (refused n p) w = refl
+
+-- a refusal is the outcome's own
+pub refused-length : (o : Outcome (List ℕ)) (n p : ℕ) → newLength o ≡ refused n p → o ≡ refused n p
+refused-length (accepted w) n p e = absurd (clash (cc))
+refused-length (refused m q) n p e =
+    let same : _≡_ {A = Outcome ℕ} (refused m q) (refused n p) = e in
+    let number : m ≡ n = cc in
+    let place : q ≡ p = cc in
+    cc
 
 module _ (v : List ℕ) (size : ℕ) (x : Addition) where
   abbrev roomy : Bool
@@ -72,6 +83,9 @@ module _ (v : List ℕ) (size : ℕ) (x : Addition) where
     pub reader-own : {B : Type 0} (o : Outcome B) → (vocabularyCheck (grown v x) then o) ≡ (own then o)
     reader-own o =
         rw (grows-check v (grown v x) (newRecord x) well few grows (new-ends x)) (then-assoc own (accepted (suc (count v))) o)
+
+    pub records-own : recordsCheck (grown v x) ≡ own
+    records-own = grows-records v (grown v x) (newRecord x) well few grows (new-ends x)
 
     pub record-own : recordCheck (grown v x) (count v) ≡ own
     record-own = grown-record v (grown v x) (newRecord x) well few grows
@@ -172,6 +186,21 @@ module _ (buffer : List ℕ) (used : ℕ) (x : Addition) where
       ∙ then-same rows (accepted (length (grown inUse x))) (accepted (used + recordSize))
       (λ e. ap (λ (n : ℕ). accepted n) (length-fit (checks-fit (checks-rows ∙ e))))
 
+  -- Where the bytes in use pass, there is room and the record may be added, the reader's rows of the grown bytes decide.
+  pub adding-reader : used ≤ length buffer → recordsCheck inUse ≡ pass → roomCheck inUse (length buffer) ≡ pass
+      → isAddable x ≡ true → newLength (adding buffer used x) ≡ (recordsCheck (grown inUse x) then accepted (used + recordSize))
+  adding-reader within well fits is =
+      let adds : require (isAddable x) 3 (count inUse) ≡ pass = rw is in
+      adding-rows
+      ∙ rw (
+        le-leb used (length buffer) within,
+        well,
+        fits,
+        adds,
+        record-own inUse (length buffer) x well fits adds,
+        records-own inUse (length buffer) x well fits adds,
+      )
+
   module _ (k : Checked) (e : checked k ≡ checks) where
     pub adding-refused : (n p : ℕ) → k ≡ Refused n p → adding buffer used x ≡ refused n p
     adding-refused n p r = adding-checks ∙ rw (← e, r)
@@ -196,3 +225,22 @@ module _ (buffer : List ℕ) (used : ℕ) (x : Addition) where
           let same : accepted (length (grown inUse x)) ≡ accepted n = h in
           record { fit = checks-fit q; outcome = adding-checks ∙ rw q; long = cc }
       at (refused m p) q h = absurd (clash (cc))
+
+-- An empty vocabulary that was made.
+pub record Made (size roles n : ℕ) : Type 0 where
+  pub few : roles ≤ roleLimit
+  pub outcome : making size roles ≡ accepted (recordBytes (emptyHeader roles))
+  pub long : n ≡ length (recordBytes (emptyHeader roles))
+
+pub making-succeeded : (size roles n : ℕ) → newLength (making size roles) ≡ accepted n → Made size roles n
+unfolding making
+making-succeeded size roles n e = at (leb recordSize size) refl (leb roles roleLimit) refl e
+  where
+    at : (a : Bool) → leb recordSize size ≡ a → (b : Bool) → leb roles roleLimit ≡ b
+        → newLength (require a 27 0 then require b 2 0 then accepted (recordBytes (emptyHeader roles))) ≡ accepted n → Made size roles n
+    at true p true q h =
+        let same : accepted recordSize ≡ accepted n = h in
+        let long : recordSize ≡ n = cc in
+        record { few = leb-true roles roleLimit q; outcome = rw (p, q); long = sym long }
+    at true p false q h = absurd (clash (cc))
+    at false p b q h = absurd (clash (cc))
