@@ -1,27 +1,28 @@
+-- `judge::judge_add_statement` meets its contract. The new length fits its bits (`addition-unpacked`).
+-- Assumes nothing.
+use Prim.Native.Nat.{ℕ, _<_, _^_}
+use mathlib.Core.Path.{sym, ap, subst, _∙_}
+use denote.Ref.{now}
 use borrow.Author.Needs.{needs}
+use Rattle.records.specs.Outcome.{Outcome}
+use Rattle.writer.specs.Additions as additions
+use Rattle.judge.specs.Packed.{valueOf, packed}
+use Rattle.judge.proofs.Unpacked.{addition-unpacked}
 use Rattle.judge.proofs.judge_add_statement.Statement.{statement}
 use Rattle.judge.proofs.judge_add_statement.Tie as tie
-use Rattle.judge.proofs.judge_add_statement.Reads as reads
-use Rattle.judge.proofs.judge_add_statement.Lts as lts
-use Rattle.demands.proofs.add_statement.Reads as add-statement-reads
-use Rattle.judge.proofs.pack_length.Reads as pack-length-reads
 
--- src/lib.rt:165:17
-add-statement-requires : tie.Need-add-statement-requires
-add-statement-requires c κs = search needs
-
--- src/lib.rt:165:5
 pack-length-requires : tie.Need-pack-length-requires
-pack-length-requires c κs = ?
+pack-length-requires c κs =
+    let k = c .before .before in
+    let a = k .before .before .before .args in
+    subst (λ (o : Outcome ℕ). valueOf o < 2 ^ 32) (sym (k .add-statement .ensures .0))
+    (addition-unpacked (now (a .buffer)) (a .used) (additions.statement (a .a) (a .b)) .fits)
 
--- src/lib.rt:159:1
-same-length : tie.Need-same-length
-same-length c = search needs
-
--- src/lib.rt:159:1
 returns : tie.Need-returns
-returns c = ?
+returns c =
+    let e = c .before .before .before .add-statement .ensures in
+    (c .pack-length .ensures ∙ ap packed (e .0), e .1 .0)
 
 pub judge-add-statement-spec : {M : Type 1} → statement M
 judge-add-statement-spec =
-    tie.close (tie.spec add-statement-requires pack-length-requires same-length returns)
+    tie.close (tie.spec (λ c κs. search needs) pack-length-requires (λ c. search needs) returns)

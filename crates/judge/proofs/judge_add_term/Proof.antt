@@ -1,27 +1,28 @@
+-- `judge::judge_add_term` meets its contract. The new length fits its bits (`addition-unpacked`).
+-- Assumes nothing.
+use Prim.Native.Nat.{ℕ, _<_, _^_}
+use mathlib.Core.Path.{sym, ap, subst, _∙_}
+use denote.Ref.{now}
 use borrow.Author.Needs.{needs}
+use Rattle.records.specs.Outcome.{Outcome}
+use Rattle.writer.specs.Additions.{term}
+use Rattle.judge.specs.Packed.{valueOf, packed}
+use Rattle.judge.proofs.Unpacked.{addition-unpacked}
 use Rattle.judge.proofs.judge_add_term.Statement.{statement}
 use Rattle.judge.proofs.judge_add_term.Tie as tie
-use Rattle.judge.proofs.judge_add_term.Reads as reads
-use Rattle.judge.proofs.judge_add_term.Lts as lts
-use Rattle.demands.proofs.add_term.Reads as add-term-reads
-use Rattle.judge.proofs.pack_length.Reads as pack-length-reads
 
--- src/lib.rt:156:17
-add-term-requires : tie.Need-add-term-requires
-add-term-requires c κs = search needs
-
--- src/lib.rt:156:5
 pack-length-requires : tie.Need-pack-length-requires
-pack-length-requires c κs = ?
+pack-length-requires c κs =
+    let k = c .before .before in
+    let a = k .before .before .before .args in
+    subst (λ (o : Outcome ℕ). valueOf o < 2 ^ 32) (sym (k .add-term .ensures .0))
+    (addition-unpacked (now (a .buffer)) (a .used) (term (a .kind) (a .a) (a .b)) .fits)
 
--- src/lib.rt:150:1
-same-length : tie.Need-same-length
-same-length c = search needs
-
--- src/lib.rt:150:1
 returns : tie.Need-returns
-returns c = ?
+returns c =
+    let e = c .before .before .before .add-term .ensures in
+    (c .pack-length .ensures ∙ ap packed (e .0), e .1 .0)
 
 pub judge-add-term-spec : {M : Type 1} → statement M
 judge-add-term-spec =
-    tie.close (tie.spec add-term-requires pack-length-requires same-length returns)
+    tie.close (tie.spec (λ c κs. search needs) pack-length-requires (λ c. search needs) returns)

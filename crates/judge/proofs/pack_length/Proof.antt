@@ -1,41 +1,32 @@
+-- `judge::pack_length` meets its contract. The arm that was taken tells the answer.
+-- Assumes nothing.
+use Prim.Native.Nat.{_<_, _^_}
+use native.Mathlib.Omega.{arith}
+use mathlib.Core.Path.{_∙_, ap, subst}
 use borrow.Author.Needs.{needs}
+use Rattle.writer.specs.Answers.{lengthened}
+use Rattle.writer.specs.declared.answers.Lengthened.{Lengthened}
+use Rattle.judge.specs.Packed.{valueOf, packed}
 use Rattle.judge.proofs.pack_length.Statement.{statement}
 use Rattle.judge.proofs.pack_length.Tie as tie
-use Rattle.judge.proofs.pack_length.Reads as reads
-use Rattle.judge.proofs.pack_length.Lts as lts
-use Rattle.judge.proofs.pack.Reads as pack-reads
 
--- src/lib.rt:137:28
-enum-known-answer : tie.Need-enum-known-answer
-enum-known-answer c = search needs
-
--- src/lib.rt:137:39
 pack-requires : tie.Need-pack-requires
-pack-requires c κs = ?
+pack-requires c κs =
+    subst (λ (r : Lengthened). valueOf (lengthened r) < 2 ^ 32) (c .before .answer .given .1)
+    (c .before .before .before .pre)
 
--- src/lib.rt:138:31
-enum-known-answer-2 : tie.Need-enum-known-answer-2
-enum-known-answer-2 c = search needs
-
--- src/lib.rt:138:50
 pack-requires-2 : tie.Need-pack-requires-2
-pack-requires-2 c κs = ?
+pack-requires-2 c κs =
+    subst (λ (r : Lengthened). valueOf (lengthened r) < 2 ^ 32) (c .before .answer2 .given .1)
+    (c .before .before .before .pre)
 
--- src/lib.rt:132:1
 returns : tie.Need-returns
-returns c = ?
+returns c = rw (c .before .before .answer .given .1) (omega arith)
 
--- src/lib.rt:132:1
 returns-2 : tie.Need-returns-2
-returns-2 c = ?
+returns-2 c = rw (c .before .before .answer2 .given .1) (c .pack2 .ensures)
 
 pub pack-length-spec : {M : Type 1} → statement M
 pack-length-spec =
     tie.close
-    (tie.spec
-    enum-known-answer
-    pack-requires
-    enum-known-answer-2
-    pack-requires-2
-    returns
-    returns-2)
+    (tie.spec (λ c. search needs) pack-requires (λ c. search needs) pack-requires-2 returns returns-2)
