@@ -1,11 +1,14 @@
 -- Samples 1 to 9 of paper 01, from the bytes of their vocabularies and scripts, as "a joint table": answers, counts, and of the
 -- comparison the first two bytes written. "Every statement in these samples is on the chain." After them cases of paper 02,
--- worked by hand: of the classification the counts and the entries; scripts with repeated terms.
+-- worked by hand: of the classification the counts and the entries; scripts with repeated terms; of the writer the new length
+-- and the whole buffer.
 use Prim.Native.Nat.{ℕ, _*_}
 use mathlib.Core.Path.{_≡_}
 use mathlib.Core.List.{List, [], _∷_, map}
-use lib.ListN.{take}
+use lib.ListN.{length, take}
 use Rattle.records.specs.Outcome.{Outcome, accepted, refused}
+use Rattle.writer.specs.Additions.{Addition, term, statement}
+use Rattle.writer.specs.Calls.{making, adding, newLength, bufferAfter}
 use Rattle.types.specs.declared.answers.Counts.{Counts}
 use Rattle.types.specs.Comparison.{Verdict, equal, different, countsOf, comparison}
 use Rattle.types.specs.Bitmap.{bitmap}
@@ -69,21 +72,28 @@ extension owner column x position next rest = words 4 owner column x (words 0 po
 abbrev pub reduction : ℕ → ℕ → List ℕ → List ℕ
 reduction frame next rest = words 5 frame 0 0 (words 0 0 0 next rest)
 
--- A comparison of two terms, a script to check, or names to classify.
+-- A comparison of two terms, a script to check, names to classify, a buffer for an empty vocabulary with a number of roles, or
+-- one with a length in use for an addition.
 pub data Question : Type 0 where
   compares : List ℕ → ℕ → ℕ → Question
   checks : List ℕ → List ℕ → Question
   classifies : List ℕ → Question
+  makes : List ℕ → ℕ → Question
+  adds : List ℕ → ℕ → Addition → Question
 
 pub data Answer : Type 0 where
   verdicts : Outcome Verdict → List ℕ → Answer
   judgments : Outcome ℕ → Answer
   tables : Outcome Counts → List ℕ → Answer
+  buffers : Outcome ℕ → List ℕ → Answer
 
 abbrev pub answer : Question → Answer
 answer (compares v a b) = verdicts (comparison v a b 512) (take 2 (bitmap v))
 answer (checks v s) = judgments (scriptCheck v s)
 answer (classifies v) = tables (classification v 512 144) (take (nameCount v * nameCount v) (taxonomy v))
+answer (makes lent roles) =
+    buffers (newLength (making (length lent) roles)) (bufferAfter (making (length lent) roles) lent)
+answer (adds buffer used x) = buffers (newLength (adding buffer used x)) (bufferAfter (adding buffer used x) buffer)
 
 abbrev pub says : Verdict → ℕ → ℕ → Answer
 says x first second = verdicts (accepted x) (first ∷ second ∷ [])
@@ -169,6 +179,14 @@ R₃ =
     asking 1 5 5 (constant (function 5 1 (function 5 1 (function 5 1 (start 1 6 (extension 5 1 1 0 7 (extension 4 0 2 0 8
     (extension 3 1 3 1 9 (extension 4 1 4 1 10 (reduction 1 0 []))))))))))
 
+-- Eight bytes that are free.
+abbrev pub free : List ℕ → List ℕ
+free rest = 99 ∷ 99 ∷ 99 ∷ 99 ∷ 99 ∷ 99 ∷ 99 ∷ 99 ∷ rest
+
+-- Name 1; statement 2, and behind it statement 3 off the chain; then what is behind the vocabulary, of 32 bytes.
+abbrev pub B₁ : ℕ → ℕ → List ℕ → List ℕ
+B₁ first next rest = header first 0 (name 1 (within 1 1 next (within 1 1 0 rest)))
+
 abbrev pub asked : List Question
 asked =
     compares V₁ 4 3
@@ -190,6 +208,16 @@ asked =
     ∷ checks W₅ (R₁ 7)
     ∷ checks W₅ R₂
     ∷ checks W₆ R₃
+    ∷ makes (free (7 ∷ [])) 2
+    ∷ makes (7 ∷ 7 ∷ 7 ∷ 7 ∷ 7 ∷ 7 ∷ 7 ∷ []) 65
+    ∷ makes (free []) 65
+    ∷ adds (header 0 0 (free (7 ∷ []))) 8 (term 3 258 0)
+    ∷ adds (B₁ 2 0 (free [])) 32 (statement 1 1)
+    ∷ adds (B₁ 0 0 (free [])) 32 (statement 1 1)
+    ∷ adds (B₁ 2 0 (free [])) 32 (term 3 1 0)
+    ∷ adds (B₁ 2 0 (free [])) 32 (term 9 1 1)
+    ∷ adds (B₁ 2 0 (7 ∷ [])) 32 (term 9 1 1)
+    ∷ adds (B₁ 2 0 (free [])) 41 (term 1 0 0)
     ∷ []
 
 abbrev pub answered : List Answer
@@ -213,6 +241,16 @@ answered =
     ∷ judgments (refused 21 11)
     ∷ judgments (refused 17 2)
     ∷ judgments (accepted 6)
+    ∷ buffers (accepted 8) (header 0 2 (7 ∷ []))
+    ∷ buffers (refused 27 0) (7 ∷ 7 ∷ 7 ∷ 7 ∷ 7 ∷ 7 ∷ 7 ∷ [])
+    ∷ buffers (refused 2 0) (free [])
+    ∷ buffers (accepted 16) (header 0 0 (3 ∷ 0 ∷ 2 ∷ 1 ∷ 0 ∷ 0 ∷ 0 ∷ 0 ∷ 7 ∷ []))
+    ∷ buffers (accepted 40) (B₁ 2 4 (within 1 1 0 []))
+    ∷ buffers (accepted 40) (B₁ 4 0 (within 1 1 0 []))
+    ∷ buffers (refused 7 4) (B₁ 2 0 (free []))
+    ∷ buffers (refused 3 4) (B₁ 2 0 (free []))
+    ∷ buffers (refused 27 4) (B₁ 2 0 (7 ∷ []))
+    ∷ buffers (refused 1 0) (B₁ 2 0 (free []))
     ∷ []
 
 abbrev pub Samples : Type 0

@@ -9,7 +9,8 @@ use Rattle.types.proofs.Theorems.Verdicts.{answers-always}
 use Rattle.scripts.proofs.Theorems.Scripts.{checked-parts, accepted-derives, derives-accepted, accepted-within}
 use Rattle.demands.specs.Demands.{Demand1, Demand2, Demand3}
 use Rattle.demands.proofs.Theorems.Tables.{form-passed, term-passed, vocabulary-follows, record-follows}
-use Rattle.demands.proofs.Theorems.Tables.{comparison-follows, classification-follows, script-follows, making-follows, addition-follows}
+use Rattle.demands.proofs.Theorems.Tables.{comparison-follows, classification-follows, script-follows, making-follows}
+use Rattle.demands.proofs.Theorems.Tables.{addition-follows}
 use Rattle.demands.proofs.Theorems.Denials.{right-verdict}
 
 pub demand-1 : Demand1

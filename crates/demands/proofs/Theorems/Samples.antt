@@ -5,10 +5,12 @@ use Rattle.records.specs.Format.{recordAt}
 use Rattle.records.specs.Kinds.{kindOf}
 use Rattle.records.specs.Outcome.{inTurn}
 use Rattle.records.specs.Finite.{anyBelow, occurs, allBelow, least, listBelow, table, members, bit, number, unrolled, without}
-use Rattle.records.specs.Finite.{allZero}
+use Rattle.records.specs.Finite.{allZero, lastOr}
 use Rattle.records.specs.Check.{recordCheck, linkCheck, recordsCheck, vocabularyCheck}
 use Rattle.records.specs.Chain.{follow}
 use Rattle.records.specs.Atoms.{rank}
+use Rattle.writer.specs.Additions.{grown}
+use Rattle.writer.specs.Calls.{making, addition, adding}
 use Rattle.types.specs.Types.{truth, allowed, served}
 use Rattle.types.specs.Survivors.{satisfies, stage, rounds, survivors}
 use Rattle.types.specs.Comparison.{verdict, comparison}
@@ -22,5 +24,5 @@ use Rattle.scripts.specs.Run.{close, extendBy, stepCheck, stepped, run, chainCh
 use Rattle.demands.specs.Samples.{Samples}
 
 pub samples : Samples
-unfolding recordAt kindOf inTurn anyBelow recordCheck linkCheck recordsCheck vocabularyCheck follow occurs allBelow least table members bit number unrolled rank truth allowed served satisfies stage rounds survivors verdict comparison bitmap listBelow broader entry taxonomy classification sameTerm complementary columnsAt takesY script.entryAt script.kindOf script.termAt allZero form'.entryCheck form'.linkCheck form'.formCheck without close extendBy stepCheck stepped run chainCheck scriptCheck
+unfolding recordAt kindOf inTurn anyBelow recordCheck linkCheck recordsCheck vocabularyCheck follow occurs allBelow least table members bit number unrolled rank truth allowed served satisfies stage rounds survivors verdict comparison bitmap listBelow broader entry taxonomy classification sameTerm complementary columnsAt takesY script.entryAt script.kindOf script.termAt allZero form'.entryCheck form'.linkCheck form'.formCheck without close extendBy stepCheck stepped run chainCheck scriptCheck lastOr grown making addition adding
 samples = refl

@@ -12,7 +12,8 @@ returns c =
     let k = c .before .before in
     let a = k .before .before .before .args in
     let e = k .add-statement .ensures in
-    (e .0, (e .1, addition-returns (now (a .buffer)) (a .used) (additions.statement (a .a) (a .b)) _ (k .add-statement .result) (e .0) (e .1)))
+    let x = additions.statement (a .a) (a .b) in
+    (e .0, (e .1, addition-returns (now (a .buffer)) (a .used) x _ (k .add-statement .result) (e .0) (e .1)))
 
 pub add-statement-spec : {M : Type 1} → statement M
 add-statement-spec = tie.close (tie.spec (λ c κs. search needs) (λ c. search needs) returns)

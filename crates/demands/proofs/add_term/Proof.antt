@@ -12,7 +12,8 @@ returns c =
     let k = c .before .before in
     let a = k .before .before .before .args in
     let e = k .add-term .ensures in
-    (e .0, (e .1, addition-returns (now (a .buffer)) (a .used) (term (a .kind) (a .a) (a .b)) _ (k .add-term .result) (e .0) (e .1)))
+    let x = term (a .kind) (a .a) (a .b) in
+    (e .0, (e .1, addition-returns (now (a .buffer)) (a .used) x _ (k .add-term .result) (e .0) (e .1)))
 
 pub add-term-spec : {M : Type 1} → statement M
 add-term-spec = tie.close (tie.spec (λ c κs. search needs) (λ c. search needs) returns)

@@ -92,7 +92,8 @@ module _ (l : List ℕ) (at x : ℕ) (fits : at + 2 ≤ length l) where
   pub pair-word : wordAt (put l at (wordBytes x)) at ≡ x
   pair-word =
       let first : at + 0 ≡ at = omega arith in
-      rw (rw first at (put-inside l at (wordBytes x) fits 0 0 (omega arith)), put-inside l at (wordBytes x) fits 0 1 (omega arith))
+      let low = put-inside l at (wordBytes x) fits 0 0 (omega arith) in
+      rw (rw first at low, put-inside l at (wordBytes x) fits 0 1 (omega arith))
       (word-bytes x)
 
 -- The fields that the bytes from `at` on hold.

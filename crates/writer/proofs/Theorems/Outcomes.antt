@@ -237,7 +237,8 @@ unfolding making
 making-succeeded size roles n e = at (leb recordSize size) refl (leb roles roleLimit) refl e
   where
     at : (a : Bool) → leb recordSize size ≡ a → (b : Bool) → leb roles roleLimit ≡ b
-        → newLength (require a 27 0 then require b 2 0 then accepted (recordBytes (emptyHeader roles))) ≡ accepted n → Made size roles n
+        → newLength (require a 27 0 then require b 2 0 then accepted (recordBytes (emptyHeader roles))) ≡ accepted n
+        → Made size roles n
     at true p true q h =
         let same : accepted recordSize ≡ accepted n = h in
         let long : recordSize ≡ n = cc in

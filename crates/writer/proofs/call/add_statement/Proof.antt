@@ -38,7 +38,8 @@ returns c =
     (c .before .enum-told2 .given .1))
 
 -- what the passed checks tell
-fit : (c : tie.After-enum-told) → let a = start (c .before .before) .args in Fit (now (a .buffer)) (a .used) (additions.statement (a .a) (a .b))
+fit : (c : tie.After-enum-told) → let a = start (c .before .before) .args in
+    Fit (now (a .buffer)) (a .used) (additions.statement (a .a) (a .b))
 fit c =
     let k = c .before .before in
     let a = start k .args in

@@ -40,7 +40,8 @@ returns c =
     (adding-refused (now (a .buffer)) (a .used) (term (a .kind) (a .a) (a .b)) _ (asked k) _ _ (c .before .enum-told2 .given .1))
 
 -- what the passed checks tell
-fit : (c : tie.After-enum-told) → let a = start (c .before .before) .args in Fit (now (a .buffer)) (a .used) (term (a .kind) (a .a) (a .b))
+fit : (c : tie.After-enum-told) → let a = start (c .before .before) .args in
+    Fit (now (a .buffer)) (a .used) (term (a .kind) (a .a) (a .b))
 fit c =
     let k = c .before .before in
     let a = start k .args in

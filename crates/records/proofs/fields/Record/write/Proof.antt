@@ -13,19 +13,23 @@ use Rattle.records.proofs.fields.Record.write.Tie as tie
 
 slice-write-part-5 : tie.Need-slice-write-part-5
 slice-write-part-5 c =
-    let s = c .before .before .before .before in lt-length-sets (now (s .args .part)) 0 (_ ∷ _ ∷ _ ∷ _ ∷ []) (omega (arith, s .pre))
+    let s = c .before .before .before .before in
+    lt-length-sets (now (s .args .part)) 0 (_ ∷ _ ∷ _ ∷ _ ∷ []) (omega (arith, s .pre))
 
 slice-write-part-6 : tie.Need-slice-write-part-6
 slice-write-part-6 c =
-    let s = c .before .before .before .before .before in lt-length-sets (now (s .args .part)) 0 (_ ∷ _ ∷ _ ∷ _ ∷ _ ∷ []) (omega (arith, s .pre))
+    let s = c .before .before .before .before .before in
+    lt-length-sets (now (s .args .part)) 0 (_ ∷ _ ∷ _ ∷ _ ∷ _ ∷ []) (omega (arith, s .pre))
 
 slice-write-part-7 : tie.Need-slice-write-part-7
 slice-write-part-7 c =
-    let s = c .before .before .before .before .before .before in lt-length-sets (now (s .args .part)) 0 (_ ∷ _ ∷ _ ∷ _ ∷ _ ∷ _ ∷ []) (omega (arith, s .pre))
+    let s = c .before .before .before .before .before .before in
+    lt-length-sets (now (s .args .part)) 0 (_ ∷ _ ∷ _ ∷ _ ∷ _ ∷ _ ∷ []) (omega (arith, s .pre))
 
 slice-write-part-8 : tie.Need-slice-write-part-8
 slice-write-part-8 c =
-    let s = c .before .before .before .before .before .before .before in lt-length-sets (now (s .args .part)) 0 (_ ∷ _ ∷ _ ∷ _ ∷ _ ∷ _ ∷ _ ∷ []) (omega (arith, s .pre))
+    let s = c .before .before .before .before .before .before .before in
+    lt-length-sets (now (s .args .part)) 0 (_ ∷ _ ∷ _ ∷ _ ∷ _ ∷ _ ∷ _ ∷ []) (omega (arith, s .pre))
 
 returns : tie.Need-returns
 returns c =
