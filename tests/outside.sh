@@ -41,7 +41,7 @@ run_test() {
     echo "$(cat "$work/said"); $few"
 }
 
-# The answers expected, a line for each: the call, and the refusal's number or what else it is.
+# The answers expected, a line for each: the call, the writer's three as one, and the refusal's number or what else it is.
 answers() {
     awk '{ print "vocabulary", $1; print "record", $3 }' "$work/vocabulary.cases.expected"
     for subject in comparison classification script writer; do
@@ -80,5 +80,5 @@ awk '{ print $2, $3 }' "$work/counted" > "$work/met"
 wanted | sort > "$work/wanted"
 diff "$work/wanted" "$work/met" || { echo "outside: some answer came up in no case, or should not have"; exit 1; }
 rarest=$(sort -n "$work/counted" | awk 'NR == 1 { print $1 }')
-echo "outside: each answer of each call came up, the rarest in $rarest cases"
+echo "outside: each answer of each call came up, the writer's three taken as one, the rarest in $rarest cases"
 echo "outside: $(echo $total | sed 's/\([0-9]\{3\}\)$/,\1/') cases agree (seed $first)"

@@ -81,7 +81,7 @@ impl Sequence {
 }
 
 impl Plan {
-    /// The paper's samples, each record added in its turn: in the end they are those of the paper, byte for byte.
+    /// V and sample 4 of the paper, each record added in its turn, in a buffer that they fill.
     pub fn samples(&mut self) {
         for sample in [v().bytes(), sample_4().bytes()] {
             let all = records(&sample);
@@ -90,8 +90,7 @@ impl Plan {
             for record in all.iter().skip(1) {
                 sequence.next(call_of(*record), None);
             }
-            let left = sequence.buffer == sample;
-            self.cases.extend(sequence.cases.into_iter().filter(|_| left));
+            self.cases.extend(sequence.cases);
         }
     }
 

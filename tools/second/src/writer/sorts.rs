@@ -154,11 +154,9 @@ pub const SORTS: &[Named] = &[
     ("made over an accepted vocabulary", 20, |seen| {
         seen.sort == Sort::Make && seen.refusal == 0 && check_vocabulary(&seen.case.content).is_ok()
     }),
-    (
-        "making refused, a role count of over 16 bits",
-        20,
-        |seen| matches!(seen.case.call, Call::Make { roles } if roles > 65535),
-    ),
+    ("making refused 2, a role count of over 16 bits", 20, |seen| {
+        seen.refusal == 2 && matches!(seen.case.call, Call::Make { roles } if roles > 65535)
+    }),
     ("a length past the buffer by less than 8", 20, |seen| {
         seen.length_refused(true) && seen.case.used < seen.lent + 8
     }),

@@ -90,6 +90,12 @@ wrong! {
             Paper.read(buffer, used)
         }
     }
+    "a buffer over 4,096 bytes is 27" LongIs27 {
+        fn room(&self, adding: &Adding) -> Result<(), Refusal> {
+            refuse_if(adding.used + adding.free > 4096, 27, adding.count())?;
+            Paper.room(adding)
+        }
+    }
     "rows 2 to 8 not asked" OnlyLength {
         fn read(&self, buffer: &[u8], used: usize) -> Result<(), Refusal> {
             read_but(buffer, used, |refusal| refusal.number > 1)

@@ -127,11 +127,6 @@ wrong! {
             [3, 4, 6, 5, 7]
         }
     }
-    "6 before 4" SixFour {
-        fn rows(&self) -> [u8; 5] {
-            [3, 6, 4, 5, 7]
-        }
-    }
     "7 before 4" SevenFour {
         fn rows(&self) -> [u8; 5] {
             [3, 7, 4, 5, 6]
