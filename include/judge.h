@@ -97,6 +97,11 @@ uint64_t judge_classify(const uint8_t *vocabulary, size_t vocabulary_len, uint8_
  * does not lie within B. A term may stand under several records, and is the same term in each. */
 uint64_t judge_check_script(const uint8_t *vocabulary, size_t vocabulary_len, const uint8_t *script, size_t script_len);
 
+/* The writer. */
+uint64_t judge_make_vocabulary(uint8_t *buffer, size_t buffer_len, uint32_t roles);
+uint64_t judge_add_term(uint8_t *buffer, size_t buffer_len, size_t used, uint8_t kind, uint16_t a, uint16_t b);
+uint64_t judge_add_statement(uint8_t *buffer, size_t buffer_len, size_t used, uint16_t a, uint16_t b);
+
 /* ---- Answers, taken apart; unused bits are 0 ---- */
 
 /* Bits 0-7: the refusal's number, 0 where there is none. */

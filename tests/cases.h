@@ -1,6 +1,7 @@
 /* A file of cases and the output expected of them, read case by case. A case is a head, whose first two bytes are the
- * length of a vocabulary, and the vocabulary, which is put at the end of a page whose next page cannot be read, so that
- * a read past its end stops the test. The test says its name as SUBJECT before it includes this. */
+ * length of a vocabulary, or of what a buffer begins with, and these bytes, which are put at the end of a page whose
+ * next page cannot be read, so that a read past their end stops the test. The test says its name as SUBJECT before it
+ * includes this. */
 #ifndef CASES_H
 #define CASES_H
 
@@ -10,7 +11,7 @@
 
 #include "guarded.h"
 
-enum { MOST_HEAD = 16, MOST_LINE = 4096 };
+enum { MOST_HEAD = 19, MOST_LINE = 4096 };
 
 /* Compares a case with its line of the expected output. Answers 0, or 1 where something is wrong, which it has said. */
 typedef int check(const uint8_t *vocabulary, size_t length, const uint8_t *head, const char *line, size_t at);

@@ -1,8 +1,9 @@
 #!/bin/sh
 # The library through its C boundary beside the second program, on cases that are not stored: vocabularies with record
-# calls, comparisons, classifications and scripts, made by five seeds from SEED on, of which each that is new counts
-# once. Answers, all lent bytes, guard bytes and guard pages are compared from C and from C++, and once more for some of
-# the cases under valgrind. Fails where a kind of answer does not come up, or a subject has fewer than 20,000 cases.
+# calls, comparisons, classifications, scripts and writings, made by five seeds from SEED on, of which each that is new
+# counts once. Answers, all lent bytes, guard bytes and guard pages are compared from C and from C++, and once more for
+# some of the cases under valgrind. Fails where a kind of answer does not come up, or a subject has fewer than 20,000
+# cases.
 # usage: tests/outside.sh [SEED]   (target/staticlib/libjudge.a must be built)
 set -eu
 cd "$(dirname "$0")/.."
@@ -40,10 +41,10 @@ run_test() {
     echo "$(cat "$work/said"); $few"
 }
 
-# The answers expected, a line for each: the call, and the refusal's number or what else it is.
+# The answers expected, a line for each: the call, the writer's three as one, and the refusal's number or what else it is.
 answers() {
     awk '{ print "vocabulary", $1; print "record", $3 }' "$work/vocabulary.cases.expected"
-    for subject in comparison classification script; do
+    for subject in comparison classification script writer; do
         awk -v call=$subject '{ print call, $1 == "refused" ? $2 : $1 }' "$work/$subject.cases.expected"
     done
 }
@@ -54,6 +55,7 @@ wanted() {
 comparison different
 classification counts
 script accepted
+writer length
 record 0
 record 1
 record 9"
@@ -61,11 +63,12 @@ record 9"
     { seq 1 8; seq 10 12; } | sed 's/^/comparison /'
     { seq 1 8; echo 11; echo 12; echo 26; } | sed 's/^/classification /'
     { seq 1 8; echo 10; seq 13 25; } | sed 's/^/script /'
+    { seq 1 8; echo 27; } | sed 's/^/writer /'
 }
 
 cargo build --release --quiet -p second
 total=0
-for subject in vocabulary comparison classification script; do
+for subject in vocabulary comparison classification script writer; do
     make_cases
     run_test
     count=$(wc -l < "$work/$subject.cases.expected")
@@ -77,5 +80,5 @@ awk '{ print $2, $3 }' "$work/counted" > "$work/met"
 wanted | sort > "$work/wanted"
 diff "$work/wanted" "$work/met" || { echo "outside: some answer came up in no case, or should not have"; exit 1; }
 rarest=$(sort -n "$work/counted" | awk 'NR == 1 { print $1 }')
-echo "outside: each answer of each call came up, the rarest in $rarest cases"
+echo "outside: each answer of each call came up, the writer's three taken as one, the rarest in $rarest cases"
 echo "outside: $(echo $total | sed 's/\([0-9]\{3\}\)$/,\1/') cases agree (seed $first)"

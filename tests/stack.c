@@ -3,7 +3,7 @@
  * below the frame that makes the call; where the paint is gone, the call has been. Fails where a call needs more than
  * judge.h says, or where judge.h says more than four times what is needed.
  * Link with -z now: the first call of a function in a shared library may else need stack to find it.
- * usage: stack VOCABULARY_CASES COMPARISON_CASES CLASSIFICATION_CASES SCRIPT_CASES */
+ * usage: stack VOCABULARY_CASES COMPARISON_CASES CLASSIFICATION_CASES SCRIPT_CASES WRITER_CASES */
 #define _DEFAULT_SOURCE
 #define SUBJECT "stack"
 #include <inttypes.h>
@@ -21,18 +21,21 @@ enum { PAINTED = 2 * JUDGE_STACK_BYTES, STACK = PAINTED + 131072, ROOM = 65536, 
 
 static const uint64_t PAINT = 0xa5a5a5a5a5a5a5a5;
 
-enum call { VOCABULARY, RECORD, COMPARE, CLASSIFY, SCRIPT, CALLS };
+/* The writer's calls are the last three, in the order of the numbers that its cases have for them. */
+enum call { VOCABULARY, RECORD, COMPARE, CLASSIFY, SCRIPT, MAKE, TERM, STATEMENT, CALLS };
 
-static const char *const names[CALLS] = {"judge_check_vocabulary", "judge_record", "judge_compare", "judge_classify",
-                                         "judge_check_script"};
+static const char *const names[CALLS] = {"judge_check_vocabulary", "judge_record",          "judge_compare",
+                                         "judge_classify",         "judge_check_script",    "judge_make_vocabulary",
+                                         "judge_add_term",         "judge_add_statement"};
 
 /* The most that each call has needed, and for how many cases it was made. */
 static size_t most[CALLS], made[CALLS];
 
 /* The arguments of a call. */
 struct task {
-    size_t vocabulary_len, script_len, lent, taxonomy_len;
+    size_t vocabulary_len, script_len, lent, taxonomy_len, used;
     uint32_t a, b;
+    uint8_t kind;
     uint8_t vocabulary[ROOM], script[ROOM], buffer[ROOM], taxonomy[ROOM];
 };
 
@@ -67,6 +70,15 @@ __attribute__((noinline)) static size_t measure(enum call call)
         break;
     case CLASSIFY:
         judge_classify(task.vocabulary, task.vocabulary_len, task.buffer, task.lent, task.taxonomy, task.taxonomy_len);
+        break;
+    case MAKE:
+        judge_make_vocabulary(task.vocabulary, task.lent, task.a);
+        break;
+    case TERM:
+        judge_add_term(task.vocabulary, task.lent, task.used, task.kind, (uint16_t)task.a, (uint16_t)task.b);
+        break;
+    case STATEMENT:
+        judge_add_statement(task.vocabulary, task.lent, task.used, (uint16_t)task.a, (uint16_t)task.b);
         break;
     default:
         judge_check_script(task.vocabulary, task.vocabulary_len, task.script, task.script_len);
@@ -104,6 +116,13 @@ static void read_head(const uint8_t *head, enum call call)
         task.lent = number_at(head + 2, 2);
         task.taxonomy_len = number_at(head + 4, 2);
         break;
+    case MAKE:
+        task.lent = task.vocabulary_len + number_at(head + 2, 2);
+        task.kind = head[6];
+        task.a = number_at(head + 7, 4);
+        task.b = number_at(head + 9, 2);
+        task.used = (size_t)number_at(head + 15, 4) << 32 | number_at(head + 11, 4);
+        break;
     case COMPARE:
         task.b = number_at(head + 6, 4);
         task.lent = number_at(head + 10, 2);
@@ -113,7 +132,8 @@ static void read_head(const uint8_t *head, enum call call)
     }
 }
 
-/* Makes a call, or two, for each case of a file, whose head has so many bytes. */
+/* Makes a call, or two, for each case of a file, whose head has so many bytes. Which of the writer's calls it is, the
+ * head says; the vocabulary then stands in the buffer that is lent. */
 static void run(const char *path, size_t head_bytes, enum call call)
 {
     FILE *file = fopen(path, "rb");
@@ -125,7 +145,7 @@ static void run(const char *path, size_t head_bytes, enum call call)
         read_head(head, call);
         read_bytes(file, task.vocabulary, task.vocabulary_len);
         read_bytes(file, task.script, task.script_len);
-        note(call);
+        note(call == MAKE ? (enum call)(MAKE + head[5]) : call);
         if (call == VOCABULARY)
             note(RECORD);
     }
@@ -141,6 +161,7 @@ static void *run_all(void *arguments)
     run(paths[2], 13, COMPARE);
     run(paths[3], 7, CLASSIFY);
     run(paths[4], 4, SCRIPT);
+    run(paths[5], 19, MAKE);
     return NULL;
 }
 
@@ -162,8 +183,8 @@ int main(int count, char **arguments)
 {
     size_t greatest = 0;
 
-    if (count != 5)
-        stop("usage: stack VOCABULARY_CASES COMPARISON_CASES CLASSIFICATION_CASES SCRIPT_CASES");
+    if (count != 6)
+        stop("usage: stack VOCABULARY_CASES COMPARISON_CASES CLASSIFICATION_CASES SCRIPT_CASES WRITER_CASES");
     on_own_stack(arguments);
     for (int call = 0; call < CALLS; call++) {
         if (made[call] == 0)

@@ -4,9 +4,9 @@
 const STEP: u8 = 7;
 
 /// So many lent bytes before a call: byte i is 7 i + seed, modulo 256.
-pub fn filled(length: u16, seed: u8) -> Vec<u8> {
+pub fn filled(length: impl Into<usize>, seed: u8) -> Vec<u8> {
     let bytes = std::iter::successors(Some(seed), |byte| Some(byte.wrapping_add(STEP)));
-    bytes.take(usize::from(length)).collect()
+    bytes.take(length.into()).collect()
 }
 
 /// The first so many bytes in hexadecimal, as far as the last that is not 0; a dash where all are 0.

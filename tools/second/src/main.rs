@@ -1,6 +1,9 @@
 //! A second implementation of the paper (README.md says which), written from it and not from the library's code, that
 //! makes cases and the output expected for them. See README.md.
 
+#[macro_use]
+mod wrong;
+
 mod cases;
 mod classification;
 mod comparison;
@@ -13,6 +16,7 @@ mod table;
 #[cfg(test)]
 mod tests;
 mod vocabulary;
+mod writer;
 
 use random::Seed;
 use std::io::{Read, Write};
@@ -30,7 +34,7 @@ const USAGE: &str = "usage: second SUBJECT [SEED] > CASES, \
      or second expect-SUBJECT < CASES > EXPECTED, \
      or second new SUBJECT STORED < CASES > NEW, \
      or second every SUBJECT STEP < CASES > CHOSEN; \
-     a SUBJECT is vocabulary, comparison, classification or script";
+     a SUBJECT is vocabulary, comparison, classification, script or writer";
 
 /// Runs the subcommand that the command line names.
 fn main() -> ExitCode {
@@ -48,6 +52,9 @@ fn main() -> ExitCode {
         ["script"] => make_scripts(None),
         ["script", seed] => seeded(seed, make_scripts),
         ["expect-script"] => filter(|bytes| Ok(script::lines(&script::decode(bytes)?))),
+        ["writer"] => make_writings(None),
+        ["writer", seed] => seeded(seed, make_writings),
+        ["expect-writer"] => filter(|bytes| Ok(writer::lines(&writer::decode(bytes)?))),
         ["new", name, stored] => filter(|bytes| select::new(name, &file(stored)?, bytes)),
         ["every", name, step] => filter(|bytes| select::every(name, step, bytes)),
         _ => complain(USAGE),
@@ -138,6 +145,14 @@ fn make_scripts(seed: Seed) -> u8 {
     let table = table_of(&planned, seed, [script::table, script::seeded_table]);
     let cases: Vec<script::Case> = planned.into_iter().map(|p| p.case).collect();
     make(&table, script::encode(&cases))
+}
+
+/// Writes the file of writer cases.
+fn make_writings(seed: Seed) -> u8 {
+    let planned = writer::all(seed);
+    let table = table_of(&planned, seed, [writer::table, writer::seeded_table]);
+    let cases: Vec<writer::Case> = planned.into_iter().map(|p| p.case).collect();
+    make(&table, writer::encode(&cases))
 }
 
 /// Writes a file of cases to standard output, and the table of their sorts to standard error.

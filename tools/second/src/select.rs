@@ -20,6 +20,7 @@ fn form(name: &str) -> Result<Form, String> {
         "comparison" => (13, &[0], Some(12)),
         "classification" => (7, &[0], Some(6)),
         "script" => (4, &[0, 2], None),
+        "writer" => (19, &[0], Some(4)),
         _ => return Err(format!("there are no cases by the name {name}")),
     };
     Ok(Form { head, lengths, filling })

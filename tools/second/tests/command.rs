@@ -38,8 +38,8 @@ fn written(words: &[&str], input: &[u8]) -> Vec<u8> {
     output.stdout
 }
 
-/// The stored cases of vocabularies are made again, and the expected output of vocabularies and scripts. The rest takes
-/// longer, and is left to .ci/run.
+/// The stored cases of vocabularies are made again, and the expected output of vocabularies, scripts and writers. The
+/// rest takes longer, and is left to .ci/run.
 #[test]
 fn stored_files() {
     let vocabularies = stored("crates/vocabulary_cases/stdin");
@@ -47,6 +47,8 @@ fn stored_files() {
     assert!(written(&["expect-vocabulary"], &vocabularies) == stored("crates/vocabulary_cases/stdout"));
     let scripts = stored("crates/script_cases/stdin");
     assert!(written(&["expect-script"], &scripts) == stored("crates/script_cases/stdout"));
+    let writings = stored("crates/writer_cases/stdin");
+    assert!(written(&["expect-writer"], &writings) == stored("crates/writer_cases/stdout"));
 }
 
 /// A seed makes the same cases in every run, and others than another seed.
@@ -74,7 +76,7 @@ fn choices() {
 /// nothing is written but what is wrong.
 #[test]
 fn refused_command_lines() {
-    let calls: [(&[&str], &str); 10] = [
+    let calls: [(&[&str], &str); 11] = [
         (&[], "usage: "),
         (&["vectors"], "usage: "),
         (&["vocabulary", "x"], "usage: "),
@@ -83,6 +85,7 @@ fn refused_command_lines() {
         (&["expect-vocabulary"], "the file ends inside case 0"),
         (&["expect-comparison"], "the file ends inside case 0"),
         (&["expect-classification"], "the file ends inside case 0"),
+        (&["expect-writer"], "the file ends inside case 0"),
         (&["every", "script", "2"], "the file ends inside case 0"),
         (&["new", "script", "/nowhere/stdin"], "/nowhere/stdin: "),
     ];

@@ -2,7 +2,7 @@
 
 use crate::select::{every, new};
 use crate::tests::paper::{header, names};
-use crate::{classification, comparison, script, vocabulary};
+use crate::{classification, comparison, script, vocabulary, writer};
 
 /// The file of vocabulary cases with some record numbers of a header alone.
 fn file(numbers: &[u32]) -> Vec<u8> {
@@ -86,6 +86,31 @@ fn new_scripts() {
     assert_eq!(
         new("script", &file(&[case(names(1), 17)]), &made).unwrap(),
         file(&[case(names(1), 16), case(names(2), 16)])
+    );
+}
+
+/// Writer cases that differ in nothing but what the bytes behind hold are one case; other lengths in use, more bytes
+/// behind or another call are others.
+#[test]
+fn new_writings() {
+    let case = |behind, seed, used, a| writer::Case {
+        content: names(2),
+        behind,
+        seed,
+        call: writer::Call::Statement { a, b: 1 },
+        used,
+    };
+    let file = |cases: &[writer::Case]| writer::encode(cases).unwrap();
+    let made = file(&[
+        case(8, 1, 24, 1),
+        case(8, 2, 24, 1),
+        case(9, 1, 24, 1),
+        case(8, 1, 16, 1),
+        case(8, 1, 24, 2),
+    ]);
+    assert_eq!(
+        new("writer", &file(&[case(9, 9, 24, 1)]), &made).unwrap(),
+        file(&[case(8, 1, 24, 1), case(8, 1, 16, 1), case(8, 1, 24, 2)])
     );
 }
 

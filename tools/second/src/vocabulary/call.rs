@@ -63,7 +63,7 @@ fn check_header(records: &[Record]) -> Result<(), Refusal> {
 }
 
 /// Rows 3 to 7: whether a row's condition applies to the record at a place.
-fn applies(row: u8, records: &[Record], place: usize) -> bool {
+pub fn applies(row: u8, records: &[Record], place: usize) -> bool {
     let record = at(records, place);
     let any = |purpose: Use, wrong: &dyn Fn(u16) -> bool| record.used_for(purpose).into_iter().any(wrong);
     match row {

@@ -2,7 +2,7 @@
 
 mod call;
 mod draft;
-mod faults;
+pub mod faults;
 mod file;
 mod plan;
 mod print;
@@ -10,7 +10,7 @@ pub mod records;
 #[cfg(test)]
 mod tests;
 
-pub use call::{chain, check_vocabulary, refuse_if, Refusal, MOST_RECORDS};
+pub use call::{applies, chain, check_vocabulary, refuse_if, Refusal, MOST_RECORDS, MOST_ROLES};
 pub use draft::Draft;
 pub use file::{decode, encode, Case};
 pub use plan::{all, misses};

@@ -6,19 +6,6 @@ use crate::script::rules::Rules;
 /// A wrong check, and its name.
 pub type Error = (&'static str, &'static dyn Rules);
 
-/// Wrong checks: for each its name, what it is called, and the rule that it replaces.
-macro_rules! wrong {
-    ($($name:literal $error:ident { $($rule:item)* })*) => {
-        /// The wrong script checks.
-        pub const ERRORS: &[crate::script::errors::Error] = &[$(($name, &$error)),*];
-        $(
-            #[doc = $name]
-            pub struct $error;
-            impl Rules for $error { $($rule)* }
-        )*
-    };
-}
-
 mod repeats;
 mod rows;
 mod terms;
