@@ -1,7 +1,7 @@
 /* The duty vocabulary judge: settles whether terms of a customs vocabulary, in the description logic ALC, are equal or
  * lie one within the other in every finite interpretation that satisfies the vocabulary's statements. Link
  * target/staticlib/libjudge.a (`rt staticlib judge` builds it; it needs nothing but memcpy and memset).
- * examples/settle.c is a program that uses all of this.
+ * examples/settle.c and examples/write.c are programs that use all of this.
  *
  * A VOCABULARY is 8-byte records, at most 512: a header, then terms and statements. A term is a name, or made of
  * earlier terms by not, and, or, some, all. A statement says that one term lies within another. A SCRIPT is 16-byte
@@ -11,8 +11,8 @@
  *
  * Eight calls. Five read: judge_check_vocabulary, judge_record, judge_compare, judge_classify, judge_check_script.
  * Three write a vocabulary, record by record, into a buffer of yours: judge_make_vocabulary, judge_add_term,
- * judge_add_statement (examples/write.c). Each takes any bytes of any length, ends, and answers one number, which the
- * functions below take apart:
+ * judge_add_statement. Each takes any bytes of any length, ends, and answers one number, which the functions below take
+ * apart:
  *
  *     uint64_t answer = judge_compare(vocabulary, length, 4, 3, survivors, sizeof survivors);
  *     if (judge_refusal(answer))        complain(judge_sentence(judge_refusal(answer)), judge_place(answer));
