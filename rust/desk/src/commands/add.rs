@@ -17,45 +17,47 @@ use base::{Failure, Status};
 use judge::{Builder, Refusal};
 use std::ffi::OsStr;
 
+/// How the words of an addition are read.
+type Reading = fn(&Vocabulary, &[&str]) -> Result<Addition, Unfit>;
+
 /// What can be added.
-const SORTS: [&str; 2] = ["term", "statement"];
+const SORTS: [(&str, Reading); 2] = [("term", addition::term), ("statement", addition::statement)];
 
 pub fn run(arguments: &Arguments, console: &mut Console) -> Result<Status, Stop> {
-    let words: Vec<&OsStr> = arguments.all().collect();
-    let [path, sort, said @ ..] = words.as_slice() else {
-        let missing = if words.is_empty() {
-            "FILE"
-        } else {
-            "'term' or 'statement'"
-        };
-        return Err(Failure::usage(format!("{missing} is missing")).into());
-    };
-    let sort = sort_of(sort)?;
-    if *path == "-" {
-        return Err(Failure::usage("FILE is a file to add to, and '-' is none").into());
-    }
+    let (path, reading, words) = asked(arguments)?;
     // The file is open until it is replaced, so that no other run changes it meanwhile.
     let (input, _opened) = input::vocabulary_to_change(path)?;
-    let refused = |refusal| Stop::from(refused::of_vocabulary(console.style, &input, refusal));
-    let mut builder = begin(&input.bytes).map_err(refused)?;
-    let said: Vec<String> = said.iter().map(|word| word.to_string_lossy().into_owned()).collect();
-    let addition = read(&input, sort, &said, console.style)?;
+    let style = console.style;
+    let mut builder = begin(&input.bytes).map_err(|refusal| refused::of_vocabulary(style, &input, refusal))?;
+    let addition = read(&input, reading, &words, style)?;
     let added = match addition {
         Addition::Term(kind, a, b) => builder.term(kind, a, b),
         Addition::Statement(a, b) => builder.statement(a, b),
     };
-    let number = added.map_err(|refusal| refused_addition(console.style, &input, addition, refusal))?;
+    let number = added.map_err(|refusal| refused_addition(style, &input, addition, refusal))?;
     files::renew(path, &input.bytes, builder.as_bytes())?;
-    Ok(console.answer(report(console.style, &input, builder.as_bytes(), number))?)
+    Ok(console.answer(report(style, &input, builder.as_bytes(), number))?)
 }
 
-/// Which of the two is added.
-fn sort_of(word: &OsStr) -> Result<&'static str, Failure> {
-    let word = word.to_string_lossy();
-    SORTS.into_iter().find(|sort| *sort == word).ok_or_else(|| {
-        let hint = did_you_mean(&word, SORTS);
-        Failure::usage(format!("'term' or 'statement' is added, and not '{word}'{hint}"))
-    })
+/// The file, what is added to it, and the words that say it.
+fn asked(arguments: &Arguments) -> Result<(&OsStr, Reading, Vec<String>), Failure> {
+    let words: Vec<&OsStr> = arguments.all().collect();
+    let (path, sort, words) = match words.as_slice() {
+        [] => return Err(Failure::usage("FILE is missing")),
+        [_] => return Err(Failure::usage("'term' or 'statement' is missing")),
+        [path, sort, words @ ..] => (*path, sort.to_string_lossy(), words),
+    };
+    let Some((_, reading)) = SORTS.into_iter().find(|(name, _)| *name == sort) else {
+        let hint = did_you_mean(&sort, SORTS.map(|(name, _)| name));
+        return Err(Failure::usage(format!(
+            "'term' or 'statement' is added, and not '{sort}'{hint}"
+        )));
+    };
+    if path == "-" {
+        return Err(Failure::usage("FILE is a file to add to, and '-' is none"));
+    }
+    let words = words.iter().map(|word| word.to_string_lossy().into_owned());
+    Ok((path, reading, words.collect()))
 }
 
 /// The library's writer over these bytes, with room for whatever may follow them.
@@ -66,14 +68,9 @@ fn begin(bytes: &[u8]) -> Result<Builder<Vec<u8>>, Refusal> {
 }
 
 /// What the words say, of a vocabulary that is accepted.
-fn read(input: &Input, sort: &str, said: &[String], style: Style) -> Result<Addition, Stop> {
-    let vocabulary = Vocabulary::read(&input.bytes);
-    let said: Vec<&str> = said.iter().map(String::as_str).collect();
-    let read = match sort {
-        "term" => addition::term(&vocabulary, &said),
-        _ => addition::statement(&vocabulary, &said),
-    };
-    read.map_err(|unfit| match unfit {
+fn read(input: &Input, reading: Reading, words: &[String], style: Style) -> Result<Addition, Stop> {
+    let words: Vec<&str> = words.iter().map(String::as_str).collect();
+    reading(&Vocabulary::read(&input.bytes), &words).map_err(|unfit| match unfit {
         Unfit::Words(failure) => failure.into(),
         Unfit::Faults(faults) => faulty(style, input, &faults).into(),
     })

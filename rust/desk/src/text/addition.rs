@@ -124,7 +124,7 @@ impl Reader {
             line.stop(fault);
             T::default()
         });
-        let faults = line.into_faults().into_iter();
+        let faults = line.into_faults().into_iter().chain(comment(text));
         self.faults.extend(faults.map(|fault| (text.to_string(), fault)));
         value
     }
@@ -201,6 +201,13 @@ impl Reader {
         });
         Addition::Statement(a.unwrap_or(0), b.unwrap_or(0))
     }
+}
+
+/// That a text has a comment, which would be lost.
+fn comment(text: &str) -> Option<Fault> {
+    let (before, _) = text.split_once("--")?;
+    let column = before.chars().count() + 1;
+    Some(Fault::at(1, column, "the bytes of a vocabulary have no comments"))
 }
 
 fn missing(name: &str) -> Failure {

@@ -140,6 +140,11 @@ fn what_cannot_be_read_is_told_with_its_word_and_column() {
         ),
         ("term", &[""], &[("", 1, NO_TERM)]),
         ("term", &["#4"], &[("#4", 1, NO_TERM)]),
+        (
+            "term",
+            &["c9 -- sample"],
+            &[("c9 -- sample", 4, "the bytes of a vocabulary have no comments")],
+        ),
         ("term", &["zzz", "c1"], &[("zzz", 1, NO_TERM)]),
         ("term", &["4", "zzz"], &[("zzz", 1, NO_TERM)]),
         ("term", &["4", "007"], &[("007", 1, NUMBER)]),
