@@ -358,3 +358,24 @@ fn the_builder_goes_on_from_an_accepted_vocabulary_only() {
         assert_eq!(refusal.rule.number(), number, "{used}");
     }
 }
+
+/// include/judge.h names the kinds that the builder writes.
+#[test]
+fn the_header_has_the_same_kinds() {
+    let mut terms = Builder::new(1).unwrap();
+    let header = include_str!("../../../include/judge.h");
+    for (name, number) in [
+        ("TOP", terms.top()),
+        ("BOTTOM", terms.bottom()),
+        ("NAME", terms.name(1)),
+        ("NOT", terms.not(1)),
+        ("AND", terms.and(1, 1)),
+        ("OR", terms.or(1, 1)),
+        ("SOME", terms.some(0, 1)),
+        ("ALL", terms.all(0, 1)),
+    ] {
+        let kind = terms.as_bytes()[8 * usize::from(number.unwrap())];
+        let written = header.split(&format!("JUDGE_{name} = ")).nth(1).unwrap();
+        assert!(written.starts_with(&kind.to_string()), "{name}");
+    }
+}
