@@ -53,17 +53,36 @@ examples() {
     run 0 cat names.dot
     run 0 desk recheck table
 
-    # The same through C: examples/settle.c.
+    # The cat owner's vocabulary, record by record, with a mistake on the way.
+    run 0 desk new drafted.vocabulary --roles 1
+    for term in c1 c2 c3 c4; do
+        run 0 desk add drafted.vocabulary term "$term"
+    done
+    run 0 desk add drafted.vocabulary term ObjectSomeValuesFrom r0 c1
+    run 0 desk add drafted.vocabulary term ObjectSomeValuesFrom r0 c4
+    run 2 desk add drafted.vocabulary term ObjectAllValuesFrom r1 c1
+    run 0 desk add drafted.vocabulary term ObjectAllValuesFrom r0 c1
+    run 0 desk add drafted.vocabulary term ObjectIntersectionOf 6 7
+    run 0 desk add drafted.vocabulary term ObjectIntersectionOf c3 c2
+    run 0 desk add drafted.vocabulary statement 5 c2
+    run 0 desk add drafted.vocabulary statement c3 8
+    cmp drafted.vocabulary "$root/examples/cat-owner/terms.vocabulary"
+
+    # The same through C: examples/settle.c and examples/write.c.
     run 1 settle relief/terms.vocabulary 11 14
     run 0 settle vertebrate/terms.vocabulary --names
     run 0 settle relief/terms.vocabulary relief/proof.script
+    run 0 write written.vocabulary
+    cmp written.vocabulary "$root/examples/v.vocabulary"
 }
 
 say 'proving and building the library (some 3 minutes from nothing)'
 quietly rt staticlib judge
-say 'building desk and the example in C'
+say 'building desk and the examples in C'
 quietly cargo build --release
-quietly gcc -O2 -Wall -Wextra -Werror -Iinclude -o "$work/settle" examples/settle.c target/staticlib/libjudge.a
+for program in settle write; do
+    quietly gcc -O2 -Wall -Wextra -Werror -Iinclude -o "$work/$program" "examples/$program.c" target/staticlib/libjudge.a
+done
 PATH=$work:$root/target/cargo/release:$PATH
 
 say 'running the worked examples'

@@ -1,7 +1,7 @@
 /* The duty vocabulary judge: settles whether terms of a customs vocabulary, in the description logic ALC, are equal or
  * lie one within the other in every finite interpretation that satisfies the vocabulary's statements. Link
  * target/staticlib/libjudge.a (`rt staticlib judge` builds it; it needs nothing but memcpy and memset).
- * examples/settle.c is a program that uses all of this.
+ * examples/settle.c and examples/write.c are programs that use all of this.
  *
  * A VOCABULARY is 8-byte records, at most 512: a header, then terms and statements. A term is a name, or made of
  * earlier terms by not, and, or, some, all. A statement says that one term lies within another. A SCRIPT is 16-byte
@@ -9,8 +9,10 @@
  * text form, which the command `desk` turns into bytes and back (docs/DESK.md). Records are numbered from 0. The
  * formats, their meaning and the table of refusals are in docs/FORMATS.md.
  *
- * Five calls: judge_check_vocabulary, judge_record, judge_compare, judge_classify, judge_check_script. Each takes any
- * bytes of any length, ends, and answers one number, which the functions below take apart:
+ * Eight calls. Five read: judge_check_vocabulary, judge_record, judge_compare, judge_classify, judge_check_script.
+ * Three write a vocabulary, record by record, into a buffer of yours: judge_make_vocabulary, judge_add_term,
+ * judge_add_statement. Each takes any bytes of any length, ends, and answers one number, which the functions below take
+ * apart:
  *
  *     uint64_t answer = judge_compare(vocabulary, length, 4, 3, survivors, sizeof survivors);
  *     if (judge_refusal(answer))        complain(judge_sentence(judge_refusal(answer)), judge_place(answer));
@@ -28,14 +30,17 @@
  * interpretation, and not the other way round) and no name is strictly between; otherwise 0. Over an accepted
  * vocabulary, a script is accepted exactly when it keeps the form and its chain of steps is a derivation of at most 64
  * open frames; then its first term lies within its second in every finite interpretation that satisfies the
- * statements. The packing of the answers is proved too. In crates/demands/specs, Demands.antt states the demands, and
- * Promises.antt what is promised of names.
+ * statements. For every list of additions that succeed from an empty vocabulary, the bytes in use are an accepted
+ * vocabulary, and reading them shows exactly those terms and statements in their order, the statements on the chain;
+ * an addition that succeeds changes its eight bytes and the link that reaches them, and no other byte. The packing of
+ * the answers is proved too. In crates/demands/specs, Demands.antt states the demands, and Promises.antt what is
+ * promised of names and of what is written.
  *
  * TRUSTED: the Rattle kit (its logic and its prover), and that its back end and the linker make of the source what it
  * says; this header, which is tested; the caller:
  *   - a pointer has as many readable bytes as the length beside it says, and is not null, even where the length is 0;
- *   - the buffers of a comparison and of a classification are writable, and each overlaps nothing else that is lent to
- *     the call; no other thread writes to what is lent;
+ *   - the buffers of a comparison, of a classification and of a vocabulary that is written are writable, and each
+ *     overlaps nothing else that is lent to the call; no other thread writes to what is lent;
  *   - a call has JUDGE_STACK_BYTES of stack. There is no recursion and no heap. */
 #ifndef JUDGE_H
 #define JUDGE_H
@@ -46,6 +51,18 @@
 #ifdef __cplusplus
 extern "C" {
 #endif
+
+/* The kinds of terms, with what A and B of their records are; 0 where nothing is said. */
+enum {
+    JUDGE_TOP = 1,
+    JUDGE_BOTTOM = 2,
+    JUDGE_NAME = 3, /* A: the label */
+    JUDGE_NOT = 4,  /* A: a term */
+    JUDGE_AND = 5,  /* A and B: terms */
+    JUDGE_OR = 6,   /* A and B: terms */
+    JUDGE_SOME = 7, /* A: a role; B: a term */
+    JUDGE_ALL = 8   /* A: a role; B: a term */
+};
 
 /* Limits of the formats. */
 enum {
@@ -97,9 +114,19 @@ uint64_t judge_classify(const uint8_t *vocabulary, size_t vocabulary_len, uint8_
  * does not lie within B. A term may stand under several records, and is the same term in each. */
 uint64_t judge_check_script(const uint8_t *vocabulary, size_t vocabulary_len, const uint8_t *script, size_t script_len);
 
-/* The writer. */
+/* Making: writes an empty vocabulary of so many roles, its header alone, into the first 8 bytes of the buffer; what
+ * lies behind keeps its content. Answered: judge_length, 8. A buffer of JUDGE_VOCABULARY_BYTES has room for any
+ * vocabulary; a longer one is no fault. Refusals 27, under 8 bytes, then 2, over JUDGE_ROLES roles. */
 uint64_t judge_make_vocabulary(uint8_t *buffer, size_t buffer_len, uint32_t roles);
+
+/* Adding a term: of kind JUDGE_TOP to JUDGE_ALL, to the vocabulary in the first `used` bytes of the buffer. A and B
+ * that the kind does not use are 0. Answered: judge_length, the bytes then in use, and judge_added, the number by
+ * which later records name the term. Refusals 1 to 8 of the bytes in use (a length past the buffer is 1); 27 without
+ * room; then 3 to 7 of the new record, as the vocabulary check would give them, but 3 for kind 9 too. */
 uint64_t judge_add_term(uint8_t *buffer, size_t buffer_len, size_t used, uint8_t kind, uint16_t a, uint16_t b);
+
+/* Adding a statement: that term a lies within term b, at the end of the chain: the last statement of the chain, or the
+ * header if there is none, gets its link. Answered and refused as adding a term. */
 uint64_t judge_add_statement(uint8_t *buffer, size_t buffer_len, size_t used, uint16_t a, uint16_t b);
 
 /* ---- Answers, taken apart; unused bits are 0 ---- */
@@ -110,9 +137,9 @@ static inline unsigned judge_refusal(uint64_t answer)
     return (unsigned)(answer & 255);
 }
 
-/* Bits 8-39 of a refusal: its place. Refusals 3 to 8: the vocabulary's record; 9 and 10: the number asked for; 11: the
- * number of atoms; 15 to 25: the script's record (17: 1 if record 1 is absent; 20: 0 if there is no step);
- * the others: 0. */
+/* Bits 8-39 of a refusal: its place. Refusals 3 to 8: the vocabulary's record (of a record that is added, the number
+ * it would get); 9 and 10: the number asked for; 11: the number of atoms; 15 to 25: the script's record (17: 1 if
+ * record 1 is absent; 20: 0 if there is no step); 27: the number of records, 0 if one is being made; the others: 0. */
 static inline uint32_t judge_place(uint64_t answer)
 {
     return (uint32_t)(answer >> 8);
@@ -134,6 +161,18 @@ static inline uint32_t judge_offset(uint64_t answer)
 static inline uint32_t judge_steps(uint64_t answer)
 {
     return (uint32_t)(answer >> 8);
+}
+
+/* Bits 8-39 of making a vocabulary or of adding to it: the number of bytes then in use. */
+static inline uint32_t judge_length(uint64_t answer)
+{
+    return (uint32_t)(answer >> 8);
+}
+
+/* The number of the record that was added, which is the last. */
+static inline uint16_t judge_added(uint64_t answer)
+{
+    return (uint16_t)(judge_length(answer) / 8 - 1);
 }
 
 /* Bit 8 of a comparison: 1 if the terms are different. */
@@ -182,7 +221,7 @@ static inline uint32_t judge_names(const uint8_t *vocabulary, size_t vocabulary_
     uint32_t names = 0;
 
     for (size_t byte = 8; byte < vocabulary_len; byte += 8)
-        names += vocabulary[byte] == 3;
+        names += vocabulary[byte] == JUDGE_NAME;
     return names;
 }
 
@@ -228,6 +267,7 @@ static inline const char *judge_sentence(unsigned refusal)
         "the chain ends with a frame left",
         "a step follows after all is closed",
         "under 144 bytes are lent for the taxonomy",
+        "the vocabulary has 512 records, or under 8 bytes of the buffer are free",
     };
 
     if (refusal >= sizeof sentences / sizeof *sentences)

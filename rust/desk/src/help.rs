@@ -22,10 +22,13 @@ usage: desk COMMAND .. [--json] [--quiet] [--color[=WHEN]]
   verify VOCABULARY SCRIPT      whether a script proves that one term lies within another
   columns VOCABULARY [OWNER]    the columns that a script may use
   assemble TEXT -o FILE         a vocabulary or a script from its text
+  new FILE --roles N            makes an empty vocabulary
+  add FILE term KIND ..         adds a term to a vocabulary
+  add FILE statement A B        adds a statement at the end of its chain
   recheck TABLE                 every line of a filed table
 
 'desk COMMAND --help' says more, and so do 'desk help texts', 'desk help tables' and 'desk help refusals'.
-An input of '-' is standard input. Where a vocabulary or a script is taken, its text is taken as well.
+An input of '-' is standard input. Where a vocabulary or a script is taken, its text is taken as well, but for 'add'.
 '--' ends the options: what follows is taken as it is.
 
   --json           writes one JSON object a line instead
@@ -40,7 +43,7 @@ exit status: 0 holds, 1 does not hold, 2 refused input, 64 and up usage and I/O 
 ";
 
 /// A page for each command and topic.
-const PAGES: [(&str, &str); 12] = [
+const PAGES: [(&str, &str); 14] = [
     ("check", CHECK),
     ("show", SHOW),
     ("record", RECORD),
@@ -50,6 +53,8 @@ const PAGES: [(&str, &str); 12] = [
     ("verify", VERIFY),
     ("columns", COLUMNS),
     ("assemble", ASSEMBLE),
+    ("new", NEW),
+    ("add", ADD),
     ("recheck", RECHECK),
     ("texts", TEXTS),
     ("tables", TABLES),
@@ -186,6 +191,43 @@ column. Of a script the length and the header are checked here (13 and 14); the 
 exit status: 0 written, 2 refused, or a fault in the text
 ";
 
+const NEW: &str = "\
+usage: desk new FILE --roles N [--json]
+
+Makes an empty vocabulary of N roles, r0 to rN-1: its header alone, 8 bytes. 'desk add' adds to it. A FILE that is there
+already stays as it is, whatever it holds.
+
+  --roles N   the number of roles, 0 to 64; it has to be given, since no addition changes it
+
+exit status: 0 written, 2 refused (2: over 64 roles), 73 FILE is there already, or cannot be made
+";
+
+const ADD: &str = "\
+usage: desk add FILE (term KIND .. | statement A B) [--json]
+
+Adds one record to the vocabulary FILE, by the library's own writer, and prints its number and its line: a term, or the
+statement that A lies within B, at the end of the chain. FILE is replaced whole or not at all; it has to be a vocabulary's
+bytes, and not a text. What the library refuses is not added: of FILE 1 to 8; 27 if it has 512 records; of the new record
+3 to 7.
+
+  term c7                          the name labelled 7 (kind 3)
+  term owl:Thing                   top (1); owl:Nothing is bottom (2)
+  term ObjectComplementOf T        not (4)
+  term ObjectIntersectionOf T T    and (5); ObjectUnionOf is or (6)
+  term ObjectSomeValuesFrom r0 T   some, of role 0 (7); ObjectAllValuesFrom is all (8)
+  term KIND A B                    by the number of the kind, as 'term 5 1 2'; what it does not use may be left out
+  term 'ObjectUnionOf(c1 #2)'      a whole term, as texts have it; so is a statement: 'SubClassOf(c1 #2)'
+
+T, A and B are terms: 4 or '#4' is the term of record 4; c7, or a term written out, stands for the first record that says
+it, as in texts ('desk help texts'). There has to be one: an operand that no record says is not added by the way, but
+told. A role is r0 or 0. Shells take '#' and parentheses for their own where they are not quoted.
+
+Where an earlier record says the same as the new one, that is said. Runs at once on one FILE add one after the other. If
+another program writes to it meanwhile, it stays as that has left it, and nothing is added (73).
+
+exit status: 0 added, 2 refused, or a fault in a text, 66 FILE cannot be read or is a text, 73 FILE cannot be replaced
+";
+
 const RECHECK: &str = "\
 usage: desk recheck TABLE [-j N] [--strict] [--explain] [--words TEXT] [--json]
 
@@ -293,9 +335,9 @@ Refusals: the first in the table's order is given, with the place where it appli
     }
     page.push_str(
         "
-1 to 8 are of vocabularies, 9 of 'record', 10 of the terms asked about, 11 and 12 of 'compare' and 'classify', 26 of
-'classify', 13 to 19 of the form of scripts (status 2), 20 to 25 of the chain of steps (status 1). docs/FORMATS.md has the
-formats and each rule in full.
+1 to 8 are of vocabularies and of what is added to them, 9 of 'record', 10 of the terms asked about, 11 and 12 of
+'compare' and 'classify', 26 of 'classify', 27 of 'add', 13 to 19 of the form of scripts (status 2), 20 to 25 of the chain
+of steps (status 1). docs/FORMATS.md has the formats and each rule in full.
 ",
     );
     page

@@ -1,7 +1,7 @@
 //! Vocabularies and scripts, from their bytes or from their texts.
 
 use crate::display::counted;
-use crate::files::{self, Access, FileId, Length, Name, Source};
+use crate::files::{self, Access, FileId, Length, Name, Opened, Source};
 use crate::json::Json;
 use crate::report::{Report, Stop, Style};
 use crate::text::cursor::Fault;
@@ -36,6 +36,17 @@ impl Input {
             bytes: assembled.bytes,
             id,
             lines: Some(assembled.lines),
+        }
+    }
+
+    /// A file that is not there, and has no bytes.
+    pub fn absent(name: Name) -> Input {
+        Input {
+            name,
+            bytes: Vec::new(),
+            id: None,
+            length: Length::of(&[]),
+            lines: None,
         }
     }
 
@@ -112,6 +123,19 @@ fn read(path: &OsStr, access: Access, most: usize) -> Result<Source, Failure> {
 /// A vocabulary, from its bytes or its text.
 pub fn vocabulary(path: &OsStr, access: Access, style: Style) -> Result<Input, Stop> {
     of_kind(read(path, access, judge::VOCABULARY_BYTES)?, Kind::Vocabulary, style)
+}
+
+/// A vocabulary that is to be changed, from its bytes alone, and its file, which no other run changes while it is open.
+pub fn vocabulary_to_change(path: &OsStr) -> Result<(Input, Opened), Failure> {
+    let mut opened = files::open_to_change(path)?;
+    let most = judge::VOCABULARY_BYTES;
+    let source = files::read_opened(&mut opened, most, |_| most)?;
+    if is_text(&source.bytes) {
+        let advice = "add a line to it, or make a vocabulary of it ('desk assemble')";
+        let message = format!("{}: is a text; {advice}", source.name);
+        return Err(Failure::new(Status::NoInput, message));
+    }
+    Ok((of_bytes(source), opened))
 }
 
 /// A script, from its bytes or its text.

@@ -230,6 +230,10 @@ fn damaged_inputs_get_json_and_never_a_panic() {
         assert!(says_json(&name, &bytes, &["columns"], &[&number]));
         assert!(says_json(&name, &bytes, &["recheck"], &[]));
         assert!(says_json(&name, &bytes, &["assemble", "-o", &output], &[]));
+        assert!(says_json(&name, &bytes, &["new"], &["--roles", &number]));
+        assert!(says_json(&name, &bytes, &["add"], &["term", "c1", &number]));
+        assert!(says_json(&name, &bytes, &["add"], &["term", "5", &number, "2"]));
+        assert!(says_json(&name, &bytes, &["add"], &["statement", &number, "c2"]));
         std::fs::remove_file(PathBuf::from(env!("CARGO_TARGET_TMPDIR")).join(name)).unwrap();
     }
 }

@@ -1,4 +1,4 @@
-//! The duty vocabulary judge from Rust: a safe wrapper of the five calls of libjudge.a.
+//! The duty vocabulary judge from Rust: a safe wrapper of the eight calls of libjudge.a.
 //!
 //! Every call takes slices of any content and length, and answers or refuses: none panics, none needs a
 //! condition. What an answer means (docs/FORMATS.md) is proved of the library's Rattle source; the compiler's
@@ -14,9 +14,13 @@
 //! assert_eq!(answer.verdict, judge::Verdict::Equal);
 //! # Ok::<(), judge::Refusal>(())
 //! ```
+//!
+//! Five calls read. Three write a vocabulary record by record, and [`Builder`] keeps their buffer.
 
+mod builder;
 mod refusal;
 
+pub use builder::Builder;
 pub use refusal::{Place, Refusal, Rule};
 
 /// The most bytes that a vocabulary may have.
@@ -70,6 +74,9 @@ mod library {
             script: *const u8,
             script_len: usize,
         ) -> u64;
+        pub fn judge_make_vocabulary(buffer: *mut u8, buffer_len: usize, roles: u32) -> u64;
+        pub fn judge_add_term(buffer: *mut u8, buffer_len: usize, used: usize, kind: u8, a: u16, b: u16) -> u64;
+        pub fn judge_add_statement(buffer: *mut u8, buffer_len: usize, used: usize, a: u16, b: u16) -> u64;
     }
 }
 
@@ -208,6 +215,43 @@ pub fn check_script(vocabulary: &[u8], script: &[u8]) -> Result<u32, Refusal> {
     value(unsafe { library::judge_check_script(vocabulary.as_ptr(), vocabulary.len(), script.as_ptr(), script.len()) })
 }
 
+/// Makes an empty vocabulary of so many roles in the first [`RECORD_BYTES`] of a buffer, and answers their number: the bytes
+/// in use. What lies behind keeps its content; a refusal (27, then 2) writes nothing.
+///
+/// ```
+/// let mut buffer = [9; 12];
+/// assert_eq!(judge::make_vocabulary(&mut buffer, 2), Ok(8));
+/// assert_eq!(buffer, [16, 1, 0, 0, 2, 0, 0, 0, 9, 9, 9, 9]);
+/// ```
+pub fn make_vocabulary(buffer: &mut [u8], roles: u32) -> Result<usize, Refusal> {
+    // SAFETY: a slice's pointer is not null and has as many bytes as its length says; they are borrowed for writing.
+    length(unsafe { library::judge_make_vocabulary(buffer.as_mut_ptr(), buffer.len(), roles) })
+}
+
+/// Adds a term of kind 1 to 8 to the vocabulary in the first `used` bytes of a buffer, and answers the bytes then in use. On
+/// success the new record's eight bytes change and no others; a refusal writes nothing. The bytes in use first meet 1 to 8,
+/// then there has to be room (27), then the new record meets 3 to 7 as the vocabulary check has them.
+///
+/// ```
+/// let mut buffer = [0; 24];
+/// let used = judge::make_vocabulary(&mut buffer, 0)?;
+/// let used = judge::add_term(&mut buffer, used, 3, 7, 0)?; // the name labelled 7 is record 1
+/// let used = judge::add_term(&mut buffer, used, 4, 1, 0)?; // not 1
+/// assert_eq!(judge::check_vocabulary(&buffer[..used]), Ok(3));
+/// # Ok::<(), judge::Refusal>(())
+/// ```
+pub fn add_term(buffer: &mut [u8], used: usize, kind: u8, a: u16, b: u16) -> Result<usize, Refusal> {
+    // SAFETY: as above.
+    length(unsafe { library::judge_add_term(buffer.as_mut_ptr(), buffer.len(), used, kind, a, b) })
+}
+
+/// Adds the statement that term `a` lies within term `b`, at the end of the chain. Answers and refuses as [`add_term`]; on
+/// success the link that reaches the new record changes with it.
+pub fn add_statement(buffer: &mut [u8], used: usize, a: u16, b: u16) -> Result<usize, Refusal> {
+    // SAFETY: as above.
+    length(unsafe { library::judge_add_statement(buffer.as_mut_ptr(), buffer.len(), used, a, b) })
+}
+
 /// `count` bits of an answer from bit `first` on.
 fn bits(answer: u64, first: u32, count: u32) -> u64 {
     answer >> first & ((1 << count) - 1)
@@ -232,4 +276,9 @@ fn taken(answer: u64) -> Result<u64, Refusal> {
 /// The value that an answer carries in bits 8 to 39, unless it is a refusal.
 fn value(answer: u64) -> Result<u32, Refusal> {
     taken(answer).map(|answer| bits(answer, 8, 32) as u32)
+}
+
+/// The number of bytes in use that an answer carries, unless it is a refusal.
+fn length(answer: u64) -> Result<usize, Refusal> {
+    value(answer).map(|length| length as usize)
 }

@@ -16,7 +16,7 @@ pub struct Refusal {
 pub enum Place {
     /// The input as a whole; the number is 0.
     Whole,
-    /// A record of the vocabulary.
+    /// A record of the vocabulary; of one that is added, the number that it would get, which is how many there are.
     Record,
     /// The number that was asked for.
     Asked,
@@ -82,6 +82,8 @@ pub enum Rule {
     AllClosed,
     /// 26
     TaxonomyLent,
+    /// 27
+    Room,
     /// A number that the table does not have.
     Unlisted(u8),
 }
@@ -108,7 +110,7 @@ const fn row(rule: Rule, place: Place, condition: &'static str, words: &'static 
 /// The table, in the order of the numbers: the condition, in the words of docs/FORMATS.md, and a sentence, which
 /// include/judge.h has too.
 #[rustfmt::skip]
-const TABLE: [Row; 26] = [
+const TABLE: [Row; 27] = [
     row(Rule::VocabularyLength, Whole, "under 8, over 4,096 or no multiple of 8",
         "the vocabulary's length is under 8, over 4,096 or no multiple of 8"),
     row(Rule::Header, Whole, "kind, second byte, role count or next",
@@ -163,6 +165,8 @@ const TABLE: [Row; 26] = [
         "a step follows after all is closed"),
     row(Rule::TaxonomyLent, Whole, "under 144 bytes lent",
         "under 144 bytes are lent for the taxonomy"),
+    row(Rule::Room, Record, "512 records, or under 8 bytes free",
+        "the vocabulary has 512 records, or under 8 bytes of the buffer are free"),
 ];
 
 impl Rule {

@@ -5,7 +5,7 @@
 use judge::{Place, Refusal, Rule};
 
 /// The table of docs/FORMATS.md in words, as a refusal is printed.
-const PRINTED: [&str; 26] = [
+const PRINTED: [&str; 27] = [
     "refused, 1: the vocabulary's length is under 8, over 4,096 or no multiple of 8",
     "refused, 2: the vocabulary's header has a wrong kind, second byte, role count or next",
     "refused, 3, at record 1: the record's kind is not 1 to 9, or its second byte is not 0",
@@ -32,6 +32,7 @@ const PRINTED: [&str; 26] = [
     "refused, 24, at script record 2: the chain ends with a frame left",
     "refused, 25, at script record 4: a step follows after all is closed",
     "refused, 26: under 144 bytes are lent for the taxonomy",
+    "refused, 27, at record 3: the vocabulary has 512 records, or under 8 bytes of the buffer are free",
 ];
 
 /// A vocabulary of these records.
@@ -106,6 +107,7 @@ fn refusal(number: u8) -> Option<Refusal> {
         24 => refused_script(&[[3, 0, 0, 0, 0, 0, 0, 0]]),
         25 => refused_script(&[START, CLOSE, [5, 0, 0, 0, 0, 0, 0, 0]]),
         26 => judge::classify(&one_name(), &mut [0; 512], &mut [0; 143]).err(),
+        27 => judge::add_term(&mut one_name(), 24, 1, 0, 0).err(),
         _ => None,
     }
 }
@@ -156,7 +158,7 @@ fn a_rule_is_known_by_its_number() {
     for number in 0..=255 {
         let rule = Rule::of(number);
         assert_eq!(rule.number(), number);
-        assert_eq!(matches!(rule, Rule::Unlisted(_)), !(1..=26).contains(&number));
+        assert_eq!(matches!(rule, Rule::Unlisted(_)), !(1..=27).contains(&number));
     }
     let unlisted = Refusal {
         rule: Rule::of(77),
@@ -171,7 +173,7 @@ fn a_rule_is_known_by_its_number() {
 #[test]
 fn places_are_of_the_sort_that_the_table_gives() {
     let sort = |number| match number {
-        3..=8 => Place::Record,
+        3..=8 | 27 => Place::Record,
         9 | 10 => Place::Asked,
         11 => Place::Atoms,
         15..=25 => Place::ScriptRecord,
@@ -189,7 +191,7 @@ fn the_header_has_the_same_sentences() {
     // A sentence may be written in pieces on several lines.
     let header: String = header.lines().map(str::trim).collect();
     let header = header.replace("\"\"", "");
-    for number in 1..=26 {
+    for number in 1..=27 {
         let sentence = format!("\"{}\"", Rule::of(number).words());
         assert!(header.contains(&sentence), "{number}: {sentence}");
     }

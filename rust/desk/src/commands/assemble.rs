@@ -4,14 +4,16 @@ use super::refused_script;
 use crate::console::Console;
 use crate::display::counted;
 use crate::files::{self, Name};
-use crate::input;
+use crate::input::{self, Input};
 use crate::json::Json;
 use crate::refused;
 use crate::report::{Report, Stop};
 use crate::streams;
 use crate::text::Kind;
 use base::arguments::{Arguments, Flag};
+use base::vocabulary::{Saying, Vocabulary};
 use base::{Failure, Status};
+use judge::Builder;
 use std::path::Path;
 
 /// The options.
@@ -25,7 +27,7 @@ pub fn run(arguments: &Arguments, console: &mut Console) -> Result<Status, Stop>
     if output == "-" && console.json {
         return Err(Failure::usage("--json and '-o -' would both write to standard output").into());
     }
-    let (input, kind) = input::text(path, console.style)?;
+    let (mut input, kind) = input::text(path, console.style)?;
     let refusal = match kind {
         Kind::Script => refused_script(&input.bytes),
         Kind::Vocabulary => judge::check_vocabulary(&input.bytes).err(),
@@ -33,12 +35,43 @@ pub fn run(arguments: &Arguments, console: &mut Console) -> Result<Status, Stop>
     if let Some(refusal) = refusal.filter(|_| !arguments.has("--force")) {
         return Ok(console.answer(refused::report(console.style, &input, refusal, None))?);
     }
+    if kind == Kind::Vocabulary && refusal.is_none() {
+        rebuild(&mut input)?;
+    }
     if output == "-" || streams::is_output(Path::new(output)) {
         console.bytes(&input.bytes)?;
         return Ok(Status::Holds);
     }
     files::write(output, &input.bytes, &[input.id])?;
     Ok(console.answer(written(&Name::new(output), kind, input.bytes.len()))?)
+}
+
+/// Takes the bytes of an accepted vocabulary from the library's writer, where it can write them. They are the same.
+fn rebuild(input: &mut Input) -> Result<(), Failure> {
+    let Some(built) = built(&Vocabulary::read(&input.bytes)) else {
+        return Ok(());
+    };
+    if built != input.bytes {
+        let message = "the writer's bytes are not those of the text, against what is proved";
+        return Err(Failure::new(Status::Defect, message));
+    }
+    input.bytes = built;
+    Ok(())
+}
+
+/// An accepted vocabulary, written record by record. Nothing where a statement is off the chain: the writer has each on it.
+fn built(vocabulary: &Vocabulary) -> Option<Vec<u8>> {
+    let chained = vocabulary.chained();
+    let mut builder = Builder::new(vocabulary.get(0).b.into()).ok()?;
+    for (number, record) in vocabulary.numbered() {
+        let added = match record.saying()? {
+            Saying::Within(..) if chained.get(number) != Some(&true) => return None,
+            Saying::Within(a, b) => builder.statement(a, b),
+            _ => builder.term(record.kind, record.a, record.b),
+        };
+        added.ok()?;
+    }
+    Some(builder.as_bytes().to_vec())
 }
 
 fn written(output: &Name, kind: Kind, bytes: usize) -> Report {
@@ -56,4 +89,36 @@ fn written(output: &Name, kind: Kind, bytes: usize) -> Report {
         ("records", Json::from(records)),
     ];
     Report::new(Status::Holds, text, json)
+}
+
+#[cfg(test)]
+mod tests {
+    #![allow(clippy::unwrap_used)]
+
+    use super::built;
+    use crate::stored;
+    use base::vocabulary::{Vocabulary, STATEMENT_KIND};
+
+    /// The writer makes the bytes of every accepted vocabulary whose statements are all on the chain, and of no other.
+    #[test]
+    fn the_writer_makes_the_same_bytes() {
+        let (mut same, mut none) = (0, 0);
+        for bytes in stored::vocabularies().into_iter().chain(stored::compared()) {
+            if judge::check_vocabulary(&bytes).is_err() {
+                continue;
+            }
+            let vocabulary = Vocabulary::read(&bytes);
+            let statements = vocabulary
+                .numbered()
+                .filter(|(_, record)| record.kind == STATEMENT_KIND);
+            if statements.count() == vocabulary.statements().len() {
+                assert_eq!(built(&vocabulary).unwrap(), bytes);
+                same += 1;
+            } else {
+                assert_eq!(built(&vocabulary), None);
+                none += 1;
+            }
+        }
+        assert!(same > 1_500 && none > 1_500, "{same} {none}");
+    }
 }

@@ -1,10 +1,12 @@
 //! The commands.
 
+mod add;
 mod assemble;
 mod check;
 mod classify;
 mod columns;
 mod compare;
+mod new;
 mod pair;
 mod recheck;
 mod record;
@@ -42,7 +44,7 @@ const fn command(
 }
 
 /// The commands, in the order of the help.
-const COMMANDS: [Command; 10] = [
+const COMMANDS: [Command; 12] = [
     command("check", &[], check::run),
     command("show", &[], show::run),
     command("record", &[], record::run),
@@ -52,6 +54,8 @@ const COMMANDS: [Command; 10] = [
     command("verify", verify::FLAGS, verify::run),
     command("columns", columns::FLAGS, columns::run),
     command("assemble", assemble::FLAGS, assemble::run),
+    command("new", new::FLAGS, new::run),
+    command("add", &[], add::run),
     command("recheck", recheck::FLAGS, recheck::run),
 ];
 

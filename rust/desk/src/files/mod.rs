@@ -1,9 +1,10 @@
 //! Reading and writing files, with a plain message for whatever is wrong.
 
+mod lock;
 mod replace;
 mod write;
 
-pub use write::write;
+pub use write::{create, renew, write};
 
 use crate::display::{grouped, plain};
 use crate::streams;
@@ -149,6 +150,19 @@ pub fn open(path: &OsStr, access: Access) -> Result<Opened, Failure> {
     })
 }
 
+/// Opens a regular file that is to be changed. As long as it is open, other runs that change it wait.
+pub fn open_to_change(path: &OsStr) -> Result<Opened, Failure> {
+    loop {
+        let opened = open(path, Access::Regular)?;
+        lock::wait(&opened.source);
+        // The run that was waited for has put another file in its place.
+        let now = std::fs::metadata(path).ok();
+        if now.as_ref().and_then(FileId::of) == opened.id {
+            return Ok(opened);
+        }
+    }
+}
+
 /// Refuses what may not be read: a directory, and what is no regular file where only those may be.
 fn check_sort(name: &Name, about: &Metadata, access: Access) -> Result<(), Failure> {
     let why = if about.is_dir() {
@@ -182,7 +196,11 @@ fn open_standard_input() -> Result<Opened, Failure> {
 /// Reads at most as many bytes as the limit of what it begins with, and one more, so that a longer file shows as such. A
 /// limit is that of a file which begins with these bytes, of which there are at most `first` and one.
 pub fn read(path: &OsStr, access: Access, first: usize, limit: impl Fn(&[u8]) -> usize) -> Result<Source, Failure> {
-    let mut opened = open(path, access)?;
+    read_opened(&mut open(path, access)?, first, limit)
+}
+
+/// The same of a file that is open.
+pub fn read_opened(opened: &mut Opened, first: usize, limit: impl Fn(&[u8]) -> usize) -> Result<Source, Failure> {
     let mut bytes = Vec::new();
     let mut take = |most: usize, bytes: &mut Vec<u8>| {
         let more = (most + 1).saturating_sub(bytes.len()) as u64;
@@ -190,12 +208,7 @@ pub fn read(path: &OsStr, access: Access, first: usize, limit: impl Fn(&[u8]) ->
     };
     let most = take(first, &mut bytes).map(|_| limit(&bytes));
     let read = most.and_then(|most| take(most, &mut bytes).map(|_| most));
-    let Opened {
-        name,
-        id,
-        length: known,
-        ..
-    } = opened;
+    let (name, id, known) = (opened.name.clone(), opened.id, opened.length);
     let most = read.map_err(|error| unreadable(&name, &error))?;
     let mut length = Length::of(&bytes);
     if bytes.len() > most {

@@ -1,7 +1,7 @@
 //! Replacing a file at once: a new one is made beside it and takes its name when all of it is there, so that nobody ever
 //! finds a part of it, and the old one stays where anything fails.
 
-use super::write::{directory, fill, unwritable, unwritten};
+use super::write::{directory, fill, unwritable, unwritten, EXISTS};
 use super::Name;
 use crate::signals;
 use base::{Failure, Status};
@@ -23,22 +23,48 @@ const PERMISSIONS: u32 = 0o777;
 /// Puts a file of these bytes at a path, where there is a regular file or none.
 pub fn replace(name: &Name, path: &Path, bytes: &[u8]) -> Result<(), Failure> {
     let old = old_file(path).map_err(|error| unwritable(name, &error))?;
+    put(name, path, bytes, old.as_ref(), |temporary| {
+        temporary.rename(name, path)
+    })
+}
+
+/// Puts a file of these bytes at a path where there is none. One that comes there meanwhile stays as it is.
+pub fn create(name: &Name, path: &Path, bytes: &[u8]) -> Result<(), Failure> {
+    put(name, path, bytes, None, |temporary| temporary.link(name, path))
+}
+
+/// Puts a file of these bytes in the place of one that was read and had the old ones. One that has others by now, since
+/// some program has written to it, stays as it is: what that has written would be lost.
+pub fn renew(name: &Name, path: &Path, old_bytes: &[u8], bytes: &[u8]) -> Result<(), Failure> {
+    let old = old_file(path).map_err(|error| unwritable(name, &error))?;
+    put(name, path, bytes, old.as_ref(), |temporary| {
+        if fs::read(path).is_ok_and(|now| now == old_bytes) {
+            temporary.rename(name, path)
+        } else {
+            Err(unwritten(name, "has changed since it was read, and stays as it is"))
+        }
+    })
+}
+
+/// Makes a file of these bytes beside a path, in the place of the old one if there is one, and lets it take its name.
+fn put(
+    name: &Name,
+    path: &Path,
+    bytes: &[u8],
+    old: Option<&Metadata>,
+    take_name: impl FnOnce(Temporary) -> Result<(), Failure>,
+) -> Result<(), Failure> {
     let _catching = signals::catch();
     let directory = directory(path);
-    let temporary = Temporary::new(&directory, old.as_ref()).map_err(|error| match error.kind() {
+    let temporary = Temporary::new(&directory, old).map_err(|error| match error.kind() {
         ErrorKind::PermissionDenied => unwritten(name, "its directory may not be written to (permission denied)"),
         _ => unwritable(name, &error),
     })?;
     stop_if_caught(name)?;
-    let filled = temporary
-        .take_after(old.as_ref())
-        .and_then(|()| fill(&temporary.file, bytes));
+    let filled = temporary.take_after(old).and_then(|()| fill(&temporary.file, bytes));
     filled.map_err(|error| unwritable(name, &error))?;
     stop_if_caught(name)?;
-    temporary.rename(path).map_err(|error| match error.kind() {
-        ErrorKind::PermissionDenied => unwritten(name, "may not be replaced (permission denied)"),
-        _ => unwritable(name, &error),
-    })?;
+    take_name(temporary)?;
     // The file is whole, under the old name or the new, whether or not the directory can be waited for.
     let _ = File::open(directory).and_then(|directory| directory.sync_all());
     Ok(())
@@ -100,10 +126,23 @@ impl Temporary {
         self.file.set_permissions(Permissions::from_mode(mode))
     }
 
-    fn rename(mut self, path: &Path) -> io::Result<()> {
-        fs::rename(&self.path, path)?;
+    /// Takes a name, which another file may have.
+    fn rename(mut self, name: &Name, path: &Path) -> Result<(), Failure> {
+        fs::rename(&self.path, path).map_err(|error| match error.kind() {
+            ErrorKind::PermissionDenied => unwritten(name, "may not be replaced (permission denied)"),
+            _ => unwritable(name, &error),
+        })?;
         self.renamed = true;
         Ok(())
+    }
+
+    /// Takes a name that no other file has. On a file system without links it is renamed: a moment ago nothing was there.
+    fn link(self, name: &Name, path: &Path) -> Result<(), Failure> {
+        match fs::hard_link(&self.path, path) {
+            Ok(()) => Ok(()),
+            Err(error) if error.kind() == ErrorKind::AlreadyExists => Err(unwritten(name, EXISTS)),
+            Err(_) => self.rename(name, path),
+        }
     }
 }
 
@@ -113,5 +152,32 @@ impl Drop for Temporary {
             // Where even that fails there is nothing more to do; the output itself is as it was.
             let _ = fs::remove_file(&self.path);
         }
+    }
+}
+
+#[cfg(test)]
+mod tests {
+    #![allow(clippy::unwrap_used)]
+
+    use super::{create, renew};
+    use crate::files::Name;
+    use std::fs;
+
+    /// A file is renewed where it has the bytes that were read, and made where none is; else it stays.
+    #[test]
+    fn what_another_program_has_written_stays() {
+        let directory = std::env::temp_dir().join(format!("desk-renew-{}", std::process::id()));
+        fs::create_dir_all(&directory).unwrap();
+        let path = directory.join("x");
+        let name = Name::new("x".as_ref());
+        create(&name, &path, b"old").unwrap();
+        let there = create(&name, &path, b"new").unwrap_err();
+        assert_eq!(there.message, "x: is there already, and stays as it is");
+        renew(&name, &path, b"old", b"new").unwrap();
+        let changed = renew(&name, &path, b"old", b"newer").unwrap_err();
+        assert_eq!(changed.message, "x: has changed since it was read, and stays as it is");
+        assert_eq!(fs::read(&path).unwrap(), b"new");
+        assert_eq!(fs::read_dir(&directory).unwrap().count(), 1);
+        fs::remove_dir_all(&directory).unwrap();
     }
 }

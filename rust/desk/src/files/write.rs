@@ -1,6 +1,6 @@
 //! Writing files.
 
-use super::replace::replace;
+use super::replace::{self, replace};
 use super::{reason, FileId, Name};
 use crate::streams;
 use base::{Failure, Status};
@@ -12,6 +12,8 @@ use std::path::{Path, PathBuf};
 
 /// The most symbolic links that one name leads through; the kernel has the same limit.
 const LINKS: usize = 40;
+/// Why a file that is there is not made.
+pub const EXISTS: &str = "is there already, and stays as it is";
 
 /// Writes a file, but never one of the inputs. A regular file is replaced by a whole new one, or stays as it was; what is
 /// no regular file, and an open descriptor (`/dev/stdout`), is written to. Symbolic links are followed.
@@ -31,6 +33,28 @@ pub fn write(path: &OsStr, bytes: &[u8], inputs: &[Option<FileId>]) -> Result<()
         }
         _ => replace(&name, &end, bytes),
     }
+}
+
+/// Makes a file, but never in the place of another.
+pub fn create(path: &OsStr, bytes: &[u8]) -> Result<(), Failure> {
+    let (name, path) = (Name::new(path), Path::new(path));
+    let end = follow(path);
+    match look(&name, path, &end)? {
+        Some(_) => Err(unwritten(&name, EXISTS)),
+        None if streams::is_descriptor(&end) => Err(unwritten(&name, "is not open")),
+        None => replace::create(&name, &end, bytes),
+    }
+}
+
+/// Replaces a regular file, which was read and had the old bytes, by a whole new one, or lets it stay as it is.
+pub fn renew(path: &OsStr, old_bytes: &[u8], bytes: &[u8]) -> Result<(), Failure> {
+    let (name, path) = (Name::new(path), Path::new(path));
+    let end = follow(path);
+    look(&name, path, &end)?;
+    if streams::is_descriptor(&end) {
+        return Err(unwritten(&name, "is an open descriptor, and no file's own name"));
+    }
+    replace::renew(&name, &end, old_bytes, bytes)
 }
 
 /// What stands at a path, which leads to `end`, if anything does. What can be no file is refused.

@@ -1,6 +1,7 @@
 //! The text forms of vocabularies and scripts: a line for each record, so that reading and writing undo each other
 //! (docs/DESK.md).
 
+pub mod addition;
 pub mod cursor;
 mod records;
 mod said;

@@ -63,9 +63,19 @@ pub struct Said {
     /// The records of terms that faulty lines leave open.
     open: HashSet<u16>,
     anything: bool,
+    /// Whether it is records that say it, and no lines.
+    in_records: bool,
 }
 
 impl Said {
+    /// What records say, of which none is added yet.
+    pub fn in_records() -> Said {
+        Said {
+            in_records: true,
+            ..Said::default()
+        }
+    }
+
     /// Adds what the line of a record says.
     pub fn add(&mut self, number: u16, says: Says) {
         match says {
@@ -94,6 +104,15 @@ impl Said {
     /// The first record that says a term.
     fn number(&self, term: Term) -> Option<u16> {
         self.first.get(&term).copied()
+    }
+
+    /// What is to be done about a term that nothing says.
+    fn missing(&self) -> &'static str {
+        if self.in_records {
+            "no record says this term; add it first"
+        } else {
+            "no earlier line says this term; give it a line of its own before"
+        }
     }
 
     /// Whether a faulty line may have said a term.
@@ -127,8 +146,7 @@ impl Said {
         let term = read(line)?;
         let number = self.number(term);
         if number.is_none() && !self.may_say(term) {
-            let advice = "give it a line of its own before, or name a record, as";
-            line.note(place, &format!("no earlier line says this term; {advice} {example}"));
+            line.note(place, &format!("{}, or name a record, as {example}", self.missing()));
         }
         Ok(number)
     }

@@ -153,7 +153,7 @@ fn raw(record: Record) -> String {
 
 /// What comes after the word of a term.
 #[derive(Clone, Copy)]
-enum Operands {
+pub enum Operands {
     /// Nothing.
     None,
     /// A label, as the name `c7` has it.
@@ -182,10 +182,10 @@ const OTHERS: [&str; 3] = ["raw", "off", "SubClassOf"];
 const NO_RECORD: &str =
     "a term (c1, owl:Thing, ObjectUnionOf(..), ..) or a statement (SubClassOf(..)) is expected here";
 /// What is said where no term stands as an operand.
-const NO_TERM: &str = "a term (c1, #7, owl:Thing, ObjectUnionOf(..), ..) is expected here";
+pub const NO_TERM: &str = "a term (c1, #7, owl:Thing, ObjectUnionOf(..), ..) is expected here";
 
 /// The kind of a term by its word, and what comes after that. A name has no word.
-fn shape(word: &str) -> (u8, Operands) {
+pub fn shape(word: &str) -> (u8, Operands) {
     match word {
         "owl:Thing" => (1, Operands::None),
         "owl:Nothing" => (2, Operands::None),
@@ -268,7 +268,7 @@ fn read_record(line: &mut Cursor, said: &Said) -> Result<Linked<Record>, Unread>
 
 /// The word that stands here, of a term or one of the others. The word of a name is empty: it stays, since its label is
 /// part of it.
-fn read_word(line: &mut Cursor, others: &[&'static str], expected: &str) -> Result<&'static str, Fault> {
+pub fn read_word(line: &mut Cursor, others: &[&'static str], expected: &str) -> Result<&'static str, Fault> {
     if line.is_lettered('c') {
         return Ok("");
     }
@@ -287,7 +287,7 @@ fn record(term: Term) -> Record {
 }
 
 /// What a record says that is given by its fields.
-fn raw_says(raw: Record) -> Says {
+pub fn raw_says(raw: Record) -> Says {
     let term = Term::new(raw.kind, raw.a, raw.b);
     if record(term) == raw {
         Says::Term(term)
@@ -311,7 +311,7 @@ fn statement(line: &mut Cursor, said: &Said, on: bool) -> Result<Linked<Record>,
 }
 
 /// Two things in parentheses.
-fn pair<T>(
+pub fn pair<T>(
     line: &mut Cursor,
     first: impl Fn(&mut Cursor) -> Result<T, Fault>,
     second: impl Fn(&mut Cursor) -> Result<T, Fault>,
@@ -323,12 +323,17 @@ fn pair<T>(
 }
 
 /// A term at this nesting, of which the word is taken.
-fn read_term(line: &mut Cursor, said: &Said, nesting: usize, (kind, operands): (u8, Operands)) -> Result<Term, Fault> {
+pub fn read_term(
+    line: &mut Cursor,
+    said: &Said,
+    nesting: usize,
+    (kind, operands): (u8, Operands),
+) -> Result<Term, Fault> {
     let term = |line: &mut Cursor| operand(line, said, nesting + 1);
-    let role = |line: &mut Cursor| line.lettered('r', "a role, as r0, is expected here").map(Some);
+    let role = |line: &mut Cursor| read_role(line).map(Some);
     let (a, b) = match operands {
         Operands::None => (Some(0), Some(0)),
-        Operands::Label => (Some(line.lettered('c', NO_TERM)?), Some(0)),
+        Operands::Label => (Some(read_label(line)?), Some(0)),
         Operands::Term => {
             line.symbol('(')?;
             let a = term(line)?;
@@ -341,8 +346,18 @@ fn read_term(line: &mut Cursor, said: &Said, nesting: usize, (kind, operands): (
     Ok(Term { kind, a, b })
 }
 
+/// A role, as `r0`.
+pub fn read_role(line: &mut Cursor) -> Result<u16, Fault> {
+    line.lettered('r', "a role, as r0, is expected here")
+}
+
+/// The label of a name, as `c7`.
+pub fn read_label(line: &mut Cursor) -> Result<u16, Fault> {
+    line.lettered('c', NO_TERM)
+}
+
 /// The record of an operand: `#7`, or a term that an earlier record says.
-fn operand(line: &mut Cursor, said: &Said, nesting: usize) -> Result<Option<u16>, Fault> {
+pub fn operand(line: &mut Cursor, said: &Said, nesting: usize) -> Result<Option<u16>, Fault> {
     said.reference(line, nesting, "#7", |line| {
         let word = read_word(line, &[], NO_TERM)?;
         read_term(line, said, nesting, shape(word))

@@ -9,6 +9,7 @@ mod vocabulary;
 mod tests;
 
 use crate::trace;
+use base::vocabulary::Record;
 use judge::{Refusal, Rule};
 use script::Checked;
 
@@ -57,6 +58,11 @@ pub fn is_foreign(vocabulary: &[u8], script: &[u8], refusal: Refusal) -> bool {
 /// What is wrong where a vocabulary is refused (2 to 8), or a number that was asked for in it (9 and 10).
 pub fn vocabulary_detail(vocabulary: &[u8], refusal: Refusal) -> Option<String> {
     vocabulary::detail(&base::vocabulary::Vocabulary::read(vocabulary), refusal)
+}
+
+/// What is wrong with a record that is not added to an accepted vocabulary (3 to 7).
+pub fn addition_detail(bytes: &[u8], record: Record, refusal: Refusal) -> Option<String> {
+    vocabulary::addition(&base::vocabulary::Vocabulary::read(bytes), record, refusal)
 }
 
 fn reason(vocabulary: &[u8], script: &[u8], refusal: Refusal) -> Option<Reason> {

@@ -12,12 +12,28 @@ pub fn detail(vocabulary: &Vocabulary, refusal: Refusal) -> Option<String> {
         Rule::Header => header(record),
         Rule::Kind => kind(record),
         Rule::UnusedField => unused(record),
-        Rule::TermNumber => operand(vocabulary, number),
+        Rule::TermNumber => operand(vocabulary, number, record),
         Rule::Role => role(vocabulary, record),
-        Rule::Label => label(vocabulary, number),
+        Rule::Label => label(vocabulary, number, record),
         Rule::Link => link(vocabulary, number),
         Rule::RecordNumber => absent(vocabulary, number).map(|_| end(vocabulary)),
         Rule::Query => asked(vocabulary, number),
+        _ => None,
+    }
+}
+
+/// What is wrong with a record that is not added to a vocabulary.
+pub fn addition(vocabulary: &Vocabulary, record: Record, refusal: Refusal) -> Option<String> {
+    let number = vocabulary.records.len();
+    match refusal.rule {
+        Rule::Kind => Some(format!(
+            "the kind is {}, and a term that is added has 1 to 8",
+            record.kind
+        )),
+        Rule::UnusedField => unused(record),
+        Rule::TermNumber => operand(vocabulary, number, record),
+        Rule::Role => role(vocabulary, record),
+        Rule::Label => label(vocabulary, number, record),
         _ => None,
     }
 }
@@ -123,8 +139,7 @@ pub fn unused(record: Record) -> Option<String> {
 }
 
 /// 5
-pub fn operand(vocabulary: &Vocabulary, number: usize) -> Option<String> {
-    let record = vocabulary.get(number);
+pub fn operand(vocabulary: &Vocabulary, number: usize, record: Record) -> Option<String> {
     let fields: &[_] = match record.kind {
         4 => &[("A", record.a)],
         5 | 6 | STATEMENT_KIND => &[("A", record.a), ("B", record.b)],
@@ -151,8 +166,7 @@ pub fn role(vocabulary: &Vocabulary, record: Record) -> Option<String> {
 }
 
 /// 7
-pub fn label(vocabulary: &Vocabulary, number: usize) -> Option<String> {
-    let record = vocabulary.get(number);
+pub fn label(vocabulary: &Vocabulary, number: usize, record: Record) -> Option<String> {
     let is_same = |(_, earlier): &(usize, Record)| record.kind == 3 && earlier.kind == 3 && earlier.a == record.a;
     let (first, _) = vocabulary.numbered().take_while(|(i, _)| *i < number).find(is_same)?;
     Some(format!("the label is {}, and record {first} has it first", record.a))

@@ -5,9 +5,9 @@ mod exact;
 mod mended;
 
 use super::script::Checked;
-use super::{detail, vocabulary, vocabulary_detail};
+use super::{addition_detail, detail, vocabulary, vocabulary_detail};
 use crate::stored::{script_cases, vocabularies};
-use base::vocabulary::Vocabulary;
+use base::vocabulary::{Record, Vocabulary};
 use judge::{check_script, check_vocabulary, Refusal};
 use std::collections::BTreeMap;
 
@@ -95,9 +95,9 @@ fn of_records(vocabulary: &Vocabulary, number: usize) -> [(u8, Option<String>); 
     [
         (3, vocabulary::kind(record)),
         (4, vocabulary::unused(record)),
-        (5, vocabulary::operand(vocabulary, number)),
+        (5, vocabulary::operand(vocabulary, number, record)),
         (6, vocabulary::role(vocabulary, record)),
-        (7, vocabulary::label(vocabulary, number)),
+        (7, vocabulary::label(vocabulary, number, record)),
     ]
 }
 
@@ -180,4 +180,40 @@ fn a_vocabulary_has_the_same_detail_from_both_calls() {
         }
     }
     assert!(compared > 1000, "{compared}");
+}
+
+/// What is wrong with a record that the library does not add is said; there is nothing to say of one that it adds.
+#[test]
+fn a_refused_addition_has_a_detail() {
+    let (mut refused, mut added) = ([0; 8], 0);
+    for bytes in vocabularies() {
+        if check_vocabulary(&bytes).is_err() || bytes.len() == judge::VOCABULARY_BYTES {
+            continue;
+        }
+        let vocabulary = Vocabulary::read(&bytes);
+        let last = vocabulary.records.len() as u16;
+        let fields = [(0, 0), (0, 1), (1, 0), (1, 1), (last, 1), (1, last), (7, 7)];
+        for (kind, (a, b)) in (0..=10).flat_map(|kind| fields.map(|pair| (kind, pair))) {
+            let mut buffer = [bytes.as_slice(), &[0; 8]].concat();
+            let answer = match kind {
+                9 => judge::add_statement(&mut buffer, bytes.len(), a, b),
+                _ => judge::add_term(&mut buffer, bytes.len(), kind, a, b),
+            };
+            let record = Record {
+                kind,
+                a,
+                b,
+                ..Record::default()
+            };
+            match answer {
+                Ok(_) => added += 1,
+                Err(refusal) => {
+                    assert!(addition_detail(&bytes, record, refusal).is_some(), "{kind} {a} {b}");
+                    refused[usize::from(refusal.rule.number())] += 1;
+                }
+            }
+        }
+    }
+    let each_is_met = refused[3..].iter().all(|count| *count > 100);
+    assert!(added > 1_000 && each_is_met, "{added} {refused:?}");
 }
