@@ -101,7 +101,8 @@ pub fn add_term(buffer: &mut [u8], used: usize, kind: u8, a: u16, b: u16) -> Len
         return length_after(check, 0);
     };
     write_record(buffer, used, f);
-    Lengthened::Length(used + Record::SIZE)
+    let length = used + Record::SIZE;
+    Lengthened::Length(length)
 }
 
 // A statement behind the bytes in use, at the end of the chain: their new length, or the refusal, which writes nothing.
@@ -111,11 +112,12 @@ pub fn add_statement(buffer: &mut [u8], used: usize, a: u16, b: u16) -> Lengthen
         ≡ bufferAfter (adding (now (buffer .entry)) used (statement a b)) (now (buffer .entry)) ⌝ }
 {
     let f = fields_of(9, a, b);
-    let check = check_addition(buffer, used, true, f);
-    let Checked::Fine = check else {
-        return length_after(check, 0);
+    let fits = check_addition(buffer, used, true, f);
+    let Checked::Fine = fits else {
+        return length_after(fits, 0);
     };
     link_behind(buffer, used);
     write_record(buffer, used, f);
-    Lengthened::Length(used + Record::SIZE)
+    let length = used + Record::SIZE;
+    Lengthened::Length(length)
 }

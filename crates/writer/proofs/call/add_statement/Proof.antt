@@ -59,8 +59,8 @@ write-record-requires c κs =
       linked-length (now (a .buffer)) (a .used) _ (fit told) (l .link-behind .last .0) (l .link-behind .ensures),
     )
 
-add-t14 : tie.Need-add-t14
-add-t14 c =
+add-length : tie.Need-add-length
+add-length c =
     let told = c .before .before .before .before .before .before .before .before in
     let a = start (told .before .before) .args in
     omega (arith, fit-small (now (a .buffer)) (a .used) (additions.statement (a .a) (a .b)) (fit told))
@@ -82,5 +82,5 @@ pub add-statement-spec : {M : Type 1} → statement M
 add-statement-spec =
     tie.close
     (tie.spec (λ c κs. search needs) (λ c κs. search needs) (λ c. search needs) (λ c. search needs)
-    (λ c κs. search needs) (λ c. search needs) returns link-behind-requires write-record-requires add-t14
+    (λ c κs. search needs) (λ c. search needs) returns link-behind-requires write-record-requires add-length
     (λ c. search needs) returns-2)

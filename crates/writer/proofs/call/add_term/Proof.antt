@@ -50,8 +50,8 @@ fit c =
 write-record-requires : tie.Need-write-record-requires
 write-record-requires c κs = fit (c .before) .room
 
-add-t14 : tie.Need-add-t14
-add-t14 c =
+add-length : tie.Need-add-length
+add-length c =
     let told = c .before .before .before .before in
     let a = start (told .before .before) .args in
     omega (arith, fit-small (now (a .buffer)) (a .used) (term (a .kind) (a .a) (a .b)) (fit told))
@@ -71,4 +71,4 @@ pub add-term-spec : {M : Type 1} → statement M
 add-term-spec =
     tie.close
     (tie.spec (λ c κs. search needs) (λ c κs. search needs) (λ c κs. search needs) (λ c. search needs) (λ c. search needs)
-    (λ c κs. search needs) (λ c. search needs) returns write-record-requires add-t14 (λ c. search needs) returns-2)
+    (λ c κs. search needs) (λ c. search needs) returns write-record-requires add-length (λ c. search needs) returns-2)
