@@ -1,6 +1,6 @@
 // The answers of the checks and calls. `specs/Answers.antt` says which outcome of paper 01 each stands for.
 ghost use mathlib.Core.Path.{_≡_};
-ghost use Rattle.records.specs.Outcome.{_then_, accepted, require};
+ghost use Rattle.records.specs.Outcome.{_then_, accepted, pass, require};
 ghost use Rattle.records.specs.Answers.{checked, counted, located};
 
 // A check that has nothing to answer but that it passed.
@@ -49,5 +49,15 @@ pub fn locate_after(check: Checked, offset: usize) -> Located
     match check {
         Checked::Fine => Located::At(offset),
         Checked::Refused { number, place } => Located::Refused { number, place },
+    }
+}
+
+// A vocabulary check of which only the refusal is asked for.
+pub fn check_after(vocabulary: Counted) -> Checked
+    ensures { λ r. ⌜ checked r ≡ (counted vocabulary then pass) ⌝ }
+{
+    match vocabulary {
+        Counted::Records(_) => Checked::Fine,
+        Counted::Refused { number, place } => Checked::Refused { number, place },
     }
 }

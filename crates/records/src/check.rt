@@ -8,6 +8,9 @@ use crate::fields::read_at;
 use crate::kinds::Sort;
 use crate::kinds::is_statement;
 use crate::kinds::is_term;
+use crate::kinds::sort_of_a;
+use crate::kinds::sort_of_b;
+use crate::kinds::sort_of_next;
 ghost use mathlib.Core.Path.{_≡_};
 ghost use Prim.Native.Nat.{_+_, _*_, _-_, _≤_, min};
 ghost use mathlib.Core.Bool.{cond};
@@ -245,8 +248,23 @@ fn check_rows(v: &[u8], i: usize, roles: u16, f: Record) -> Checked
     }
 }
 
-// Rows 3 to 7 at record i, which need not stand there yet, with the fields f.
-pub fn check_fields(v: &[u8], i: usize, roles: u16, f: Record) -> Checked
+// Rows 3 to 7 at record i, whose eight bytes are `part`.
+fn check_fields(v: &[u8], part: &[u8], i: usize, roles: u16) -> Checked
+    requires { ⌜ length (now part) ≡ recordSize ⌝ }
+    requires { ⌜ AtRecord (now v) i roles ⌝ }
+    ensures { λ r. ⌜ checked r ≡ fieldsCheck (now (v .entry)) i (recordOf (now (part .entry))) ⌝ }
+{
+    let fields = Record::read(part);
+    let kind = check_kind(fields, i);
+    let Checked::Fine = kind else {
+        return kind;
+    };
+    check_rows(v, i, roles, fields)
+}
+
+// The same at record i with the fields f, which does not stand there yet. (It asks for the sorts, so that `check_rows` has one
+// caller, and the compiler makes one piece of the check of each record.)
+pub fn check_new_record(v: &[u8], i: usize, roles: u16, f: Record) -> Checked
     requires { ⌜ AtRecord (now v) i roles ⌝ }
     ensures { λ r. ⌜ checked r ≡ fieldsCheck (now (v .entry)) i f ⌝ }
 {
@@ -254,16 +272,9 @@ pub fn check_fields(v: &[u8], i: usize, roles: u16, f: Record) -> Checked
     let Checked::Fine = kind else {
         return kind;
     };
-    check_rows(v, i, roles, f)
-}
-
-// The same at a record whose eight bytes are `part`.
-fn check_part(v: &[u8], part: &[u8], i: usize, roles: u16) -> Checked
-    requires { ⌜ length (now part) ≡ recordSize ⌝ }
-    requires { ⌜ AtRecord (now v) i roles ⌝ }
-    ensures { λ r. ⌜ checked r ≡ fieldsCheck (now (v .entry)) i (recordOf (now (part .entry))) ⌝ }
-{
-    check_fields(v, i, roles, Record::read(part))
+    let a = sort_of_a(f.kind);
+    let b = sort_of_b(f.kind);
+    check_sorts(v, i, roles, f, a, b, sort_of_next(f.kind))
 }
 
 fn check_record(v: &[u8], i: usize, roles: u16) -> Checked
@@ -273,7 +284,7 @@ fn check_record(v: &[u8], i: usize, roles: u16) -> Checked
 {
     let at = Record::SIZE * i;
     let end = at + Record::SIZE;
-    check_part(v, &v[at..end], i, roles)
+    check_fields(v, &v[at..end], i, roles)
 }
 
 // Rows 3 to 7 at each record in turn.
@@ -329,7 +340,7 @@ fn check_links(v: &[u8]) -> Checked
 }
 
 // Rows 1 to 8: what later rows may ask of a vocabulary.
-pub fn check_records(v: &[u8]) -> Checked
+fn check_records(v: &[u8]) -> Checked
     ensures { λ r. ⌜ checked r ≡ recordsCheck (now (v .entry)) ⌝ }
 {
     let length = check_length(v);

@@ -9,6 +9,5 @@ pub mod kinds;
 
 pub use call::find_record;
 pub use call::record;
-pub use check::check_fields;
-pub use check::check_records;
+pub use check::check_new_record;
 pub use check::check_vocabulary;

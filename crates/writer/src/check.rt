@@ -1,5 +1,7 @@
 // What the writer refuses: rows 1 to 8 of the bytes in use, row 27, and rows 3 to 7 of the new record.
 use records::answers::Checked;
+use records::answers::Counted;
+use records::answers::check_after;
 use records::answers::pass_if;
 use records::fields::Record;
 use records::fields::read_at;
@@ -31,16 +33,15 @@ fn check_room(v: &[u8], size: usize) -> Checked
     requires { ⌜ length (now v) ≤ size ⌝ }
     ensures { λ r. ⌜ checked r ≡ (recordsCheck (now (v .entry)) then roomCheck (now (v .entry)) size) ⌝ }
 {
-    let vocabulary = records::check_records(v);
-    let Checked::Fine = vocabulary else {
-        return vocabulary;
+    let vocabulary = records::check_vocabulary(v);
+    let Counted::Records(records) = vocabulary else {
+        return check_after(vocabulary);
     };
-    let records = v.len() / Record::SIZE;
     pass_if(has_room(records, v.len(), size), 27, records)
 }
 
 // These, then 3 for a record that no call adds, then rows 3 to 7 at the new record, with the fields f.
-fn check_new_record(v: &[u8], size: usize, addable: bool, f: Record) -> Checked
+fn check_record_behind(v: &[u8], size: usize, addable: bool, f: Record) -> Checked
     requires { ⌜ length (now v) ≤ size ⌝ }
     ensures { λ r. ⌜ checked r ≡ newRecordCheck (now (v .entry)) size addable f ⌝ }
 {
@@ -53,7 +54,7 @@ fn check_new_record(v: &[u8], size: usize, addable: bool, f: Record) -> Checked
     let Checked::Fine = kind else {
         return kind;
     };
-    records::check_fields(v, i, read_at(v, 0).b, f)
+    records::check_new_record(v, i, read_at(v, 0).b, f)
 }
 
 // All that an addition is refused for, first a length past the buffer.
@@ -64,5 +65,5 @@ pub fn check_addition(buffer: &[u8], used: usize, addable: bool, f: Record) -> C
     let Checked::Fine = within else {
         return within;
     };
-    check_new_record(&buffer[..used], buffer.len(), addable, f)
+    check_record_behind(&buffer[..used], buffer.len(), addable, f)
 }

@@ -2,7 +2,7 @@
 --   rows-fit             where all three fields fit, the rows pass
 --   rows-unfit           where not all do, the smallest row of those that do not is the first that applies
 --   rows-passed          where the rows pass, all three fit
---   rows-at              the rows of a record, where its sorts were told by its kind
+--   rows-at, rows-of     the rows of a record, where its sorts were told by its kind, or asked for one by one
 --   first-statement-at   row 8 at the header, put together from what the callees answered
 -- Assumes nothing.
 use Prim.Native.Nat.{ℕ, min, _<_, _≤_}
@@ -15,7 +15,7 @@ use lib.Dec.{eqb}
 use borrow.Author.Tests.{eq-eqb, ne-eqb, eqb-true}
 use Rattle.records.specs.Outcome.{Check, refused, pass, _then_, require}
 use Rattle.records.specs.Format.{recordAt}
-use Rattle.records.specs.Kinds.{sortsOf, Sorts}
+use Rattle.records.specs.Kinds.{sortsOf, Sorts, sorts}
 use Rattle.records.specs.Check.{sortFits, row, clear, rowFits, rowsCheck, linkFits, firstStatementCheck}
 use Rattle.records.specs.Code.Fields.{fieldFits, allFit, noFault, firstOf}
 use Rattle.records.specs.declared.fields.Record.{Record}
@@ -185,6 +185,12 @@ module _ (v : List ℕ) (i : ℕ) (s : Sorts) (r : Record) (e : rowsCheck v i s 
 pub rows-at : (v : List ℕ) (i : ℕ) (r : Record) (s : Sorts) (o : Check)
     → o ≡ rowsCheck v i s r → s ≡ sortsOf (r .kind) → o ≡ rowsCheck v i (sortsOf (r .kind)) r
 rows-at v i r s o h e = rw e at h
+
+-- The sorts asked for one by one.
+pub rows-of : (v : List ℕ) (i : ℕ) (r : Record) (a b next : Sort) (o : Check) → o ≡ rowsCheck v i (sorts a b next) r
+    → a ≡ sortsOf (r .kind) .a → b ≡ sortsOf (r .kind) .b → next ≡ sortsOf (r .kind) .next
+    → o ≡ rowsCheck v i (sortsOf (r .kind)) r
+rows-of v i r a b next o h p q s = h ∙ rw (p, q, s)
 
 pub first-statement-at : (v : List ℕ) (r : Record) (fit : Bool) (o : Check)
     → r ≡ recordAt v 0 → fit ≡ linkFits v 0 (r .a) → o ≡ require fit 8 0 → o ≡ firstStatementCheck v

@@ -6,7 +6,8 @@
 --   RowsPassed, well-formed-rows                   rows 1 to 8 one by one, of a vocabulary that passed them
 --   well-formed-vocabulary                         such a vocabulary gives AcceptedFacts
 --   accepted-well-formed                           one that the vocabulary check accepts passed them
---   vocabulary-then   what comes after the vocabulary check
+--   vocabulary-refused                             what the vocabulary check refuses
+--   vocabulary-then                                what comes after it
 --   accepted-vocabulary                            and so gives them
 -- Assumes nothing.
 use Prim.Native.Nat.{ℕ, _-_, _*_, _%_, _≤_, _<_}
@@ -270,6 +271,19 @@ well-formed-vocabulary v e =
 pub accepted-well-formed : (v : List ℕ) (n : ℕ) → vocabularyCheck v ≡ accepted n → IsWellFormed v
 unfolding vocabularyCheck
 accepted-well-formed v n e = then-passed (recordsCheck v) (accepted (count v)) n e .0
+
+-- What it refuses, rows 1 to 8 refuse.
+pub vocabulary-refused : (v : List ℕ) (n p : ℕ) → vocabularyCheck v ≡ refused n p → recordsCheck v ≡ refused n p
+unfolding vocabularyCheck
+vocabulary-refused v n p e = at (recordsCheck v) e
+  where
+    at : (o : Check) → (o then accepted (count v)) ≡ refused n p → o ≡ refused n p
+    at (accepted u) h = absurd (clash (cc))
+    at (refused m q) h =
+        let same : _≡_ {A = Outcome ℕ} (refused m q) (refused n p) = h in
+        let number : m ≡ n = cc in
+        let place : q ≡ p = cc in
+        cc
 
 pub accepted-vocabulary : (v : List ℕ) (n : ℕ) → vocabularyCheck v ≡ accepted n → AcceptedFacts v
 accepted-vocabulary v n e = well-formed-vocabulary v (accepted-well-formed v n e)

@@ -9,7 +9,7 @@ use Rattle.records.proofs.check.check_record.Tie as tie
 
 returns : tie.Need-returns
 unfolding recordCheck recordAt
-returns c = rw add-sub-cancel-left at (c .check-part .ensures)
+returns c = rw add-sub-cancel-left at (c .check-fields .ensures)
 
 pub check-record-spec : {M : Type 1} → statement M
 check-record-spec =

@@ -25,13 +25,13 @@ within c =
     leb-true _ _ (require-passed (leb (a .used) (length (now (a .buffer)))) 1 0
     (checked-fine _ _ (c .before .before .pass-if .ensures) (c .enum-told .given .1)))
 
-slice-aggregate-check-new-record : tie.Need-slice-aggregate-check-new-record
-slice-aggregate-check-new-record c =
+slice-aggregate-check-record-behind : tie.Need-slice-aggregate-check-record-behind
+slice-aggregate-check-record-behind c =
     let a = c .before .before .before .before .before .args in
     sym (use-length (now (a .buffer)) (a .used) (within (c .before)))
 
-check-new-record-requires : tie.Need-check-new-record-requires
-check-new-record-requires c κs =
+check-record-behind-requires : tie.Need-check-record-behind-requires
+check-record-behind-requires c κs =
     let a = c .before .before .before .before .before .args in
     omega (arith, within (c .before), use-length (now (a .buffer)) (a .used) (within (c .before)))
 
@@ -39,10 +39,10 @@ returns-2 : tie.Need-returns-2
 unfolding additionCheck
 returns-2 c =
     then-fine _ _ _ _ (c .before .before .before .before .pass-if .ensures) (c .before .before .enum-told .given .1)
-    (c .check-new-record .ensures)
+    (c .check-record-behind .ensures)
 
 pub check-addition-spec : {M : Type 1} → statement M
 check-addition-spec =
     tie.close
-    (tie.spec (λ c κs. search needs) (λ c. search needs) (λ c. search needs) returns slice-aggregate-check-new-record
-    check-new-record-requires returns-2)
+    (tie.spec (λ c κs. search needs) (λ c. search needs) (λ c. search needs) returns slice-aggregate-check-record-behind
+    check-record-behind-requires returns-2)

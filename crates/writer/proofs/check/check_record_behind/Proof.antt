@@ -1,4 +1,4 @@
--- `writer::check::check_new_record` meets its contract. Rows 1 to 8 and 27 come first; then the new record is checked.
+-- `writer::check::check_record_behind` meets its contract. Rows 1 to 8 and 27 come first; then the new record is checked.
 -- Assumes nothing.
 use native.Mathlib.Omega.{arith}
 use mathlib.Core.Path.{_∙_, ap}
@@ -8,8 +8,8 @@ use Rattle.records.specs.declared.fields.Record.{Record}
 use Rattle.records.proofs.Laws.Checks.{then-refused, then-fine, checked-fine}
 use Rattle.records.proofs.Theorems.Accepted.{AcceptedFacts}
 use Rattle.writer.proofs.Refinement.Checks.{new-record-split, room-passed}
-use Rattle.writer.proofs.check.check_new_record.Statement.{statement}
-use Rattle.writer.proofs.check.check_new_record.Tie as tie
+use Rattle.writer.proofs.check.check_record_behind.Statement.{statement}
+use Rattle.writer.proofs.check.check_record_behind.Tie as tie
 
 returns : tie.Need-returns
 returns c =
@@ -36,8 +36,8 @@ good c =
 read-at-requires : tie.Need-read-at-requires
 read-at-requires c κs = omega (arith, good c .sized .least)
 
-check-fields-requires : tie.Need-check-fields-requires
-check-fields-requires c κs = record { earlier = omega arith; counted = ap (λ (r : Record). r .b) (c .read-at .ensures) }
+check-new-record-requires : tie.Need-check-new-record-requires
+check-new-record-requires c κs = record { earlier = omega arith; counted = ap (λ (r : Record). r .b) (c .read-at .ensures) }
 
 returns-3 : tie.Need-returns-3
 returns-3 c =
@@ -45,11 +45,11 @@ returns-3 c =
     let a = d .before .before .before .before .before .before .before .args in
     then-fine _ _ _ _ (d .before .before .before .before .before .check-room .ensures)
     (d .before .before .before .enum-told .given .1)
-    (then-fine _ _ _ _ (d .before .before .pass-if .ensures) (d .enum-told3 .given .1) (c .check-fields .ensures))
+    (then-fine _ _ _ _ (d .before .before .pass-if .ensures) (d .enum-told3 .given .1) (c .check-new-record .ensures))
     ∙ new-record-split (now (a .v)) (a .size) (a .addable) (a .f)
 
-pub check-new-record-spec : {M : Type 1} → statement M
-check-new-record-spec =
+pub check-record-behind-spec : {M : Type 1} → statement M
+check-record-behind-spec =
     tie.close
     (tie.spec (λ c κs. search needs) (λ c. search needs) (λ c. search needs) returns (λ c κs. search needs)
-    (λ c. search needs) (λ c. search needs) returns-2 read-at-requires check-fields-requires returns-3)
+    (λ c. search needs) (λ c. search needs) returns-2 read-at-requires check-new-record-requires returns-3)
