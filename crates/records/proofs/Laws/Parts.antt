@@ -4,7 +4,7 @@
 --   pair-off, pair-word                              a list with a number's two bytes in the place of some
 --   word-bytes                                       a number is read from its bytes
 --   fieldsAt, record-bytes                           a record's fields, by the bytes of the vocabulary
---   record-written                                   a record is read from its bytes
+--   record-behind                                    a record is read from its bytes, behind others
 -- Assumes nothing.
 use Prim.Native.Nat.{ℕ, _+_, _*_, _-_, _/_, _%_, _≤_, _<_}
 use native.Mathlib.Omega.{arith}
@@ -126,5 +126,10 @@ record-bytes v i =
       byte 7 (recordSize * i + 6 + 1) (omega arith) (omega arith),
     )
 
-pub record-written : (r : Record) → recordOf (recordBytes r) ≡ r
+record-written : (r : Record) → recordOf (recordBytes r) ≡ r
 record-written r = rw (word-bytes (r .a), word-bytes (r .b), word-bytes (r .next))
+
+pub record-behind : (l : List ℕ) (i : ℕ) (r : Record) → length l ≡ recordSize * i → recordAt (l ++ recordBytes r) i ≡ r
+unfolding recordAt
+record-behind l i r e =
+    ap (λ (m : List ℕ). recordOf (take recordSize m)) (drop-at l (recordBytes r) (recordSize * i) e) ∙ record-written r

@@ -1,5 +1,6 @@
 -- A vocabulary with one record more, and the link that reaches it.
 --   relink, Grows                what w has of v: all but the new record and a link
+--   header-alone                 the smallest vocabulary
 --   grown-count                  there is one record more
 --   fields-at                    a record's rows refuse at its number
 --   fields-same, grown-record    a record's rows look at the records before it, and so do those of the new one
@@ -53,6 +54,11 @@ pub record Grows (v w : List ℕ) (r : Record) : Type 0 where
   pub first : firstStatement w ≡ relink v r 0 (firstStatement v)
   pub next : (j : ℕ) → 0 < j → j < count v → recordAt w j .next ≡ relink v r j (recordAt v j .next)
   pub unlinked : recordAt w 0 .next ≡ recordAt v 0 .next
+
+-- A header alone is a vocabulary.
+pub header-alone : (v : List ℕ) → length v ≡ recordSize → headerFits (recordAt v 0) ≡ true → firstStatement v ≡ 0 → IsWellFormed v
+unfolding recordsCheck inTurn
+header-alone v one fits first = rw (one, fits, first)
 
 -- A record's rows refuse at its number.
 pub fields-at : (v : List ℕ) (i : ℕ) (r : Record) → RefusesAt i (fieldsCheck v i r)

@@ -11,15 +11,14 @@ use mathlib.Core.Path.{_≡_, refl, sym, ap, subst, _∙_}
 use mathlib.Core.Bool.{true, false}
 use mathlib.Core.List.{List, _++_}
 use mathlib.Core.Logic.{_⊎_, inl, inr}
-use lib.ListN.{length, getD, take, length-append, List·getD-append}
-use lib.Seq.{drop-at}
+use lib.ListN.{length, getD, length-append, List·getD-append}
 use borrow.Author.Tests.{eq-eqb, ne-eqb}
-use Rattle.records.specs.Format.{recordSize, recordLimit, wordSize, placeOfA, placeOfNext, wordAt, wordBytes, recordOf}
+use Rattle.records.specs.Format.{recordSize, recordLimit, wordSize, placeOfA, placeOfNext, wordAt, wordBytes}
 use Rattle.records.specs.Format.{recordBytes, recordAt, count, firstStatement}
 use Rattle.records.specs.Kinds.{kindOf, isStatement}
 use Rattle.records.specs.Chain.{chainEnd}
 use Rattle.records.specs.declared.fields.Record.{Record}
-use Rattle.records.proofs.Laws.Parts.{put-length, pair-off, pair-word, record-bytes, record-written}
+use Rattle.records.proofs.Laws.Parts.{put-length, pair-off, pair-word, record-bytes, record-behind}
 use Rattle.records.proofs.Laws.Ranges.{term-no-statement}
 use Rattle.records.proofs.Theorems.Accepted.{AcceptedFacts}
 use Rattle.records.proofs.Theorems.Chains.{end-statement}
@@ -74,11 +73,8 @@ module _ (v : List ℕ) (good : AcceptedFacts v) where
       length-append (relinked x v) (recordBytes (newRecord x)) ∙ ap (λ (n : ℕ). n + recordSize) (relinked-length x)
 
   record-new : (x : Addition) → recordAt (grown v x) (count v) ≡ newRecord x
-  unfolding grown recordAt
-  record-new x =
-      ap (λ (l : List ℕ). recordOf (take recordSize l))
-      (drop-at (relinked x v) (recordBytes (newRecord x)) (recordSize * count v) (relinked-length x ∙ sym whole))
-      ∙ record-written (newRecord x)
+  unfolding grown
+  record-new x = record-behind (relinked x v) (count v) (newRecord x) (relinked-length x ∙ sym whole)
 
   -- a byte of the records that were there
   byte-front : (x : Addition) (i : ℕ) → i < length v → getD (grown v x) i 0 ≡ getD (relinked x v) i 0

@@ -10,21 +10,21 @@ use mathlib.Core.Path.{_≡_, refl, sym, ap, _∙_}
 use mathlib.Core.Bool.{true}
 use mathlib.Core.List.{List, [], _∷_, _++_, map, map-append, append-nil}
 use borrow.Author.Tests.{le-leb}
-use Rattle.records.specs.Outcome.{pass, inTurn}
+use Rattle.records.specs.Outcome.{pass}
 use Rattle.records.specs.Finite.{table}
 use Rattle.records.specs.Format.{recordLimit, roleLimit, recordBytes, recordAt, count, firstStatement, roleCount}
 use Rattle.records.specs.Kinds.{kindOf}
 use Rattle.records.specs.Chain.{nextStatement, follow, chain}
-use Rattle.records.specs.Check.{headerFits, fieldsCheck, recordsCheck, IsWellFormed}
+use Rattle.records.specs.Check.{headerFits, fieldsCheck, IsWellFormed}
 use Rattle.records.specs.declared.fields.Record.{Record}
 use Rattle.records.proofs.Laws.Lists.{map-same}
-use Rattle.records.proofs.Laws.Parts.{record-written}
+use Rattle.records.proofs.Laws.Parts.{record-behind}
 use Rattle.records.proofs.Laws.Ranges.{term-no-statement}
 use Rattle.records.proofs.Laws.Sets.{table-cong, table-last}
 use Rattle.records.proofs.Theorems.Accepted.{AcceptedFacts, well-formed-vocabulary}
 use Rattle.records.proofs.Theorems.Chains.{chain-statement}
 use Rattle.records.proofs.Theorems.Following.{follow-nil}
-use Rattle.records.proofs.Theorems.Growth.{Grows, grown-count, grows-records, chain-kept, chain-grown}
+use Rattle.records.proofs.Theorems.Growth.{Grows, header-alone, grown-count, grows-records, chain-kept, chain-grown}
 use Rattle.writer.specs.Additions.{Addition, term, statement, newRecord, grown, shown, contents, stated, statementsOf}
 use Rattle.writer.specs.Calls.{emptyHeader, isAddable}
 use Rattle.writer.proofs.Theorems.Grown.{grown-grows}
@@ -114,8 +114,7 @@ module _ (roles : ℕ) (few : roles ≤ roleLimit) where
   empty = recordBytes (emptyHeader roles)
 
   header : recordAt empty 0 ≡ emptyHeader roles
-  unfolding recordAt
-  header = record-written (emptyHeader roles)
+  header = record-behind [] 0 (emptyHeader roles) refl
 
   first : firstStatement empty ≡ 0
   first = ap (λ (r : Record). r .a) header
@@ -124,8 +123,7 @@ module _ (roles : ℕ) (few : roles ≤ roleLimit) where
   header-fits = rw (header, le-leb roles roleLimit few)
 
   pub empty-well : IsWellFormed empty
-  unfolding recordsCheck inTurn
-  empty-well = rw (header-fits, first)
+  empty-well = header-alone empty refl header-fits first
 
   pub empty-roles : roleCount empty ≡ roles
   empty-roles = ap (λ (r : Record). r .b) header
