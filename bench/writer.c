@@ -22,6 +22,24 @@ uint64_t judge_add_statement(uint8_t *buffer, size_t buffer_len, size_t used, ui
 enum { RANDOM = 40000 };
 static const char PROGRAM[] = "writer";
 
+/* The check of the bytes in use that an addition begins with, and nothing else. */
+static uint64_t check_for_making(uint8_t *buffer, size_t buffer_len, uint32_t roles)
+{
+    (void)buffer, (void)buffer_len, (void)roles; /* there are no bytes in use */
+    return 0;
+}
+
+static uint64_t check_for_term(uint8_t *buffer, size_t buffer_len, size_t used, uint8_t kind, uint16_t a, uint16_t b)
+{
+    (void)kind, (void)a, (void)b;
+    return used > buffer_len ? pack_answer(BAD_LENGTH, 0) : judge_check_vocabulary(buffer, used);
+}
+
+static uint64_t check_for_statement(uint8_t *buffer, size_t buffer_len, size_t used, uint16_t a, uint16_t b)
+{
+    return check_for_term(buffer, buffer_len, used, STATEMENT, a, b);
+}
+
 static const struct version {
     const char *name;
     uint64_t (*make)(uint8_t *buffer, size_t buffer_len, uint32_t roles);
@@ -30,11 +48,11 @@ static const struct version {
 } versions[] = {
     {"library", judge_make_vocabulary, judge_add_term, judge_add_statement},
     {"plain C", plain_make_vocabulary, plain_add_term, plain_add_statement},
-    {"check alone", NULL, NULL, NULL}, /* the library's, of the same bytes in use */
+    {"check alone", check_for_making, check_for_term, check_for_statement},
 };
 enum { LIBRARY, PLAIN, CHECK, VERSIONS };
 
-static uint64_t write_one(const struct version *v, uint8_t *buffer, size_t buffer_len, size_t used,
+static inline uint64_t write_one(const struct version *v, uint8_t *buffer, size_t buffer_len, size_t used,
                           const struct addition *added)
 {
     switch (added->call) {
@@ -181,35 +199,27 @@ static void copy_record(const struct writing *w, uint8_t *buffer, size_t used, s
     write_u16(buffer + *link, 0);
 }
 
-/* The check that each of the calls begins with. */
-static uint64_t check_each(const struct writing *w, uint8_t *buffer)
+static __attribute__((noinline)) uint64_t write_whole(const struct writing *w, int version, uint8_t *buffer)
 {
-    size_t used = w->before.len, link = 0;
+    size_t link = 0;
     uint64_t answer = 0;
 
     for (unsigned i = 0; i < w->additions; i++) {
-        if (w->added[i].call != MAKE)
-            answer = judge_check_vocabulary(buffer, used);
-        if (w->additions > 1) {
+        size_t used = RECORD_BYTES * i;
+
+        answer = write_one(&versions[version], buffer, w->buffer_len, used, &w->added[i]);
+        if (version == CHECK)
             copy_record(w, buffer, used, &link);
-            used += RECORD_BYTES;
-        }
     }
     return answer;
 }
 
-static uint64_t write_each(const struct writing *w, int version, uint8_t *buffer)
+/* One call, or those that make a whole vocabulary. */
+static inline uint64_t write_all(const struct writing *w, int version, uint8_t *buffer)
 {
-    size_t used = w->before.len;
-    uint64_t answer = 0;
-
-    if (version == CHECK)
-        return check_each(w, buffer);
-    for (unsigned i = 0; i < w->additions; i++) {
-        answer = write_one(&versions[version], buffer, w->buffer_len, used, &w->added[i]);
-        used = (size_t)(answer >> 8);
-    }
-    return answer;
+    if (w->additions > 1)
+        return write_whole(w, version, buffer);
+    return write_one(&versions[version], buffer, w->buffer_len, w->before.len, w->added);
 }
 
 /* --- time --- */
@@ -226,7 +236,7 @@ static void run(const void *subject, int version, uint64_t calls)
         /* The one record in use that a call may have changed; behind them all is written again. */
         memcpy(shared + end, w->before.bytes + end, RECORD_BYTES);
         __asm__ volatile("" : : "r"(shared) : "memory");
-        sink = write_each(w, version, shared);
+        sink = write_all(w, version, shared);
     }
 }
 
@@ -258,7 +268,7 @@ static int benchmark(const struct writing *writings)
 /* bench/writer.sh counts what happens in here. */
 static __attribute__((noinline)) uint64_t counted(const struct writing *w, int version)
 {
-    return write_each(w, version, shared);
+    return write_all(w, version, shared);
 }
 
 static int count(const struct writing *writings)
