@@ -8,7 +8,7 @@
 set -eu
 bench=$(CDPATH='' cd -- "$(dirname -- "$0")" && pwd)
 
-for part in vocabulary comparison classification script; do
+for part in vocabulary comparison classification script writer; do
     printf '## %s\n\n' "$part"
     "$bench/$part.sh" "$@"
     "$bench/$part.sh" --instructions "$@"

@@ -35,10 +35,8 @@ static bool is_earlier_label(const uint8_t *vocabulary, uint16_t label, size_t n
     return false;
 }
 
-static enum refusal check_record(const uint8_t *vocabulary, size_t number, uint16_t roles)
+static inline enum refusal check_fields(const uint8_t *vocabulary, struct record r, size_t number, uint16_t roles)
 {
-    struct record r = read_record(vocabulary, number);
-
     if (r.second != 0)
         return BAD_KIND;
     switch (r.kind) {
@@ -95,7 +93,7 @@ uint64_t plain_check_vocabulary(const uint8_t *vocabulary, size_t vocabulary_len
         return pack_answer(BAD_HEADER, 0);
 
     for (size_t i = 1; i < count; i++) {
-        enum refusal refusal = check_record(vocabulary, i, header.b);
+        enum refusal refusal = check_fields(vocabulary, read_record(vocabulary, i), i, header.b);
 
         if (refusal != ACCEPTED)
             return pack_answer(refusal, (uint32_t)i);
@@ -111,6 +109,11 @@ uint64_t plain_check_vocabulary(const uint8_t *vocabulary, size_t vocabulary_len
             return pack_answer(BAD_NEXT, (uint32_t)i);
     }
     return pack_answer(ACCEPTED, (uint32_t)count);
+}
+
+enum refusal plain_check_fields(const uint8_t *vocabulary, struct record fields, size_t number, uint16_t roles)
+{
+    return check_fields(vocabulary, fields, number, roles);
 }
 
 uint64_t plain_record(const uint8_t *vocabulary, size_t vocabulary_len, uint32_t number)

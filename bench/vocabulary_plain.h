@@ -21,7 +21,7 @@ enum refusal {
     BAD_SCRIPT_LENGTH, BAD_SCRIPT_HEADER,
     BAD_SCRIPT_KIND, BAD_SCRIPT_UNUSED, BAD_SCRIPT_TERM, BAD_STEP, BAD_STEP_NEXT,
     NO_START, NO_COMPLEMENT, BAD_REDUCTION, MANY_FRAMES, FRAME_LEFT, ALL_CLOSED,
-    SHORT_TAXONOMY
+    SHORT_TAXONOMY, NO_ROOM
 };
 
 /* Bits 0-7 the refusal, bits 8-39 the place or, where accepted, the value. */
@@ -54,6 +54,10 @@ static inline struct record read_record(const uint8_t *vocabulary, size_t number
 }
 
 uint64_t plain_check_vocabulary(const uint8_t *vocabulary, size_t vocabulary_len);
+
+/* Rows 3 to 7 at record `number` with these fields, which need not stand there yet; the records before it have passed. */
+enum refusal plain_check_fields(const uint8_t *vocabulary, struct record fields, size_t number, uint16_t roles);
+
 uint64_t plain_record(const uint8_t *vocabulary, size_t vocabulary_len, uint32_t number);
 
 /* Row 10, over a vocabulary that the check has accepted. Accepted: 0. */
