@@ -231,6 +231,26 @@ fn check_sorts(v: &[u8], i: usize, roles: u16, f: Record, a: Sort, b: Sort, next
     Checked::Refused { number, place: i }
 }
 
+// The same, with each field asked once: for a single record, where asking first whether all fit spares nothing.
+fn check_sorts_once(
+    v: &[u8],
+    i: usize,
+    roles: u16,
+    f: Record,
+    a: Sort,
+    b: Sort,
+    next: Sort,
+) -> Checked
+    requires { ⌜ AtRecord (now v) i roles ⌝ }
+    ensures { λ r. ⌜ checked r ≡ rowsCheck (now (v .entry)) i (kinds.sorts a b next) f ⌝ }
+{
+    let a_fits = field_fits(v, i, roles, a, f.a);
+    let b_fits = field_fits(v, i, roles, b, f.b);
+    let next_fits = field_fits(v, i, roles, next, f.next);
+    let number = first_fault(a, b, next, a_fits, b_fits, next_fits);
+    pass_if(number == Sort::NO_FAULT, number, i)
+}
+
 // Rows 4 to 7: the kind of the fields f selects what they hold. (A call in each arm, so that the compiler makes a check of its
 // own of it.)
 fn check_rows(v: &[u8], i: usize, roles: u16, f: Record) -> Checked
@@ -274,7 +294,7 @@ pub fn check_new_record(v: &[u8], i: usize, roles: u16, f: Record) -> Checked
     };
     let a = sort_of_a(f.kind);
     let b = sort_of_b(f.kind);
-    check_sorts(v, i, roles, f, a, b, sort_of_next(f.kind))
+    check_sorts_once(v, i, roles, f, a, b, sort_of_next(f.kind))
 }
 
 fn check_record(v: &[u8], i: usize, roles: u16) -> Checked

@@ -96,9 +96,9 @@ pub fn add_term(buffer: &mut [u8], used: usize, kind: u8, a: u16, b: u16) -> Len
         ≡ bufferAfter (adding (now (buffer .entry)) used (term kind a b)) (now (buffer .entry)) ⌝ }
 {
     let f = fields_of(kind, a, b);
-    let check = check_addition(buffer, used, is_term(kind), f);
-    let Checked::Fine = check else {
-        return length_after(check, 0);
+    let term = check_addition(buffer, used, is_term(kind), f);
+    let Checked::Fine = term else {
+        return length_after(term, 0);
     };
     write_record(buffer, used, f);
     let length = used + Record::SIZE;
@@ -112,9 +112,9 @@ pub fn add_statement(buffer: &mut [u8], used: usize, a: u16, b: u16) -> Lengthen
         ≡ bufferAfter (adding (now (buffer .entry)) used (statement a b)) (now (buffer .entry)) ⌝ }
 {
     let f = fields_of(9, a, b);
-    let fits = check_addition(buffer, used, true, f);
-    let Checked::Fine = fits else {
-        return length_after(fits, 0);
+    let statement = check_addition(buffer, used, true, f);
+    let Checked::Fine = statement else {
+        return length_after(statement, 0);
     };
     link_behind(buffer, used);
     write_record(buffer, used, f);

@@ -1,6 +1,7 @@
 -- Rows 4 to 7 at a record, by the faults of its three fields.
 --   rows-fit             where all three fields fit, the rows pass
 --   rows-unfit           where not all do, the smallest row of those that do not is the first that applies
+--   rows-told            the same, where each field was asked once
 --   rows-passed          where the rows pass, all three fit
 --   rows-at, rows-of     the rows of a record, where its sorts were told by its kind, or asked for one by one
 --   first-statement-at   row 8 at the header, put together from what the callees answered
@@ -158,6 +159,11 @@ module _ (v : List ℕ) (i : ℕ) (s : Sorts) (r : Record) where
       at true true false e = under (firstOf s true true false) (omega (arith, row-small (s .next)))
       at true false c e = under (firstOf s true false c) (omega (arith, row-small (s .b)))
       at false b c e = under (firstOf s false b c) (omega (arith, row-small (s .a)))
+
+  -- or each was asked once
+  pub rows-told : (o : Check) (m : ℕ) (a b c : Bool) → o ≡ require (eqb m noFault) m i → m ≡ firstOf s a b c
+      → a ≡ fitA → b ≡ fitB → c ≡ fitNext → o ≡ rowsCheck v i s r
+  rows-told o m a b c e q fa fb fc = e ∙ rw (q, fa, fb, fc) (rows-first v i s r)
 
 -- What passed rows tell.
 module _ (v : List ℕ) (i : ℕ) (s : Sorts) (r : Record) (e : rowsCheck v i s r ≡ pass) where

@@ -21,7 +21,7 @@ returns-2 c =
     let kind = told .before .before in
     let args = kind .before .before .args in
     then-fine _ _ _ _ (kind .check-kind .ensures) (told .enum-told .given .1)
-    (rows-of (now (args .v)) (args .i) (args .f) _ _ _ _ (c .check-sorts .ensures)
+    (rows-of (now (args .v)) (args .i) (args .f) _ _ _ _ (c .check-sorts-once .ensures)
     (a .sort-of-a .ensures) (b .sort-of-b .ensures) (next .sort-of-next .ensures))
 
 pub check-new-record-spec : {M : Type 1} → statement M
