@@ -14,11 +14,6 @@
 #include <stdio.h>
 #include <string.h>
 
-/* As in judge.h, once it has them. */
-uint64_t judge_make_vocabulary(uint8_t *buffer, size_t buffer_len, uint32_t roles);
-uint64_t judge_add_term(uint8_t *buffer, size_t buffer_len, size_t used, uint8_t kind, uint16_t a, uint16_t b);
-uint64_t judge_add_statement(uint8_t *buffer, size_t buffer_len, size_t used, uint16_t a, uint16_t b);
-
 enum { RANDOM = 40000 };
 static const char PROGRAM[] = "writer";
 
