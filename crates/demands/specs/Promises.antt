@@ -8,6 +8,7 @@ use mathlib.Core.Logic.{_⊎_}
 use lib.ListN.{length, getD, take, drop}
 use Rattle.records.specs.Outcome.{accepted}
 use Rattle.records.specs.Format.{wordAt, recordBytes, count, roleCount}
+use Rattle.records.specs.Chain.{chain}
 use Rattle.records.specs.Check.{vocabularyCheck}
 use Rattle.records.specs.Atoms.{atoms}
 use Rattle.writer.specs.Additions.{Addition, term, statement, newRecord, linkPlace, grown, contents, stated, statementsOf}
@@ -75,6 +76,11 @@ abbrev pub OffLink : List ℕ → Addition → ℕ → Type 0
 OffLink v (term kind a b) i = Unit {0}
 OffLink v (statement a b) i = (i < linkPlace v) ⊎ (linkPlace v + 2 ≤ i)
 
+-- "a statement at the end of the chain": the chain of w is that of v with the new statement behind it; a term leaves it.
+abbrev pub AtChainEnd : List ℕ → Addition → List ℕ → Type 0
+AtChainEnd v (term kind a b) w = chain w ≡ chain v
+AtChainEnd v (statement a b) w = chain w ≡ chain v ++ (count v ∷ [])
+
 -- "On success only the new record, and the link that reaches it, change.": the record stands behind the bytes in use, and every
 -- other byte of the buffer is as it was. The bytes now in use are the grown ones.
 pub record OnlyNew (buffer : List ℕ) (used : ℕ) (x : Addition) (after : List ℕ) : Type 0 where
@@ -83,6 +89,7 @@ pub record OnlyNew (buffer : List ℕ) (used : ℕ) (x : Addition) (after : List
   pub kept : (i : ℕ) → (i < used) ⊎ (used + 8 ≤ i) → OffLink (take used buffer) x i → getD after i 0 ≡ getD buffer i 0
   pub size : length after ≡ length buffer
   pub grows : take (used + 8) after ≡ grown (take used buffer) x
+  pub chained : AtChainEnd (take used buffer) x (take (used + 8) after)
 
 -- There is room for one more record behind an accepted vocabulary.
 pub record Roomy (buffer : List ℕ) (used : ℕ) : Type 0 where

@@ -16,7 +16,7 @@ use lib.Seq.{length-take-le, take-at, drop-at, getD-take, getD-drop, getD-append
 use borrow.Author.Tests.{lt-ltb, le-leb}
 use Rattle.records.specs.Outcome.{accepted, pass, require}
 use Rattle.records.specs.Format.{recordSize, recordLimit, recordBytes, recordAt, count, roleCount}
-use Rattle.records.specs.Check.{recordsCheck, vocabularyCheck, IsWellFormed}
+use Rattle.records.specs.Check.{fieldsCheck, recordsCheck, vocabularyCheck, IsWellFormed}
 use Rattle.records.proofs.Laws.Sets.{length-table}
 use Rattle.records.proofs.Theorems.Growth.{fields-at}
 use Rattle.records.proofs.Theorems.Accepted.{AcceptedFacts, well-formed-vocabulary, accepted-well-formed}
@@ -27,7 +27,8 @@ use Rattle.writer.proofs.Theorems.Grown as bytes
 use Rattle.writer.proofs.Theorems.Outcomes.{Succeeded, adding-succeeded, adding-reader, records-own, making-succeeded}
 use Rattle.writer.proofs.Theorems.Reading as reading
 use Rattle.demands.specs.Table.{vocabularyTable, AcceptedVocabulary, Refuses, Follows}
-use Rattle.demands.specs.Promises.{Reached, OffLink, OnlyNew, Roomy, AsReader, Succeed, Built, Shows, WritesVocabularies}
+use Rattle.demands.specs.Promises.{Reached, OffLink, AtChainEnd, OnlyNew, Roomy, AsReader, Succeed, Built, Shows}
+use Rattle.demands.specs.Promises.{WritesVocabularies}
 use Rattle.demands.proofs.Laws.Rows.{follows, refuses-first}
 use Rattle.demands.proofs.Theorems.Tables.{tries-vocabulary, vocabulary-follows}
 
@@ -92,15 +93,21 @@ module _ (buffer : List ℕ) (used : ℕ) (x : Addition) (n : ℕ) (done : Succe
       ap (λ (l : List ℕ). take recordSize (drop used l)) (append-assoc (relinked x v) r rest)
       ∙ ap (take recordSize) (drop-at (relinked x v) (r ++ rest) used (bytes.relinked-length v good x ∙ in-use))
 
+  chained : (y : Addition) → isAddable y ≡ true → fieldsCheck v (count v) (newRecord y) ≡ pass → AtChainEnd v y (grown v y)
+  chained (term kind a b) is own = reading.term-chain v (done .fit .well) (done .fit .few) kind a b is own
+  chained (statement a b) is own = reading.statement-chain v (done .fit .well) (done .fit .few) a b own
+
   pub only-new : OnlyNew buffer used x after
   only-new =
+      let now = take-at w (drop (length w) buffer) (used + recordSize) long in
       record {
         new = new;
         reached = reached x refl;
         kept = kept;
         size = length-append w (drop (length w) buffer)
             ∙ omega (arith, long, length-drop (length w) buffer, done .fit .room);
-        grows = take-at w (drop (length w) buffer) (used + recordSize) long;
+        grows = now;
+        chained = rw now (chained x (done .fit .addable) (done .fit .own));
       }
 
   pub grown-accepted : IsWellFormed w

@@ -1,6 +1,7 @@
 -- What reading shows after an addition that succeeded: that addition, after what was shown before.
 --   statements-append                  the statements of a list of additions and another
 --   grown-well, grown-roles            the bytes pass rows 1 to 8, with the same roles
+--   term-chain, statement-chain        the chain
 --   grown-contents, grown-stated       the records from 1 on, and the statements on the chain
 --   empty-well, .., empty-stated       the same of an empty vocabulary
 -- Assumes nothing.
@@ -93,18 +94,29 @@ module _ (v : List ℕ) (x : Addition) (well : IsWellFormed v) (few : count v < 
       map-same (λ i. shown (recordAt w i)) (λ i. shown (recordAt v i)) (chain v)
       (λ i o. let s = chain-statement v good i o in shown-kept i (s .later) (s .within))
 
--- Of each sort of addition.
+-- Of each sort of addition: the chain, and what is stated on it.
 module _ (v : List ℕ) (well : IsWellFormed v) (few : count v < recordLimit) where
+  pub term-chain : (kind a b : ℕ) → let x = term kind a b in isAddable x ≡ true → fieldsCheck v (count v) (newRecord x) ≡ pass
+      → chain (grown v x) ≡ chain v
+  term-chain kind a b is own =
+      let x = term kind a b in
+      chain-kept v (grown v x) (newRecord x) well few (grows v x well few is own) (term-no-statement kind is)
+
+  pub statement-chain : (a b : ℕ) → let x = statement a b in fieldsCheck v (count v) (newRecord x) ≡ pass
+      → chain (grown v x) ≡ chain v ++ (count v ∷ [])
+  unfolding kindOf
+  statement-chain a b own =
+      let x = statement a b in
+      chain-grown v (grown v x) (newRecord x) well few (grows v x well few refl own) refl refl
+
   pub grown-stated : (x : Addition) → isAddable x ≡ true → fieldsCheck v (count v) (newRecord x) ≡ pass
       → stated (grown v x) ≡ stated v ++ statementsOf (x ∷ [])
-  unfolding stated statementsOf kindOf
+  unfolding stated statementsOf
   grown-stated (term kind a b) is own =
-      let x = term kind a b in
-      rw (chain-kept v (grown v x) (newRecord x) well few (grows v x well few is own) (term-no-statement kind is))
-      (chain-shown v x well few is own ∙ sym (append-nil _))
+      rw (term-chain kind a b is own) (chain-shown v (term kind a b) well few is own ∙ sym (append-nil _))
   grown-stated (statement a b) is own =
       let x = statement a b in
-      rw (chain-grown v (grown v x) (newRecord x) well few (grows v x well few is own) refl refl)
+      rw (statement-chain a b own)
       (map-append (λ i. shown (recordAt (grown v x) i)) (chain v) (count v ∷ [])
       ∙ rw (chain-shown v x well few is own, shown-last v x well few is own))
 
