@@ -10,7 +10,7 @@ use mathlib.Core.Bool.{Bool, true, false, not}
 use mathlib.Core.List.{List, [], _∷_, _++_}
 use Rattle.records.specs.Outcome.{Outcome, Check, accepted, refused, pass, _then_, require, inTurn}
 use Rattle.records.proofs.Laws.Tests.{clash}
-use Rattle.records.proofs.Laws.Checks.{then-assoc}
+use Rattle.records.proofs.Laws.Checks.{then-assoc, then-stops}
 use Rattle.demands.specs.Table.{Row, row, rowsInTurn, NoneApplies, Refuses, Follows}
 
 abbrev pub first : List Row → Check
@@ -101,20 +101,12 @@ pub follows : {A : Type 0} {rows : List Row} {check : Check} {value : A} {answer
 follows {rows} {value} {answer} tries h =
     let e : answer ≡ (first rows then accepted value) = rw (tries .same) h in
     record {
-      refused-only = λ n p h. first-refuses rows n p (stopped n p (first rows) (sym e ∙ h));
+      refused-only = λ n p h. first-refuses rows n p (then-stops (first rows) value n p (sym e ∙ h));
       refused-always = λ n p h. e ∙ rw (refuses-first rows n p h);
       accepted-only = λ x h. let w = passed x (first rows) (sym e ∙ h) in (passed-none rows (w .0), w .1);
       accepted-always = λ h. e ∙ rw (none-passed rows h);
     }
   where
-    stopped : (n p : ℕ) (c : Check) → (c then accepted value) ≡ refused n p → c ≡ refused n p
-    stopped n p (accepted u) h = absurd (clash (cc))
-    stopped n p (refused k l) h =
-        let same : _≡_ {A = Outcome _} (refused k l) (refused n p) = h in
-        let number : k ≡ n = cc in
-        let place : l ≡ p = cc in
-        cc
-
     passed : (x : _) (c : Check) → (c then accepted value) ≡ accepted x → (c ≡ pass) × (x ≡ value)
     passed x (accepted u) h =
         let same : accepted value ≡ accepted x = h in

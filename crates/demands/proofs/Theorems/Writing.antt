@@ -65,7 +65,7 @@ module _ (buffer : List ℕ) (used : ℕ) (x : Addition) (n : ℕ) (done : Succe
       ∙ getD-drop (length w) buffer k 0
       ∙ ap (λ (j : ℕ). getD buffer j 0) (sym here)
 
-  off : (y : Addition) (i : ℕ) → OffLink v y i → bytes.OffLink v good y i
+  off : (y : Addition) (i : ℕ) → OffLink v y i → bytes.Elsewhere v good y i
   off (term kind a b) i h = tt
   off (statement a b) i (inl h) = (λ e. omega arith, λ e. omega arith)
   off (statement a b) i (inr h) = (λ e. omega arith, λ e. omega arith)

@@ -1,5 +1,6 @@
 -- Checks in order: what a chain of checks answers, what one turn of checks in turn does, and what passed checks tell.
 --   then-assoc, then-pass                      checks one after the other, whichever are taken together; and none after them
+--   refusal-same, then-stops                   a refusal's number and place; what a check before a value refuses
 --   then-same                                  what comes after a check that passed
 --   RefusesAt, require-at, then-at             checks that refuse at one place
 --   then-refused, then-refused-as, then-fine   a chain `a then b` where the first check refuses, or passes
@@ -25,6 +26,18 @@ pub then-assoc : {A B C : Type 0} (a : Outcome A) (b : Outcome B) (c : Outcome C
 then-assoc (accepted x) b c = refl
 then-assoc (refused n p) b c = refl
 
+-- A refusal is known by its number and place.
+pub refusal-same : {A : Type 0} (m q n p : ℕ) → _≡_ {A = Outcome A} (refused m q) (refused n p) → (m ≡ n) × (q ≡ p)
+refusal-same m q n p e =
+    let number : m ≡ n = cc in
+    let place : q ≡ p = cc in
+    (number, place)
+
+-- What is refused where only a value comes after a check, the check refuses.
+pub then-stops : {A : Type 0} (c : Check) (x : A) (n p : ℕ) → (c then accepted x) ≡ refused n p → c ≡ refused n p
+then-stops (accepted u) x n p e = absurd (clash (cc))
+then-stops (refused m q) x n p e = let same = refusal-same m q n p e in rw (same .0, same .1)
+
 -- what comes after a check matters where that passed
 pub then-same : {B : Type 0} (a : Check) (b c : Outcome B) → (a ≡ pass → b ≡ c) → (a then b) ≡ (a then c)
 then-same (accepted u) b c h = h refl
@@ -36,10 +49,7 @@ RefusesAt i check = (n p : ℕ) → check ≡ refused n p → p ≡ i
 
 pub require-at : (b : Bool) (k i : ℕ) → RefusesAt i (require b k i)
 require-at true k i n p e = absurd (clash (cc))
-require-at false k i n p e =
-    let same : _≡_ {A = Check} (refused k i) (refused n p) = e in
-    let place : i ≡ p = cc in
-    sym place
+require-at false k i n p e = sym (refusal-same k i n p e .1)
 
 pub then-at : (i : ℕ) (a b : Check) → RefusesAt i a → RefusesAt i b → RefusesAt i (a then b)
 then-at i (accepted u) b f g n p e = g n p e

@@ -33,7 +33,7 @@ use Rattle.records.specs.declared.fields.Record.{Record}
 use Rattle.records.specs.declared.kinds.Sort.{Sort}
 use Rattle.records.specs.declared.kinds.Sort.the-variants.{Spare, Term, Role, Label, Link}
 use Rattle.records.proofs.Laws.Tests.{clash, both-left, both-right}
-use Rattle.records.proofs.Laws.Checks.{require-passed, then-passed, turn-at}
+use Rattle.records.proofs.Laws.Checks.{then-stops, require-passed, then-passed, turn-at}
 use Rattle.records.proofs.Laws.Search.{any-at}
 use Rattle.records.proofs.Theorems.Following.{Ahead, Onward}
 use Rattle.records.proofs.Laws.Ranges.{statement-range, statement-kind}
@@ -275,15 +275,7 @@ accepted-well-formed v n e = then-passed (recordsCheck v) (accepted (count v)) n
 -- What it refuses, rows 1 to 8 refuse.
 pub vocabulary-refused : (v : List ℕ) (n p : ℕ) → vocabularyCheck v ≡ refused n p → recordsCheck v ≡ refused n p
 unfolding vocabularyCheck
-vocabulary-refused v n p e = at (recordsCheck v) e
-  where
-    at : (o : Check) → (o then accepted (count v)) ≡ refused n p → o ≡ refused n p
-    at (accepted u) h = absurd (clash (cc))
-    at (refused m q) h =
-        let same : _≡_ {A = Outcome ℕ} (refused m q) (refused n p) = h in
-        let number : m ≡ n = cc in
-        let place : q ≡ p = cc in
-        cc
+vocabulary-refused v n p e = then-stops (recordsCheck v) (count v) n p e
 
 pub accepted-vocabulary : (v : List ℕ) (n : ℕ) → vocabularyCheck v ≡ accepted n → AcceptedFacts v
 accepted-vocabulary v n e = well-formed-vocabulary v (accepted-well-formed v n e)

@@ -82,11 +82,11 @@ module _ (v : List ℕ) (good : AcceptedFacts v) where
   byte-front x i h = List·getD-append (relinked x v) (recordBytes (newRecord x)) 0 i (omega (arith, relinked-length x))
 
   -- A byte that is not the link's.
-  abbrev pub OffLink : Addition → ℕ → Type 0
-  OffLink (term kind a b) i = Unit {0}
-  OffLink (statement a b) i = (i ≡ linkPlace v → ⊥) × (i ≡ linkPlace v + 1 → ⊥)
+  abbrev pub Elsewhere : Addition → ℕ → Type 0
+  Elsewhere (term kind a b) i = Unit {0}
+  Elsewhere (statement a b) i = (i ≡ linkPlace v → ⊥) × (i ≡ linkPlace v + 1 → ⊥)
 
-  pub byte-kept : (x : Addition) (i : ℕ) → i < length v → OffLink x i → getD (grown v x) i 0 ≡ getD v i 0
+  pub byte-kept : (x : Addition) (i : ℕ) → i < length v → Elsewhere x i → getD (grown v x) i 0 ≡ getD v i 0
   byte-kept (term kind a b) i h off = byte-front (term kind a b) i h
   byte-kept (statement a b) i h off =
       byte-front (statement a b) i h ∙ pair-off v (linkPlace v) (count v) link-within i (off .0) (off .1)
@@ -100,17 +100,17 @@ module _ (v : List ℕ) (good : AcceptedFacts v) where
       (pair-word v (linkPlace v) (count v) link-within)
 
   -- a number that is not the link
-  word-kept : (x : Addition) (i : ℕ) → i + 1 < length v → OffLink x i → OffLink x (i + 1)
+  word-kept : (x : Addition) (i : ℕ) → i + 1 < length v → Elsewhere x i → Elsewhere x (i + 1)
       → wordAt (grown v x) i ≡ wordAt v i
   word-kept x i h first second = rw (byte-kept x i (omega arith) first, byte-kept x (i + 1) h second)
 
   -- A byte of record j is not the link's, unless it is of the header's A or of the last statement's next.
   off : (x : Addition) (j k : ℕ) → k < recordSize → (2 ≤ k → k < 4 → chainEnd v ≡ 0 → 0 < j)
-      → (6 ≤ k → 0 < chainEnd v → j ≡ chainEnd v → ⊥) → OffLink x (recordSize * j + k)
+      → (6 ≤ k → 0 < chainEnd v → j ≡ chainEnd v → ⊥) → Elsewhere x (recordSize * j + k)
   off (term kind a b) j k h p q = tt
   off (statement a b) j k h p q = at link-at
     where
-      at : LinkAt → OffLink (statement a b) (recordSize * j + k)
+      at : LinkAt → Elsewhere (statement a b) (recordSize * j + k)
       at (inHeader e z) = (
         λ n. omega (arith, z, p (omega (arith, z)) (omega (arith, z)) e),
         λ n. omega (arith, z, p (omega (arith, z)) (omega (arith, z)) e),
@@ -148,11 +148,11 @@ module _ (v : List ℕ) (good : AcceptedFacts v) where
         (rw (plain 4 (inr (omega arith, omega arith)), rw same at (plain 5 (inr (omega arith, omega arith)))))
 
     -- A and next, unless the link stands there
-    a-kept : OffLink x (at + 2) → OffLink x (at + 2 + 1) → recordAt (grown v x) j .a ≡ recordAt v j .a
+    a-kept : Elsewhere x (at + 2) → Elsewhere x (at + 2 + 1) → recordAt (grown v x) j .a ≡ recordAt v j .a
     a-kept first second =
         rw (record-bytes (grown v x) j, record-bytes v j) (word-kept x (at + 2) (omega (arith, whole)) first second)
 
-    next-kept : OffLink x (at + 6) → OffLink x (at + 6 + 1) → recordAt (grown v x) j .next ≡ recordAt v j .next
+    next-kept : Elsewhere x (at + 6) → Elsewhere x (at + 6 + 1) → recordAt (grown v x) j .next ≡ recordAt v j .next
     next-kept first second =
         rw (record-bytes (grown v x) j, record-bytes v j) (word-kept x (at + 6) (omega (arith, whole)) first second)
 

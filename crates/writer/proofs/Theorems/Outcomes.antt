@@ -25,7 +25,7 @@ use Rattle.records.specs.declared.answers.Checked.{Checked}
 use Rattle.records.specs.declared.answers.Checked.the-variants.{Fine, Refused}
 use Rattle.records.specs.declared.fields.Record.{Record}
 use Rattle.records.proofs.Laws.Tests.{clash, both-left, both-right}
-use Rattle.records.proofs.Laws.Checks.{then-assoc, then-same, require-passed, then-passed, checked-fine}
+use Rattle.records.proofs.Laws.Checks.{refusal-same, then-assoc, then-same, require-passed, then-passed, checked-fine}
 use Rattle.records.proofs.Theorems.Accepted.{well-formed-vocabulary, vocabulary-then}
 use Rattle.records.proofs.Theorems.Growth.{Grows, grows-records, grows-check, grown-record}
 use Rattle.writer.specs.Additions.{Addition, term, statement, newRecord, grown}
@@ -53,11 +53,7 @@ length-then (refused n p) w = refl
 -- a refusal is the outcome's own
 pub refused-length : (o : Outcome (List ℕ)) (n p : ℕ) → newLength o ≡ refused n p → o ≡ refused n p
 refused-length (accepted w) n p e = absurd (clash (cc))
-refused-length (refused m q) n p e =
-    let same : _≡_ {A = Outcome ℕ} (refused m q) (refused n p) = e in
-    let number : m ≡ n = cc in
-    let place : q ≡ p = cc in
-    cc
+refused-length (refused m q) n p e = let same = refusal-same m q n p e in rw (same .0, same .1)
 
 module _ (v : List ℕ) (size : ℕ) (x : Addition) where
   abbrev roomy : Bool
