@@ -3,6 +3,8 @@
 #[cfg(test)]
 mod tests;
 
+use judge::Edition;
+
 /// What a record says whose kind is one of docs/FORMATS.md, section 2. Numbers are those of records, but for labels and
 /// roles.
 #[derive(Clone, Copy, Debug, PartialEq, Eq)]
@@ -61,11 +63,11 @@ impl Record {
         }
     }
 
-    /// The header of a vocabulary with no statement on the chain.
-    pub fn header(roles: u16) -> Record {
+    /// The header of an edition with no statement on the chain, of a vocabulary without atoms.
+    pub fn header(edition: Edition, roles: u16) -> Record {
         Record {
             kind: HEADER_KIND,
-            second: 1,
+            second: edition.number(),
             b: roles,
             ..Record::default()
         }

@@ -25,10 +25,12 @@ usage: desk COMMAND .. [--json] [--quiet] [--color[=WHEN]]
   new FILE --roles N            makes an empty vocabulary
   add FILE term KIND ..         adds a term to a vocabulary
   add FILE statement A B        adds a statement at the end of its chain
+  edition FILE 1|2              converts a vocabulary to an edition
   recheck TABLE                 every line of a filed table
 
 'desk COMMAND --help' says more, and so do 'desk help texts', 'desk help tables' and 'desk help refusals'.
-An input of '-' is standard input. Where a vocabulary or a script is taken, its text is taken as well, but for 'add'.
+An input of '-' is standard input. Where a vocabulary or a script is taken, its text is taken as well, but for 'add' and
+'edition'.
 '--' ends the options: what follows is taken as it is.
 
   --json           writes one JSON object a line instead
@@ -43,7 +45,7 @@ exit status: 0 holds, 1 does not hold, 2 refused input, 64 and up usage and I/O 
 ";
 
 /// A page for each command and topic.
-const PAGES: [(&str, &str); 14] = [
+const PAGES: [(&str, &str); 15] = [
     ("check", CHECK),
     ("show", SHOW),
     ("record", RECORD),
@@ -55,6 +57,7 @@ const PAGES: [(&str, &str); 14] = [
     ("assemble", ASSEMBLE),
     ("new", NEW),
     ("add", ADD),
+    ("edition", EDITION),
     ("recheck", RECHECK),
     ("texts", TEXTS),
     ("tables", TABLES),
@@ -63,9 +66,10 @@ const PAGES: [(&str, &str); 14] = [
 const CHECK: &str = "\
 usage: desk check VOCABULARY .. [--json]
 
-Whether each vocabulary is accepted (refusals 1 to 8), with the number of its records, names, restrictions, statements
-and roles, and whether it can be compared and classified (at most 12 atoms). If it can, and no finite interpretation
-satisfies its statements, that is said: they then contradict each other, and all terms are equal.
+Whether each vocabulary is accepted (refusals 1 to 8 and 28), with its edition, the number of its records, names,
+restrictions, statements and roles, and whether it can be compared and classified (at most 12 atoms). A header of
+edition 2 holds the number of atoms. If the vocabulary can be compared, and no finite interpretation satisfies its
+statements, that is said: they then contradict each other, and all terms are equal.
 
 exit status: 0 accepted, 2 refused; of several the greatest
 ";
@@ -74,10 +78,11 @@ const SHOW: &str = "\
 usage: desk show FILE .. [--json]
 
 Prints a vocabulary or a script as text, a line for each record: terms and statements in OWL 2 functional syntax, with
-c7 for the name labelled 7, r0 for role 0 and #4 for the term of record 4. 'desk assemble' makes the same bytes of it.
-A vocabulary that is refused is shown as well, and the refusal beside it, on standard error; a record without a form is
-shown as 'raw'. A file whose length is refused is not shown. What begins as a script (w0 is 32) is taken for one; whether
-it proves something, 'desk verify' says.
+c7 for the name labelled 7, r0 for role 0 and #4 for the term of record 4. The header's line says the edition. 'desk
+assemble' makes the same bytes of it. A vocabulary that is refused is shown as well, and the refusal beside it, on
+standard error; a record without a form is shown as 'raw', as is a header of edition 2 with a wrong number of atoms. A
+file whose length is refused is not shown. What begins as a script (w0 is 32) is taken for one; whether it proves
+something, 'desk verify' says.
 
 exit status: 0 shown, 2 refused; of several the greatest
 ";
@@ -155,8 +160,8 @@ its steps, or the refusal, with what is wrong at the record. What a refused scri
 
   --trace   prints each step with the goal, the column that it uses with the terms put in, and the open frames after
             it: a frame's goal first, then its other open literals; '>' marks the last frame, whose goal is the next.
-            A refused step is the last, with the reason. A script refused by 1 to 19 has no trace. Where the script is
-            given as a text, each step has its line.
+            A refused step is the last, with the reason. What is refused by 1 to 19 or 28 has no trace. Where the
+            script is given as a text, each step has its line.
   --words TEXT   the text of the vocabulary, whose comments say what each record is called; a trace says its goals in
                  words, too
 
@@ -194,8 +199,8 @@ exit status: 0 written, 2 refused, or a fault in the text
 const NEW: &str = "\
 usage: desk new FILE --roles N [--json]
 
-Makes an empty vocabulary of N roles, r0 to rN-1: its header alone, 8 bytes. 'desk add' adds to it. A FILE that is there
-already stays as it is, whatever it holds.
+Makes an empty vocabulary of N roles, r0 to rN-1: its header alone, 8 bytes, of edition 2. 'desk add' adds to it. A FILE
+that is there already stays as it is, whatever it holds.
 
   --roles N   the number of roles, 0 to 64; it has to be given, since no addition changes it
 
@@ -207,8 +212,8 @@ usage: desk add FILE (term KIND .. | statement A B) [--json]
 
 Adds one record to the vocabulary FILE, by the library's own writer, and prints its number and its line: a term, or the
 statement that A lies within B, at the end of the chain. FILE is replaced whole or not at all; it has to be a vocabulary's
-bytes, and not a text. What the library refuses is not added: of FILE 1 to 8; 27 if it has 512 records; of the new record
-3 to 7.
+bytes, and not a text. It keeps its edition; a header of edition 2 keeps the true number of atoms. What the library refuses
+is not added: of FILE 1 to 8 and 28; 27 if it has 512 records; of the new record 3 to 7.
 
   term c7                          the name labelled 7 (kind 3)
   term owl:Thing                   top (1); owl:Nothing is bottom (2)
@@ -226,6 +231,17 @@ Where an earlier record says the same as the new one, that is said. Runs at once
 another program writes to it meanwhile, it stays as that has left it, and nothing is added (73).
 
 exit status: 0 added, 2 refused, or a fault in a text, 66 FILE cannot be read or is a text, 73 FILE cannot be replaced
+";
+
+const EDITION: &str = "\
+usage: desk edition FILE (1 | 2) [--json]
+
+Converts the vocabulary FILE to an edition of the header, 1 or 2. Edition 2, which new vocabularies have, holds the number
+of atoms; edition 1 does not. No other byte changes, and comparison, classification and scripts say the same of both. FILE
+is replaced whole or not at all; it has to be a vocabulary's bytes, and not a text, whose header says the edition. One that
+has the edition already stays as it is. What the library refuses (1 to 8 and 28) is not converted.
+
+exit status: 0 converted or unchanged, 2 refused, 66 FILE cannot be read or is a text, 73 FILE cannot be replaced
 ";
 
 const RECHECK: &str = "\
@@ -254,7 +270,8 @@ A line for each record, the header first; record numbers before the lines may be
 says what people call the record. Blanks, empty lines, CR LF line ends and a byte order mark do not matter. Numbers are 0
 to 65535. A text has at most 1,048,576 bytes.
 
-  vocabulary roles N              the header: the number of roles
+  vocabulary roles N              the header: the number of roles; it is of edition 2
+  vocabulary roles N edition 1    the same of edition 1; 'edition 2' may be said too
   c7, owl:Thing, owl:Nothing      the name labelled 7, top, bottom
   ObjectComplementOf(T)           not
   ObjectIntersectionOf(T T)       and
@@ -335,9 +352,9 @@ Refusals: the first in the table's order is given, with the place where it appli
     }
     page.push_str(
         "
-1 to 8 are of vocabularies and of what is added to them, 9 of 'record', 10 of the terms asked about, 11 and 12 of
-'compare' and 'classify', 26 of 'classify', 27 of 'add', 13 to 19 of the form of scripts (status 2), 20 to 25 of the chain
-of steps (status 1). docs/FORMATS.md has the formats and each rule in full.
+1 to 8 are of vocabularies and of what is added to them, 28, after 8, of the header of edition 2, 9 of 'record', 10 of the
+terms asked about, 11 and 12 of 'compare' and 'classify', 26 of 'classify', 27 of 'add', 13 to 19 of the form of scripts
+(status 2), 20 to 25 of the chain of steps (status 1). docs/FORMATS.md has the formats and each rule in full.
 ",
     );
     page

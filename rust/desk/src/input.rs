@@ -7,8 +7,9 @@ use crate::report::{Report, Stop, Style};
 use crate::text::cursor::Fault;
 use crate::text::{self, Assembled, Kind, Line, TEXT_BYTES};
 use base::spelling::nearest;
+use base::vocabulary::HEADER_KIND;
 use base::{Failure, Status};
-use judge::{Place, Refusal};
+use judge::{Edition, Place, Refusal, Rule};
 use std::ffi::OsStr;
 
 /// The most faults of a text that are listed.
@@ -62,13 +63,20 @@ impl Input {
         Some((line.number, line.column))
     }
 
-    /// The line and column that a refusal is about, where there is a text. A header is record 0.
+    /// The line and column that a refusal is about, where there is a text. A header is record 0; of what it holds (28) the
+    /// place is no record, but what it should hold.
     pub fn place_of(&self, refusal: Refusal) -> Option<(usize, usize)> {
-        match (refusal.rule.place(), refusal.rule.number()) {
+        match (refusal.rule.place(), refusal.rule) {
             (Place::Record | Place::ScriptRecord, _) => self.line_of(refusal.place),
-            (Place::Whole, 2 | 14) => self.line_of(0),
+            (_, Rule::Header | Rule::ScriptHeader | Rule::AtomCount) => self.line_of(0),
             _ => None,
         }
+    }
+
+    /// Whether a text says this vocabulary, be it with a header of the other edition: filed ones have edition 1, and a text
+    /// that says none makes edition 2.
+    pub fn is_said_by(&self, text: &Input) -> bool {
+        in_first_edition(&self.bytes) == in_first_edition(&text.bytes)
     }
 
     /// The name, with line and column where they are known.
@@ -88,11 +96,18 @@ impl Input {
         };
         let begins = match (self.bytes.as_slice(), number) {
             ([32, 0, ..], 1 | 2) => "; it begins as a script",
-            ([16, 1, ..], 13 | 14) => "; it begins as a vocabulary",
+            ([HEADER_KIND, 1 | 2, ..], 13 | 14) => "; it begins as a vocabulary",
             _ => "",
         };
         format!("{size}{begins}")
     }
+}
+
+/// A vocabulary with a header of edition 1; what is refused stays as it is.
+fn in_first_edition(bytes: &[u8]) -> Vec<u8> {
+    let mut copy = bytes.to_vec();
+    let _ = judge::set_edition(&mut copy, Edition::One);
+    copy
 }
 
 /// Whether bytes begin as a text: with a comment, or with the first word of one, be it misspelt.
@@ -125,13 +140,16 @@ pub fn vocabulary(path: &OsStr, access: Access, style: Style) -> Result<Input, S
     of_kind(read(path, access, judge::VOCABULARY_BYTES)?, Kind::Vocabulary, style)
 }
 
-/// A vocabulary that is to be changed, from its bytes alone, and its file, which no other run changes while it is open.
-pub fn vocabulary_to_change(path: &OsStr) -> Result<(Input, Opened), Failure> {
+/// A vocabulary that is to be changed, from its bytes alone, and its file, which no other run changes while it is open. For
+/// a text there is advice.
+pub fn vocabulary_to_change(path: &OsStr, advice: &str) -> Result<(Input, Opened), Failure> {
+    if path == "-" {
+        return Err(Failure::usage("FILE is a file to change, and '-' is none"));
+    }
     let mut opened = files::open_to_change(path)?;
     let most = judge::VOCABULARY_BYTES;
     let source = files::read_opened(&mut opened, most, |_| most)?;
     if is_text(&source.bytes) {
-        let advice = "add a line to it, or make a vocabulary of it ('desk assemble')";
         let message = format!("{}: is a text; {advice}", source.name);
         return Err(Failure::new(Status::NoInput, message));
     }

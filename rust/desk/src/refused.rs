@@ -13,14 +13,16 @@ pub fn words(input: &Input, refusal: Refusal, detail: Option<&str>) -> String {
     format!("{refusal}{}{detail}", input.hint(refusal))
 }
 
-/// The detail that is given; else what the input alone shows: of rules up to 9 it is a vocabulary, and of 14 a script.
-/// None is needed where the input is hinted at as another.
+/// The detail that is given; else what the input alone shows: of 14 it is a script, of 9 and of what the vocabulary check
+/// refuses a vocabulary. None is needed where the input is hinted at as another.
 fn in_detail(input: &Input, refusal: Refusal, detail: Option<&str>) -> Option<String> {
     match (detail, refusal.rule) {
         _ if !input.hint(refusal).is_empty() => None,
         (Some(detail), _) => Some(detail.to_string()),
         (None, Rule::ScriptHeader) => why::detail(&[], &input.bytes, refusal),
-        (None, rule) if rule.number() <= 9 => why::vocabulary_detail(&input.bytes, refusal),
+        (None, rule) if rule.is_of_vocabulary() || rule == Rule::RecordNumber => {
+            why::vocabulary_detail(&input.bytes, refusal)
+        }
         _ => None,
     }
 }

@@ -154,7 +154,7 @@ fn what_cannot_be_added_to_is_told() {
     place.put("bytes", EMPTY);
     place.put_directory("inner");
     for (file, status, why) in [
-        ("-", 64, "FILE is a file to add to, and '-' is none"),
+        ("-", 64, "FILE is a file to change, and '-' is none"),
         ("nowhere", 66, "nowhere: there is no such file"),
         ("inner", 66, "inner: is a directory, not a file"),
         ("/dev/null", 66, "/dev/null: is no regular file"),

@@ -1,7 +1,7 @@
 //! A vocabulary that is written record by record.
 
-use crate::{add_statement, add_term, check_vocabulary, make_vocabulary};
-use crate::{Refusal, Rule, RECORD_BYTES, VOCABULARY_BYTES};
+use crate::{add_statement, add_term, check_vocabulary, make_vocabulary, set_edition};
+use crate::{Edition, Refusal, Rule, RECORD_BYTES, VOCABULARY_BYTES};
 
 /// A vocabulary that is written record by record, by the library's calls, in a buffer that is owned or lent: an array, a
 /// vector, `&mut [u8]`. Each method that adds a record answers its number, by which later ones name it; one that is refused
@@ -65,6 +65,20 @@ impl<B: AsRef<[u8]> + AsMut<[u8]>> Builder<B> {
         };
         check_vocabulary(buffer.as_ref().get(..used).ok_or(past)?)?;
         Ok(Builder { buffer, used })
+    }
+
+    /// Gives the vocabulary a header of an edition, which additions keep. A new one has edition 2.
+    ///
+    /// ```
+    /// let mut terms = judge::Builder::new(0)?;
+    /// terms.set_edition(judge::Edition::One)?;
+    /// terms.top()?;
+    /// assert_eq!(terms.as_bytes()[..8], [16, 1, 0, 0, 0, 0, 0, 0]);
+    /// # Ok::<(), judge::Refusal>(())
+    /// ```
+    pub fn set_edition(&mut self, edition: Edition) -> Result<(), Refusal> {
+        let used = self.buffer.as_mut().get_mut(..self.used);
+        set_edition(used.unwrap_or_default(), edition)
     }
 
     /// The bytes in use: the vocabulary.

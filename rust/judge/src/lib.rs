@@ -15,12 +15,15 @@
 //! # Ok::<(), judge::Refusal>(())
 //! ```
 //!
-//! Five calls read. Three write a vocabulary record by record, and [`Builder`] keeps their buffer.
+//! Five calls read. Three write a vocabulary record by record, and [`Builder`] keeps their buffer. A vocabulary's header has
+//! an [`Edition`]; new ones have edition 2, which holds the number of atoms ([`atoms`]).
 
 mod builder;
+mod edition;
 mod refusal;
 
 pub use builder::Builder;
+pub use edition::{atoms, edition, set_edition, Edition};
 pub use refusal::{Place, Refusal, Rule};
 
 /// The most bytes that a vocabulary may have.
@@ -123,7 +126,7 @@ pub enum Relation {
     Neither,
 }
 
-/// The vocabulary check: the number of records, header included.
+/// The vocabulary check: the number of records, header included. Refused by rules 1 to 8, then 28.
 pub fn check_vocabulary(vocabulary: &[u8]) -> Result<u32, Refusal> {
     // SAFETY: a slice's pointer is not null and has as many readable bytes as its length says.
     value(unsafe { library::judge_check_vocabulary(vocabulary.as_ptr(), vocabulary.len()) })
@@ -215,13 +218,13 @@ pub fn check_script(vocabulary: &[u8], script: &[u8]) -> Result<u32, Refusal> {
     value(unsafe { library::judge_check_script(vocabulary.as_ptr(), vocabulary.len(), script.as_ptr(), script.len()) })
 }
 
-/// Makes an empty vocabulary of so many roles in the first [`RECORD_BYTES`] of a buffer, and answers their number: the bytes
-/// in use. What lies behind keeps its content; a refusal (27, then 2) writes nothing.
+/// Makes an empty vocabulary of so many roles, of edition 2, in the first [`RECORD_BYTES`] of a buffer, and answers their
+/// number: the bytes in use. What lies behind keeps its content; a refusal (27, then 2) writes nothing.
 ///
 /// ```
 /// let mut buffer = [9; 12];
 /// assert_eq!(judge::make_vocabulary(&mut buffer, 2), Ok(8));
-/// assert_eq!(buffer, [16, 1, 0, 0, 2, 0, 0, 0, 9, 9, 9, 9]);
+/// assert_eq!(buffer, [16, 2, 0, 0, 2, 0, 0, 0, 9, 9, 9, 9]);
 /// ```
 pub fn make_vocabulary(buffer: &mut [u8], roles: u32) -> Result<usize, Refusal> {
     // SAFETY: a slice's pointer is not null and has as many bytes as its length says; they are borrowed for writing.
@@ -229,8 +232,9 @@ pub fn make_vocabulary(buffer: &mut [u8], roles: u32) -> Result<usize, Refusal> 
 }
 
 /// Adds a term of kind 1 to 8 to the vocabulary in the first `used` bytes of a buffer, and answers the bytes then in use. On
-/// success the new record's eight bytes change and no others; a refusal writes nothing. The bytes in use first meet 1 to 8,
-/// then there has to be room (27), then the new record meets 3 to 7 as the vocabulary check has them.
+/// success the new record's eight bytes change, and the number of atoms in a header of edition 2, which stays true; no others
+/// do, and a refusal writes nothing. The bytes in use first meet 1 to 8 and 28, then there has to be room (27), then the new
+/// record meets 3 to 7 as the vocabulary check has them.
 ///
 /// ```
 /// let mut buffer = [0; 24];

@@ -20,7 +20,7 @@ pub enum Place {
     Record,
     /// The number that was asked for.
     Asked,
-    /// The number of atoms.
+    /// The number of atoms, as it is and not as a header has it.
     Atoms,
     /// A record of the script.
     ScriptRecord,
@@ -84,6 +84,8 @@ pub enum Rule {
     TaxonomyLent,
     /// 27
     Room,
+    /// 28
+    AtomCount,
     /// A number that the table does not have.
     Unlisted(u8),
 }
@@ -110,7 +112,7 @@ const fn row(rule: Rule, place: Place, condition: &'static str, words: &'static 
 /// The table, in the order of the numbers: the condition, in the words of docs/FORMATS.md, and a sentence, which
 /// include/judge.h has too.
 #[rustfmt::skip]
-const TABLE: [Row; 27] = [
+const TABLE: [Row; 28] = [
     row(Rule::VocabularyLength, Whole, "under 8, over 4,096 or no multiple of 8",
         "the vocabulary's length is under 8, over 4,096 or no multiple of 8"),
     row(Rule::Header, Whole, "kind, second byte, role count or next",
@@ -167,6 +169,8 @@ const TABLE: [Row; 27] = [
         "under 144 bytes are lent for the taxonomy"),
     row(Rule::Room, Record, "512 records, or under 8 bytes free",
         "the vocabulary has 512 records, or under 8 bytes of the buffer are free"),
+    row(Rule::AtomCount, Place::Atoms, "edition 2 with a wrong k",
+        "the vocabulary's header, of edition 2, has a wrong number of atoms"),
 ];
 
 impl Rule {
@@ -203,6 +207,12 @@ impl Rule {
     pub fn words(self) -> &'static str {
         self.row()
             .map_or("a refusal that the table does not have", |(_, row)| row.words)
+    }
+
+    /// Whether the vocabulary check gives it (1 to 8 and 28). Every call that takes a vocabulary tries these first, but for the
+    /// record call, which tries 1 alone.
+    pub fn is_of_vocabulary(self) -> bool {
+        matches!(self.number(), 1..=8 | 28)
     }
 
     /// Whether the chain of a script that keeps the form decides it (20 to 25): the input is fit, and its chain is no

@@ -1,6 +1,7 @@
 //! Vocabularies in the making.
 
 use base::vocabulary::{Record, Saying, Vocabulary};
+use judge::Edition;
 
 /// A vocabulary to which records are appended.
 pub struct Making {
@@ -11,11 +12,11 @@ pub struct Making {
 }
 
 impl Making {
-    /// A header alone.
+    /// A header alone, of edition 1, which holds no count of what is appended.
     pub fn new(roles: u16) -> Making {
         Making {
             vocabulary: Vocabulary {
-                records: vec![Record::header(roles)],
+                records: vec![Record::header(Edition::One, roles)],
             },
             last: 0,
         }

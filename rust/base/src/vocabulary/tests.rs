@@ -3,7 +3,7 @@
 #![allow(clippy::unwrap_used, clippy::indexing_slicing)]
 
 use super::{Saying, Vocabulary};
-use judge::Verdict;
+use judge::{Edition, Verdict};
 
 /// A stored comparison: the vocabulary, A and B.
 type Case = (&'static [u8], u32, u32);
@@ -96,5 +96,8 @@ fn bytes_terms_and_statements_are_those_of_the_records() {
         statements += chained.len();
     }
     assert_eq!((accepted, statements), (4_232, 5_674));
-    assert_eq!(super::Record::header(258).bytes(), [16, 1, 0, 0, 2, 1, 0, 0]);
+    for edition in [Edition::One, Edition::Two] {
+        let header = super::Record::header(edition, 258).bytes();
+        assert_eq!(header, [16, edition.number(), 0, 0, 2, 1, 0, 0]);
+    }
 }

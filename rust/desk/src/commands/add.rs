@@ -26,7 +26,8 @@ const SORTS: [(&str, Reading); 2] = [("term", addition::term), ("statement", add
 pub fn run(arguments: &Arguments, console: &mut Console) -> Result<Status, Stop> {
     let (path, reading, words) = asked(arguments)?;
     // The file is open until it is replaced, so that no other run changes it meanwhile.
-    let (input, _opened) = input::vocabulary_to_change(path)?;
+    let advice = "add a line to it, or make a vocabulary of it ('desk assemble')";
+    let (input, _opened) = input::vocabulary_to_change(path, advice)?;
     let style = console.style;
     let mut builder = begin(&input.bytes).map_err(|refusal| refused::of_vocabulary(style, &input, refusal))?;
     let addition = read(&input, reading, &words, style)?;
@@ -53,9 +54,6 @@ fn asked(arguments: &Arguments) -> Result<(&OsStr, Reading, Vec<String>), Failur
             "'term' or 'statement' is added, and not '{sort}'{hint}"
         )));
     };
-    if path == "-" {
-        return Err(Failure::usage("FILE is a file to add to, and '-' is none"));
-    }
     let words = words.iter().map(|word| word.to_string_lossy().into_owned());
     Ok((path, reading, words.collect()))
 }

@@ -13,7 +13,7 @@ use crate::text::Kind;
 use base::arguments::{Arguments, Flag};
 use base::vocabulary::{Saying, Vocabulary};
 use base::{Failure, Status};
-use judge::Builder;
+use judge::{Builder, Edition};
 use std::path::Path;
 
 /// The options.
@@ -62,7 +62,9 @@ fn rebuild(input: &mut Input) -> Result<(), Failure> {
 /// An accepted vocabulary, written record by record. Nothing where a statement is off the chain: the writer has each on it.
 fn built(vocabulary: &Vocabulary) -> Option<Vec<u8>> {
     let chained = vocabulary.chained();
-    let mut builder = Builder::new(vocabulary.get(0).b.into()).ok()?;
+    let header = vocabulary.get(0);
+    let mut builder = Builder::new(header.b.into()).ok()?;
+    builder.set_edition(Edition::of(header.second)?).ok()?;
     for (number, record) in vocabulary.numbered() {
         let added = match record.saying()? {
             Saying::Within(..) if chained.get(number) != Some(&true) => return None,

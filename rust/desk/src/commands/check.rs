@@ -11,19 +11,23 @@ use crate::report::{Report, Stop, Style};
 use base::arguments::Arguments;
 use base::vocabulary::{Vocabulary, STATEMENT_KIND};
 use base::Status;
+use judge::{Edition, Refusal};
 
 pub fn run(arguments: &Arguments, console: &mut Console) -> Result<Status, Stop> {
     each(arguments, "VOCABULARY", console, |path, style| {
         let input = read_vocabulary(path, style)?;
-        Ok(match judge::check_vocabulary(&input.bytes) {
+        Ok(match Tally::ask(&input.bytes) {
             Err(refusal) => refused::report(style, &input, refusal, None),
-            Ok(records) => accepted(style, &input, records),
+            Ok(tally) => accepted(style, &input, &tally),
         })
     })
 }
 
-/// What is counted in a vocabulary.
+/// What is in an accepted vocabulary. The numbers of records and of atoms are the library's.
 struct Tally {
+    records: u32,
+    edition: Edition,
+    atoms: u16,
     names: usize,
     restrictions: usize,
     statements: usize,
@@ -32,23 +36,23 @@ struct Tally {
 }
 
 impl Tally {
-    fn of(vocabulary: &Vocabulary) -> Tally {
+    fn ask(bytes: &[u8]) -> Result<Tally, Refusal> {
+        let vocabulary = Vocabulary::read(bytes);
         let count = |of: fn(u8) -> bool| vocabulary.numbered().filter(|(_, record)| of(record.kind)).count();
-        Tally {
+        Ok(Tally {
+            records: judge::check_vocabulary(bytes)?,
+            edition: judge::edition(bytes)?,
+            atoms: judge::atoms(bytes)?,
             names: count(|kind| kind == 3),
             restrictions: count(|kind| matches!(kind, 7 | 8)),
             statements: count(|kind| kind == STATEMENT_KIND),
             chained: vocabulary.chained().iter().filter(|on| **on).count(),
             roles: vocabulary.get(0).b,
-        }
-    }
-
-    fn atoms(&self) -> usize {
-        self.names + self.restrictions
+        })
     }
 
     fn is_comparable(&self) -> bool {
-        self.atoms() <= judge::ATOMS
+        usize::from(self.atoms) <= judge::ATOMS
     }
 
     fn text(&self) -> String {
@@ -58,21 +62,25 @@ impl Tally {
             "too many to compare or to classify"
         };
         format!(
-            "{} and {} ({}, {compared}), {} of {} on the chain, {}",
+            "{}, edition {}, {} and {} ({}, {compared}), {} of {} on the chain, {}",
+            counted(self.records.into(), "record"),
+            self.edition.number(),
             counted(self.names as u64, "name"),
             counted(self.restrictions as u64, "restriction"),
-            counted(self.atoms() as u64, "atom"),
+            counted(self.atoms.into(), "atom"),
             self.chained,
             counted(self.statements as u64, "statement"),
             counted(self.roles.into(), "role"),
         )
     }
 
-    fn json(&self) -> [(&'static str, Json); 7] {
+    fn json(&self) -> [(&'static str, Json); 9] {
         [
+            ("records", Json::from(self.records)),
+            ("edition", Json::from(u32::from(self.edition.number()))),
             ("names", Json::from(self.names)),
             ("restrictions", Json::from(self.restrictions)),
-            ("atoms", Json::from(self.atoms())),
+            ("atoms", Json::from(self.atoms)),
             ("comparable", Json::from(self.is_comparable())),
             ("statements", Json::from(self.statements)),
             ("chained", Json::from(self.chained)),
@@ -81,13 +89,9 @@ impl Tally {
     }
 }
 
-fn accepted(style: Style, input: &Input, records: u32) -> Report {
-    let tally = Tally::of(&Vocabulary::read(&input.bytes));
-    let (word, records_word) = (
-        style.paint(Status::Holds, "accepted"),
-        counted(records.into(), "record"),
-    );
-    let mut text = format!("{}: {word}: {records_word}, {}\n", input.name, tally.text());
+fn accepted(style: Style, input: &Input, tally: &Tally) -> Report {
+    let word = style.paint(Status::Holds, "accepted");
+    let mut text = format!("{}: {word}: {}\n", input.name, tally.text());
     // Not known where there are too many atoms.
     let contradictory = Questions::new(&input.bytes).is_contradictory().ok();
     if contradictory == Some(true) {
@@ -96,7 +100,6 @@ fn accepted(style: Style, input: &Input, records: u32) -> Report {
     let mut json = vec![
         ("file", Json::from(input.name.as_str())),
         ("verdict", Json::from("accepted")),
-        ("records", Json::from(records)),
     ];
     json.extend(tally.json());
     json.push(("contradictory", Json::from(contradictory)));

@@ -6,6 +6,7 @@ mod check;
 mod classify;
 mod columns;
 mod compare;
+mod edition;
 mod new;
 mod pair;
 mod recheck;
@@ -44,7 +45,7 @@ const fn command(
 }
 
 /// The commands, in the order of the help.
-const COMMANDS: [Command; 12] = [
+const COMMANDS: [Command; 13] = [
     command("check", &[], check::run),
     command("show", &[], show::run),
     command("record", &[], record::run),
@@ -56,6 +57,7 @@ const COMMANDS: [Command; 12] = [
     command("assemble", assemble::FLAGS, assemble::run),
     command("new", new::FLAGS, new::run),
     command("add", &[], add::run),
+    command("edition", &[], edition::run),
     command("recheck", recheck::FLAGS, recheck::run),
 ];
 
@@ -142,7 +144,7 @@ fn read_script(path: &OsStr, style: Style) -> Result<Input, Stop> {
 fn written(input: &Input, words: Option<&Input>) -> Result<Written, Failure> {
     let written = Written::new(Vocabulary::read(&input.bytes));
     let comments = match words {
-        Some(text) if text.bytes != input.bytes => {
+        Some(text) if !input.is_said_by(text) => {
             let message = format!("{}: is not the text of {}", text.name, input.name);
             return Err(Failure::new(Status::Refused, message));
         }

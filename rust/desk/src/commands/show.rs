@@ -11,7 +11,7 @@ use crate::text::{self, Kind};
 use base::arguments::Arguments;
 use base::vocabulary::Vocabulary;
 use base::Status;
-use judge::{Refusal, Rule};
+use judge::{Edition, Refusal, Rule};
 
 pub fn run(arguments: &Arguments, console: &mut Console) -> Result<Status, Stop> {
     each(arguments, "FILE", console, |path, style| {
@@ -41,11 +41,19 @@ fn show(style: Style, input: &Input, kind: Kind) -> Report {
     }
 }
 
+/// The edition of a vocabulary's header, be it refused otherwise.
+fn edition(input: &Input, kind: Kind) -> Option<u32> {
+    let second = Vocabulary::read(&input.bytes).get(0).second;
+    let edition = Edition::of(second).filter(|_| kind == Kind::Vocabulary);
+    edition.map(|edition| u32::from(edition.number()))
+}
+
 /// The text of a file, with the refusal beside it where there is one, else with the verdict.
 fn shown(input: &Input, kind: Kind, verdict: &str, text: String, refusal: Option<Refusal>) -> Report {
     let mut json = vec![
         ("file", Json::from(input.name.as_str())),
         ("kind", Json::from(kind.word())),
+        ("edition", Json::from(edition(input, kind))),
         ("lines", Json::list(text.lines())),
     ];
     let Some(refusal) = refusal else {

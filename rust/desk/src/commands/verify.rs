@@ -32,7 +32,7 @@ pub fn run(arguments: &Arguments, console: &mut Console) -> Result<Status, Stop>
     };
     let mut report = match verdict {
         Ok(steps) => accepted(console.style, &written, &script, steps),
-        Err(refusal) if refusal.rule.number() <= 8 => refused::report(console.style, &vocabulary, refusal, None),
+        Err(refusal) if refusal.rule.is_of_vocabulary() => refused::report(console.style, &vocabulary, refusal, None),
         Err(refusal) => refused_script(console.style, &vocabulary, &script, refusal, trace.is_some()),
     };
     if let Some(trace) = trace {

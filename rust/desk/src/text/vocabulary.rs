@@ -8,6 +8,7 @@ use crate::display::plain;
 use crate::json::Json;
 use base::chain::default_link;
 use base::vocabulary::{Record, Saying, Vocabulary, STATEMENT_KIND};
+use judge::{Edition, Refusal, Rule};
 
 /// A vocabulary with the text of each record as an operand.
 pub struct Written {
@@ -112,15 +113,18 @@ impl Written {
         })
     }
 
-    /// The line of the header.
+    /// The line of the header. One that is not as its edition asks, as with a wrong number of atoms, has no form.
     pub fn header(&self) -> String {
         let header = self.vocabulary.get(0);
         let (first, roles) = (header.a, header.b);
-        if (Record { a: 0, ..header }) != Record::header(roles) {
-            return format!("vocabulary {}", raw(header));
+        let wanted = |edition| with_atoms(Record::header(edition, roles), &self.vocabulary);
+        match Edition::of(header.second) {
+            Some(edition) if (Record { a: 0, ..header }) == wanted(edition) => {
+                let first = link_words(FIRST, first, default_link(&self.chained, 0));
+                format!("vocabulary roles {roles} edition {}{first}", edition.number())
+            }
+            _ => format!("vocabulary {}", raw(header)),
         }
-        let first = link_words("first", first, default_link(&self.chained, 0));
-        format!("vocabulary roles {roles}{first}")
     }
 
     /// A record's line, without its number.
@@ -140,6 +144,28 @@ impl Written {
         whole(&self.header(), self.vocabulary.records.len(), |number| {
             self.line(number)
         })
+    }
+}
+
+/// A header with the number of the vocabulary's atoms, if it is of edition 2, which holds it.
+fn with_atoms(header: Record, vocabulary: &Vocabulary) -> Record {
+    let next = match Edition::of(header.second) {
+        Some(Edition::Two) => atoms(vocabulary),
+        _ => header.next,
+    };
+    Record { next, ..header }
+}
+
+/// The number of atoms of a vocabulary of edition 2, as the library says it, be it by refusing what the header holds. Of one
+/// that it refuses otherwise it says none: there all records of an atom's kind count.
+fn atoms(vocabulary: &Vocabulary) -> u16 {
+    match judge::atoms(&vocabulary.bytes()) {
+        Ok(atoms) => atoms,
+        Err(Refusal {
+            rule: Rule::AtomCount,
+            place,
+        }) => place as u16,
+        Err(_) => vocabulary.atoms().len() as u16,
     }
 }
 
@@ -177,7 +203,12 @@ const TERMS: [&str; 7] = [
     "ObjectAllValuesFrom",
 ];
 /// The other words that a line begins with.
-const OTHERS: [&str; 3] = ["raw", "off", "SubClassOf"];
+const OTHERS: [&str; 3] = [RAW, "off", "SubClassOf"];
+/// The word of a record that is given by its fields.
+const RAW: &str = "raw";
+/// The words that may follow a header's number of roles.
+const EDITION: &str = "edition";
+const FIRST: &str = "first";
 /// What is said of a line that begins with none of them.
 const NO_RECORD: &str =
     "a term (c1, owl:Thing, ObjectUnionOf(..), ..) or a statement (SubClassOf(..)) is expected here";
@@ -208,22 +239,45 @@ pub fn read<'a>(header: Cursor<'a>, lines: impl Iterator<Item = Cursor<'a>>) -> 
             _ => record.next = link,
         },
     };
-    let records = form.read(header, lines)?;
-    Ok(records.into_iter().flat_map(Record::bytes).collect())
+    // A header that is given by its fields has all of them.
+    let is_raw = header.clone().keyword(RAW);
+    let mut vocabulary = Vocabulary {
+        records: form.read(header, lines)?,
+    };
+    let counted = with_atoms(vocabulary.get(0), &vocabulary);
+    if let Some(header) = vocabulary.records.first_mut().filter(|_| !is_raw) {
+        *header = counted;
+    }
+    Ok(vocabulary.bytes())
 }
 
 fn read_header(line: &mut Cursor) -> Result<Linked<Record>, Fault> {
-    let (record, link) = if line.choose(&["roles", "raw"], "'roles' is expected here")? == "raw" {
+    let (record, link) = if line.choose(&["roles", RAW], "'roles' is expected here")? == RAW {
         let record = read_raw(line)?;
         (record, Some(record.a))
     } else {
-        let record = Record::header(line.number()?);
-        (record, read_link(line, "first")?)
+        let roles = line.number()?;
+        let record = Record::header(read_edition(line)?, roles);
+        (record, read_link(line, FIRST)?)
     };
     Ok(Linked {
         link,
         ..Linked::unchained(record, Says::Nothing)
     })
+}
+
+/// The edition that may stand here; where none does, it is that of new vocabularies.
+fn read_edition(line: &mut Cursor) -> Result<Edition, Fault> {
+    let mut ahead = line.clone();
+    // A misspelt word is the one that it means, of those that may stand here.
+    if ahead.at_end() || ahead.choose(&[EDITION, FIRST], "") != Ok(EDITION) {
+        return Ok(Edition::Two);
+    }
+    *line = ahead;
+    let place = line.here();
+    let number = line.number()?;
+    let edition = u8::try_from(number).ok().and_then(Edition::of);
+    edition.ok_or_else(|| line.fault_at(place, "the edition of a vocabulary is 1 or 2"))
 }
 
 /// A record by its fields; the word `raw` is taken.
@@ -248,7 +302,7 @@ fn read_raw(line: &mut Cursor) -> Result<Record, Fault> {
 /// A record; `said` is what the lines before it say.
 fn read_record(line: &mut Cursor, said: &Said) -> Result<Linked<Record>, Unread> {
     match read_word(line, &OTHERS, NO_RECORD)? {
-        "raw" => {
+        RAW => {
             let record = read_raw(line)?;
             Ok(Linked::unchained(record, raw_says(record)))
         }

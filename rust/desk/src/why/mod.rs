@@ -43,9 +43,10 @@ impl Reason {
 /// What is wrong where the script check refuses, be it the vocabulary or the script; nothing where the words of the
 /// refusal say it all.
 pub fn detail(vocabulary: &[u8], script: &[u8], refusal: Refusal) -> Option<String> {
-    match refusal.rule.number() {
-        ..=8 => vocabulary_detail(vocabulary, refusal),
-        _ => reason(vocabulary, script, refusal).map(|reason| reason.words),
+    if refusal.rule.is_of_vocabulary() {
+        vocabulary_detail(vocabulary, refusal)
+    } else {
+        reason(vocabulary, script, refusal).map(|reason| reason.words)
     }
 }
 
@@ -55,7 +56,7 @@ pub fn is_foreign(vocabulary: &[u8], script: &[u8], refusal: Refusal) -> bool {
     reason(vocabulary, script, refusal).is_some_and(|reason| reason.foreign)
 }
 
-/// What is wrong where a vocabulary is refused (2 to 8), or a number that was asked for in it (9 and 10).
+/// What is wrong where a vocabulary is refused (2 to 8 and 28), or a number that was asked for in it (9 and 10).
 pub fn vocabulary_detail(vocabulary: &[u8], refusal: Refusal) -> Option<String> {
     vocabulary::detail(&base::vocabulary::Vocabulary::read(vocabulary), refusal)
 }

@@ -1,8 +1,8 @@
 //! Refusals of a vocabulary.
 
-use crate::display::counted;
+use crate::display::{counted, grouped};
 use base::vocabulary::{Record, Vocabulary, HEADER_KIND, STATEMENT_KIND};
-use judge::{Refusal, Rule};
+use judge::{Edition, Refusal, Rule};
 
 /// What is wrong at the place of a refusal.
 pub fn detail(vocabulary: &Vocabulary, refusal: Refusal) -> Option<String> {
@@ -18,6 +18,7 @@ pub fn detail(vocabulary: &Vocabulary, refusal: Refusal) -> Option<String> {
         Rule::Link => link(vocabulary, number),
         Rule::RecordNumber => absent(vocabulary, number).map(|_| end(vocabulary)),
         Rule::Query => asked(vocabulary, number),
+        Rule::AtomCount => atoms(vocabulary, number),
         _ => None,
     }
 }
@@ -102,12 +103,13 @@ pub fn header(record: Record) -> Option<String> {
     } = record;
     if kind != HEADER_KIND {
         Some(format!("the kind is {kind}, and a header has {HEADER_KIND}"))
-    } else if second != 1 {
-        Some(format!("the second byte is {second}, and a header has 1"))
+    } else if Edition::of(second).is_none() {
+        Some(format!("the second byte is {second}, and a header has 1 or 2"))
     } else if usize::from(b) > judge::ROLES {
         Some(format!("the number of roles is {b}, and the most is {}", judge::ROLES))
     } else {
-        (next != 0).then(|| format!("next is {next}, and a header has 0"))
+        let is_wrong = second == Edition::One.number() && next != 0;
+        is_wrong.then(|| format!("next is {next}, and a header of edition 1 has 0"))
     }
 }
 
@@ -191,4 +193,15 @@ pub fn link(vocabulary: &Vocabulary, number: usize) -> Option<String> {
         let is_statement = vocabulary.get(to).kind == STATEMENT_KIND;
         (!is_statement).then(|| format!("{what} is {}, and no statement", named(vocabulary, to)))
     }
+}
+
+/// 28, where the vocabulary has so many atoms.
+pub fn atoms(vocabulary: &Vocabulary, atoms: usize) -> Option<String> {
+    let header = vocabulary.get(0);
+    let is_wrong = header.second == Edition::Two.number() && usize::from(header.next) != atoms;
+    let (held, are) = (
+        counted(header.next.into(), "atom"),
+        if atoms == 1 { "is" } else { "are" },
+    );
+    is_wrong.then(|| format!("the header says {held}; there {are} {}", grouped(atoms as u64)))
 }

@@ -94,7 +94,7 @@ impl Classifier {
             return Err(Failure::new(Status::Defect, message).into());
         }
         // Of several, the text is that of some.
-        let is_text = |words: &&Input| !self.several || words.bytes == input.bytes;
+        let is_text = |words: &&Input| !self.several || input.is_said_by(words);
         let words = self.words.as_ref().filter(is_text);
         let written = written(&input, words)?;
         self.used |= words.is_some();

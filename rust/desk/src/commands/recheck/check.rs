@@ -281,7 +281,7 @@ fn within_nothing(known: &mut Known, [a, _]: [u32; 2]) -> Option<String> {
 
 fn proved(known: &mut Known, pair: [u32; 2], script: &Input, explain: bool) -> Judged {
     match judge::check_script(&known.input.bytes, &script.bytes) {
-        Err(refusal) if refusal.rule.number() <= 8 => return Outcome::refused(refusal, &known.input).into(),
+        Err(refusal) if refusal.rule.is_of_vocabulary() => return Outcome::refused(refusal, &known.input).into(),
         Err(refusal) => {
             let detail = explain.then(|| why::detail(&known.input.bytes, &script.bytes, refusal));
             let outcome = Outcome::refused(refusal, script);

@@ -56,7 +56,7 @@ impl Files {
     /// Reads a vocabulary.
     fn vocabulary(&self, file: &str) -> Result<Known, Trouble> {
         let input = input::vocabulary(&self.path(file), Access::Regular, Style { colour: false })?;
-        let same = self.words.as_ref().filter(|words| words.bytes == input.bytes);
+        let same = self.words.as_ref().filter(|words| input.is_said_by(words));
         let words = same.map(|words| words.as_ref()).unwrap_or(&input).comments();
         Ok(Known::new(input, words))
     }
