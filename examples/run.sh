@@ -35,6 +35,8 @@ examples() {
         run 0 desk check "$example/terms.vocabulary"
         run 0 desk assemble "$example/proof.text" -o "$example/proof.script"
         run 0 desk verify "$example/terms.vocabulary" "$example/proof.script"
+        # A text makes edition 2; the vocabulary that is stored was filed in edition 1.
+        run 0 desk edition "$example/terms.vocabulary" 1
         cmp "$example/terms.vocabulary" "$root/examples/$example/terms.vocabulary"
         cmp "$example/proof.script" "$root/examples/$example/proof.script"
     done
@@ -66,14 +68,18 @@ examples() {
     run 0 desk add drafted.vocabulary term ObjectIntersectionOf c3 c2
     run 0 desk add drafted.vocabulary statement 5 c2
     run 0 desk add drafted.vocabulary statement c3 8
+    run 0 desk check drafted.vocabulary
+    run 0 desk edition drafted.vocabulary 1
     cmp drafted.vocabulary "$root/examples/cat-owner/terms.vocabulary"
 
     # The same through C: examples/settle.c and examples/write.c.
+    run 0 settle v.vocabulary
+    run 0 settle v2.vocabulary
     run 1 settle relief/terms.vocabulary 11 14
     run 0 settle vertebrate/terms.vocabulary --names
     run 0 settle relief/terms.vocabulary relief/proof.script
     run 0 write written.vocabulary
-    cmp written.vocabulary "$root/examples/v.vocabulary"
+    cmp written.vocabulary "$root/examples/v2.vocabulary"
 }
 
 say 'proving and building the library (some 3 minutes from nothing)'

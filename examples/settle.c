@@ -39,7 +39,8 @@ static int check(const char *name, const uint8_t *vocabulary, size_t length)
 
     if (judge_refusal(answer))
         return refused(name, answer);
-    printf("%s: accepted, %u records\n", name, judge_records(answer));
+    printf("%s: accepted, %u records, edition %u, %u atoms\n", name, judge_records(answer),
+           judge_header_edition(vocabulary), judge_atoms(vocabulary, length));
     for (uint32_t number = 0; number < judge_records(answer); number++) {
         const uint8_t *bytes = vocabulary + judge_offset(judge_record(vocabulary, length, number));
 

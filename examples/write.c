@@ -1,6 +1,6 @@
 /* Writes a vocabulary record by record, through the C boundary: three names, the intersection of the first two, and the
- * statement that it lies within the third (sample V of docs/FORMATS.md, section 10). It then asks whether the
- * intersection and the third name are equal, and writes the bytes to a file.
+ * statement that it lies within the third (sample V of docs/FORMATS.md, section 10). It then reads from the header how
+ * many atoms there are, asks whether the intersection and the third name are equal, and writes the bytes to a file.
  * usage: write FILE
  * Exit status: 0 written, 2 refused, 64 bad usage, 73 the file cannot be written. */
 #include <stdio.h>
@@ -74,6 +74,7 @@ int main(int count, char **words)
         return 64;
     }
     write_terms(&both, &relief);
+    printf("edition %u, %u atoms\n", judge_header_edition(vocabulary), judge_header_atoms(vocabulary));
     answer = not_refused(judge_compare(vocabulary, used, both, relief, survivors, sizeof survivors));
     printf("they are %s\n", judge_different(answer) ? "different" : "equal");
     if (!write_file(words[1])) {

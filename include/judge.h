@@ -4,10 +4,11 @@
  * examples/settle.c and examples/write.c are programs that use all of this.
  *
  * A VOCABULARY is 8-byte records, at most 512: a header, then terms and statements. A term is a name, or made of
- * earlier terms by not, and, or, some, all. A statement says that one term lies within another. A SCRIPT is 16-byte
- * records, at most 2,048: a proof, by the connection calculus, that one term lies within another. Both have a readable
- * text form, which the command `desk` turns into bytes and back (docs/DESK.md). Records are numbered from 0. The
- * formats, their meaning and the table of refusals are in docs/FORMATS.md.
+ * earlier terms by not, and, or, some, all. A statement says that one term lies within another. The header has an
+ * edition, 1 or 2; edition 2, which new vocabularies have, holds the number of atoms. A SCRIPT is 16-byte records, at
+ * most 2,048: a proof, by the connection calculus, that one term lies within another. Both have a readable text form,
+ * which the command `desk` turns into bytes and back (docs/DESK.md). Records are numbered from 0. The formats, their
+ * meaning and the table of refusals are in docs/FORMATS.md.
  *
  * Eight calls. Five read: judge_check_vocabulary, judge_record, judge_compare, judge_classify, judge_check_script.
  * Three write a vocabulary, record by record, into a buffer of yours: judge_make_vocabulary, judge_add_term,
@@ -32,9 +33,11 @@
  * open frames; then its first term lies within its second in every finite interpretation that satisfies the
  * statements. For every list of additions that succeed from an empty vocabulary, the bytes in use are an accepted
  * vocabulary, and reading them shows exactly those terms and statements in their order, the statements on the chain;
- * an addition that succeeds changes its eight bytes and the link that reaches them, and no other byte. The packing of
- * the answers is proved too. In crates/demands/specs, Demands.antt states the demands, and Promises.antt what is
- * promised of names and of what is written.
+ * an addition that succeeds changes its eight bytes, the link that reaches them and, in a header of edition 2, the
+ * number of atoms, which stays true, and no other byte. Of accepted vocabularies that differ in edition alone,
+ * comparison, classification and script check answer and write the same. The packing of the answers is proved too. In
+ * crates/demands/specs, Demands.antt states the demands, and Promises.antt what is promised of names and of what is
+ * written.
  *
  * TRUSTED: the Rattle kit (its logic and its prover), and that its back end and the linker make of the source what it
  * says; this header, which is tested; the caller:
@@ -64,6 +67,12 @@ enum {
     JUDGE_ALL = 8   /* A: a role; B: a term */
 };
 
+/* The editions of a vocabulary's header, which is its second byte. */
+enum {
+    JUDGE_EDITION_1 = 1, /* next is 0 */
+    JUDGE_EDITION_2 = 2  /* next is k, the number of atoms */
+};
+
 /* Limits of the formats. */
 enum {
     JUDGE_VOCABULARY_BYTES = 4096, /* the longest vocabulary */
@@ -85,7 +94,7 @@ enum { JUDGE_STACK_BYTES = 131072 };
 
 /* ---- The calls ---- */
 
-/* The vocabulary check: is this a vocabulary? Accepted: judge_records. Refusals 1 to 8. */
+/* The vocabulary check: is this a vocabulary? Accepted: judge_records. Refusals 1 to 8, then 28. */
 uint64_t judge_check_vocabulary(const uint8_t *vocabulary, size_t vocabulary_len);
 
 /* The record call: where is record `number`? Accepted: judge_offset; the record's eight bytes start there. Refusals 1
@@ -96,7 +105,7 @@ uint64_t judge_record(const uint8_t *vocabulary, size_t vocabulary_len, uint32_t
  * Answered: judge_different, and if so judge_element; judge_survivors and judge_rounds with either. The survivors go
  * into the first JUDGE_SURVIVOR_BYTES of the buffer: bit t mod 8 of byte t div 8 is 1 for a survivor t; bit j of a
  * survivor says whether atom j (name or restriction, in record order) holds at it. Later bytes keep their content.
- * Refusals 1 to 8, 10, 11, 12. */
+ * Refusals 1 to 8, 28, 10, 11, 12. */
 uint64_t judge_compare(const uint8_t *vocabulary, size_t vocabulary_len, uint32_t a, uint32_t b, uint8_t *buffer,
                        size_t buffer_len);
 
@@ -105,25 +114,26 @@ uint64_t judge_compare(const uint8_t *vocabulary, size_t vocabulary_len, uint32_
  * comparison has them; the first JUDGE_SURVIVOR_BYTES of `survivors` are written as in a comparison. The taxonomy goes
  * into the first JUDGE_TAXONOMY_BYTES of `taxonomy`: with n names, numbered from 0 in record order (judge_names), byte
  * i * n + j is the entry of the names i and j, which judge_entry reads; the rest of these bytes is 0. Later bytes of
- * both buffers keep their content. With no survivor all names are equal. Refusals 1 to 8, 11, 12, 26. */
+ * both buffers keep their content. With no survivor all names are equal. Refusals 1 to 8, 28, 11, 12, 26. */
 uint64_t judge_classify(const uint8_t *vocabulary, size_t vocabulary_len, uint8_t *survivors, size_t survivors_len,
                         uint8_t *taxonomy, size_t taxonomy_len);
 
 /* The script check: does this script prove that its header's A lies within its B, over this vocabulary? Accepted:
- * judge_steps. Nothing is written. Refusals 1 to 8, 13, 14, 10, 15 to 25; with 20 to 25 the script keeps the form, and
- * its chain is no derivation of at most 64 open frames; after 23 it may well be one of more. No refusal says that A
- * does not lie within B. A term may stand under several records, and is the same term in each. */
+ * judge_steps. Nothing is written. Refusals 1 to 8, 28, 13, 14, 10, 15 to 25; with 20 to 25 the script keeps the form,
+ * and its chain is no derivation of at most 64 open frames; after 23 it may well be one of more. No refusal says that
+ * A does not lie within B. A term may stand under several records, and is the same term in each. */
 uint64_t judge_check_script(const uint8_t *vocabulary, size_t vocabulary_len, const uint8_t *script, size_t script_len);
 
-/* Making: writes an empty vocabulary of so many roles, its header alone, into the first 8 bytes of the buffer; what
- * lies behind keeps its content. Answered: judge_length, 8. A buffer of JUDGE_VOCABULARY_BYTES has room for any
- * vocabulary; a longer one is no fault. Refusals 27, under 8 bytes, then 2, over JUDGE_ROLES roles. */
+/* Making: writes an empty vocabulary of so many roles, its header alone, of edition 2, into the first 8 bytes of the
+ * buffer; what lies behind keeps its content. Answered: judge_length, 8. A buffer of JUDGE_VOCABULARY_BYTES has room
+ * for any vocabulary; a longer one is no fault. Refusals 27, under 8 bytes, then 2, over JUDGE_ROLES roles. */
 uint64_t judge_make_vocabulary(uint8_t *buffer, size_t buffer_len, uint32_t roles);
 
 /* Adding a term: of kind JUDGE_TOP to JUDGE_ALL, to the vocabulary in the first `used` bytes of the buffer. A and B
- * that the kind does not use are 0. Answered: judge_length, the bytes then in use, and judge_added, the number by
- * which later records name the term. Refusals 1 to 8 of the bytes in use (a length past the buffer is 1); 27 without
- * room; then 3 to 7 of the new record, as the vocabulary check would give them, but 3 for kind 9 too. */
+ * that the kind does not use are 0. The vocabulary keeps its edition; a header of edition 2 keeps the true number of
+ * atoms. Answered: judge_length, the bytes then in use, and judge_added, the number by which later records name the
+ * term. Refusals 1 to 8 and 28 of the bytes in use (a length past the buffer is 1); 27 without room; then 3 to 7 of
+ * the new record, as the vocabulary check would give them, but 3 for kind 9 too. */
 uint64_t judge_add_term(uint8_t *buffer, size_t buffer_len, size_t used, uint8_t kind, uint16_t a, uint16_t b);
 
 /* Adding a statement: that term a lies within term b, at the end of the chain: the last statement of the chain, or the
@@ -139,8 +149,9 @@ static inline unsigned judge_refusal(uint64_t answer)
 }
 
 /* Bits 8-39 of a refusal: its place. Refusals 3 to 8: the vocabulary's record (of a record that is added, the number
- * it would get); 9 and 10: the number asked for; 11: the number of atoms; 15 to 25: the script's record (17: 1 if
- * record 1 is absent; 20: 0 if there is no step); 27: the number of records, 0 if one is being made; the others: 0. */
+ * it would get); 9 and 10: the number asked for; 11 and 28: the number of atoms, no record; 15 to 25: the script's
+ * record (17: 1 if record 1 is absent; 20: 0 if there is no step); 27: the number of records, 0 if one is being made;
+ * the others: 0. */
 static inline uint32_t judge_place(uint64_t answer)
 {
     return (uint32_t)(answer >> 8);
@@ -207,6 +218,33 @@ static inline int judge_survives(const uint8_t *survivors, uint32_t type)
     return type < 8 * JUDGE_SURVIVOR_BYTES && (survivors[type / 8] >> type % 8 & 1);
 }
 
+/* ---- Headers, taken apart; what they say holds of an accepted vocabulary ---- */
+
+/* The edition of a vocabulary: JUDGE_EDITION_1 or JUDGE_EDITION_2. */
+static inline unsigned judge_header_edition(const uint8_t *vocabulary)
+{
+    return vocabulary[1];
+}
+
+/* k, the number of atoms (names and restrictions), as a header of edition 2 holds it: up to JUDGE_ATOMS the vocabulary
+ * can be compared and classified. Edition 1 does not hold it, and gives 0; judge_atoms serves both. */
+static inline uint32_t judge_header_atoms(const uint8_t *vocabulary)
+{
+    return (uint32_t)(vocabulary[6] | vocabulary[7] << 8);
+}
+
+/* k of either edition: from a header of edition 2, and else by going through the records. */
+static inline uint32_t judge_atoms(const uint8_t *vocabulary, size_t vocabulary_len)
+{
+    uint32_t atoms = judge_header_atoms(vocabulary);
+
+    if (judge_header_edition(vocabulary) == JUDGE_EDITION_2)
+        return atoms;
+    for (size_t byte = 8; byte < vocabulary_len; byte += 8)
+        atoms += vocabulary[byte] == JUDGE_NAME || vocabulary[byte] == JUDGE_SOME || vocabulary[byte] == JUDGE_ALL;
+    return atoms;
+}
+
 /* ---- Taxonomies, taken apart ---- */
 
 /* What the entry of two names says. */
@@ -269,6 +307,7 @@ static inline const char *judge_sentence(unsigned refusal)
         "a step follows after all is closed",
         "under 144 bytes are lent for the taxonomy",
         "the vocabulary has 512 records, or under 8 bytes of the buffer are free",
+        "the vocabulary's header, of edition 2, has a wrong number of atoms",
     };
 
     if (refusal >= sizeof sentences / sizeof *sentences)

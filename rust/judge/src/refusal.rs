@@ -229,6 +229,7 @@ impl fmt::Display for Refusal {
             Place::Whole => Ok(()),
             Place::Record => write!(out, ", at record {}", self.place),
             Place::Asked => write!(out, ", number {}", self.place),
+            Place::Atoms if self.place == 1 => write!(out, ", 1 atom"),
             Place::Atoms => write!(out, ", {} atoms", self.place),
             Place::ScriptRecord => write!(out, ", at script record {}", self.place),
         }?;

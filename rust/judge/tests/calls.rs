@@ -2,8 +2,11 @@
 
 #![allow(clippy::unwrap_used, clippy::indexing_slicing)]
 
+mod support;
+
 use judge::{Classification, Comparison, Refusal, Relation, Verdict, SURVIVOR_BYTES, TAXONOMY_BYTES};
 use std::fmt::Write;
+use support::Cases;
 
 /// Sample V of docs/FORMATS.md, section 10: names 1, 2, 3; 4 = 1 and 2; 5: 4 within 3.
 const V: &[u8] = include_bytes!("../../../examples/v.vocabulary");
@@ -190,22 +193,6 @@ fn slices_of_every_length_get_an_answer() {
         }
     }
     assert_eq!(answers, 5 * 16 * 65);
-}
-
-/// A file of stored cases that is read from its front.
-struct Cases<'a>(&'a [u8]);
-
-impl<'a> Cases<'a> {
-    fn take(&mut self, length: usize) -> &'a [u8] {
-        let (front, rest) = self.0.split_at(length);
-        self.0 = rest;
-        front
-    }
-
-    fn number(&mut self, bytes: usize) -> u32 {
-        let add = |sum, byte: &u8| sum << 8 | u32::from(*byte);
-        self.take(bytes).iter().rev().fold(0, add)
-    }
 }
 
 fn refused(refusal: Refusal) -> String {

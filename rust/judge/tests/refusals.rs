@@ -5,7 +5,7 @@
 use judge::{Place, Refusal, Rule};
 
 /// The table of docs/FORMATS.md in words, as a refusal is printed.
-const PRINTED: [&str; 27] = [
+const PRINTED: [&str; 28] = [
     "refused, 1: the vocabulary's length is under 8, over 4,096 or no multiple of 8",
     "refused, 2: the vocabulary's header has a wrong kind, second byte, role count or next",
     "refused, 3, at record 1: the record's kind is not 1 to 9, or its second byte is not 0",
@@ -33,6 +33,7 @@ const PRINTED: [&str; 27] = [
     "refused, 25, at script record 4: a step follows after all is closed",
     "refused, 26: under 144 bytes are lent for the taxonomy",
     "refused, 27, at record 3: the vocabulary has 512 records, or under 8 bytes of the buffer are free",
+    "refused, 28, 1 atom: the vocabulary's header, of edition 2, has a wrong number of atoms",
 ];
 
 /// A vocabulary of these records.
@@ -108,6 +109,7 @@ fn refusal(number: u8) -> Option<Refusal> {
         25 => refused_script(&[START, CLOSE, [5, 0, 0, 0, 0, 0, 0, 0]]),
         26 => judge::classify(&one_name(), &mut [0; 512], &mut [0; 143]).err(),
         27 => judge::add_term(&mut one_name(), 24, 1, 0, 0).err(),
+        28 => check(&[(16, 2, 0, 0, 5), name]),
         _ => None,
     }
 }
@@ -120,10 +122,11 @@ fn each_refusal_has_its_number_place_and_words() {
         assert_eq!(refusal.to_string(), printed);
         assert!(printed.ends_with(&format!(": {}", refusal.rule.words())));
         assert_eq!(refusal.rule.is_of_chain(), (20..=25).contains(&number));
+        assert_eq!(refusal.rule.is_of_vocabulary(), matches!(number, 1..=8 | 28));
     }
 }
 
-/// The first of the table's order that applies: 1 to 8, 11, 12, 26.
+/// The first of the table's order that applies: 1 to 8, 28, 11, 12, 26.
 #[test]
 fn a_classification_is_refused_in_the_tables_order() {
     let header = (16, 1, 0, 0, 0);
@@ -131,9 +134,11 @@ fn a_classification_is_refused_in_the_tables_order() {
     let cut = vocabulary(&[header, (3, 0, 7, 0, 0)])[..15].to_vec();
     let repeated = vocabulary(&[&[header], &names[..], &names[..1]].concat());
     let many = vocabulary(&[&[header], &names[..]].concat());
+    let miscounted = vocabulary(&[&[(16, 2, 0, 0, 12)], &names[..]].concat());
     for (vocabulary, lent, number, place) in [
         (&cut, [0, 0], 1, 0),
         (&repeated, [0, 0], 7, 14),
+        (&miscounted, [0, 0], 28, 13),
         (&many, [0, 0], 11, 13),
         (&one_name(), [511, 0], 12, 0),
         (&one_name(), [512, 143], 26, 0),
@@ -158,7 +163,7 @@ fn a_rule_is_known_by_its_number() {
     for number in 0..=255 {
         let rule = Rule::of(number);
         assert_eq!(rule.number(), number);
-        assert_eq!(matches!(rule, Rule::Unlisted(_)), !(1..=27).contains(&number));
+        assert_eq!(matches!(rule, Rule::Unlisted(_)), !(1..=28).contains(&number));
     }
     let unlisted = Refusal {
         rule: Rule::of(77),
@@ -175,7 +180,7 @@ fn places_are_of_the_sort_that_the_table_gives() {
     let sort = |number| match number {
         3..=8 | 27 => Place::Record,
         9 | 10 => Place::Asked,
-        11 => Place::Atoms,
+        11 | 28 => Place::Atoms,
         15..=25 => Place::ScriptRecord,
         _ => Place::Whole,
     };
@@ -191,7 +196,7 @@ fn the_header_has_the_same_sentences() {
     // A sentence may be written in pieces on several lines.
     let header: String = header.lines().map(str::trim).collect();
     let header = header.replace("\"\"", "");
-    for number in 1..=27 {
+    for number in 1..=28 {
         let sentence = format!("\"{}\"", Rule::of(number).words());
         assert!(header.contains(&sentence), "{number}: {sentence}");
     }

@@ -57,6 +57,23 @@ fn names(records: u16) -> Vec<u8> {
     record(16, 1, [0, 0, 0]).into_iter().chain(names).collect()
 }
 
+/// A vocabulary with the true number of atoms in its header, if that is of edition 2.
+fn counted(mut bytes: Vec<u8>) -> Vec<u8> {
+    if bytes[1] == 2 {
+        let atoms = bytes.chunks(8).skip(1).filter(|record| matches!(record[0], 3 | 7 | 8));
+        let atoms = atoms.count() as u16;
+        bytes[6..8].copy_from_slice(&atoms.to_le_bytes());
+    }
+    bytes
+}
+
+/// A vocabulary of edition 1, and the same of edition 2.
+fn editions(one: Vec<u8>) -> [Vec<u8>; 2] {
+    let mut two = one.clone();
+    two[1] = 2;
+    [one, counted(two)]
+}
+
 /// An addition that is refused with this number and place, and leaves the whole buffer as it was.
 fn refuses(mut buffer: Vec<u8>, used: usize, addition: Addition, number: u8, place: u32) {
     let before = buffer.clone();
@@ -70,7 +87,7 @@ fn an_empty_vocabulary_is_eight_bytes_and_the_rest_of_the_buffer_stays() {
     for (length, roles) in [(8, 0), (9, 1), (4096, 63), (10_000, 64)] {
         let mut buffer = lent(length);
         assert_eq!(make_vocabulary(&mut buffer, roles), Ok(8));
-        assert_eq!(buffer[..8], record(16, 1, [0, roles as u16, 0])[..]);
+        assert_eq!(buffer[..8], record(16, 2, [0, roles as u16, 0])[..]);
         assert_eq!(buffer[8..], lent(length)[8..]);
     }
 }
@@ -92,9 +109,9 @@ fn making_is_refused_without_room_and_then_for_the_roles() {
     }
 }
 
+/// In a header of edition 2 the number of atoms changes with it, if the term is one.
 #[test]
 fn a_term_changes_its_eight_bytes_and_no_others() {
-    let front = three();
     for (kind, a, b) in [
         (1, 0, 0),
         (2, 0, 0),
@@ -105,27 +122,34 @@ fn a_term_changes_its_eight_bytes_and_no_others() {
         (7, 0, 2),
         (8, 0, 1),
     ] {
-        for length in [40, 41, 4096, 5000] {
-            let mut buffer = begun(&front, length);
+        for (front, length) in editions(three())
+            .iter()
+            .flat_map(|front| [40, 41, 4096, 5000].map(|length| (front, length)))
+        {
+            let mut buffer = begun(front, length);
             assert_eq!(add_term(&mut buffer, 32, kind, a, b), Ok(40));
-            let wanted = [&front[..], &record(kind, 0, [a, b, 0]), &lent(length)[40..]].concat();
+            let grown = counted([&front[..], &record(kind, 0, [a, b, 0])].concat());
+            let wanted = [&grown[..], &lent(length)[40..]].concat();
             assert!(buffer == wanted, "{kind}");
+            assert_eq!(front[6..8] == grown[6..8], front[1] == 1 || !matches!(kind, 3 | 7 | 8));
         }
     }
 }
 
 #[test]
 fn a_statement_is_linked_from_the_last_of_the_chain() {
-    let mut buffer = begun(&three(), 100);
-    assert_eq!(add_statement(&mut buffer, 32, 1, 2), Ok(40));
-    let chained = [&three()[..24], &record(9, 0, [2, 1, 4]), &record(9, 0, [1, 2, 0])].concat();
-    assert_eq!(buffer, [&chained[..], &lent(100)[40..]].concat());
-    // With no statement the header has the link; the label of a name is no link.
-    let mut buffer = begun(&three()[..24], 24 + 8);
-    buffer[2] = 0;
-    assert_eq!(add_statement(&mut buffer, 24, 1, 1), Ok(32));
-    assert_eq!(buffer[..8], record(16, 1, [3, 1, 0])[..]);
-    assert_eq!(buffer[24..], record(9, 0, [1, 1, 0])[..]);
+    for front in editions(three()) {
+        let mut buffer = begun(&front, 100);
+        assert_eq!(add_statement(&mut buffer, 32, 1, 2), Ok(40));
+        let chained = [&front[..24], &record(9, 0, [2, 1, 4]), &record(9, 0, [1, 2, 0])].concat();
+        assert_eq!(buffer, [&chained[..], &lent(100)[40..]].concat());
+        // With no statement the header has the link; the label of a name is no link.
+        let mut buffer = begun(&front[..24], 24 + 8);
+        buffer[2] = 0;
+        assert_eq!(add_statement(&mut buffer, 24, 1, 1), Ok(32));
+        assert_eq!(buffer[..8], front[..8]);
+        assert_eq!(buffer[24..], record(9, 0, [1, 1, 0])[..]);
+    }
 }
 
 /// The last statement of the file is off the chain, and its link leads nowhere: it stays as it is.
@@ -146,8 +170,9 @@ fn a_statement_off_the_chain_is_not_linked_from() {
 
 #[test]
 fn the_bytes_in_use_are_refused_first() {
-    let damaged = |place: usize, byte: u8| {
-        let mut bytes = three();
+    let damaged = |edition: u8, place: usize, byte: u8| {
+        let [one, two] = editions(three());
+        let mut bytes = if edition == 1 { one } else { two };
         bytes[place] = byte;
         bytes
     };
@@ -157,8 +182,8 @@ fn the_bytes_in_use_are_refused_first() {
             refuses(begun(&three(), 32), used, addition, 1, 0);
             refuses(begun(&three(), 5000), used, addition, 1, 0);
         }
-        for (place, byte, number, record) in [
-            (1, 2, 2, 0),
+        let of_both = [
+            (1, 3, 2, 0),
             (4, 65, 2, 0),
             (8, 10, 3, 1),
             (9, 1, 3, 1),
@@ -167,12 +192,28 @@ fn the_bytes_in_use_are_refused_first() {
             (18, 1, 6, 2),
             (2, 1, 8, 0),
             (30, 3, 8, 3),
-        ] {
-            refuses(begun(&damaged(place, byte), 32), 32, addition, number, record);
-            refuses(begun(&damaged(place, byte), 5000), 32, addition, number, record);
+        ];
+        let of_both = of_both.into_iter().flat_map(|damage| [(1, damage), (2, damage)]);
+        // The place of 28 is the true number of atoms.
+        let of_one = [
+            (1, (6, 2, 2, 0)),
+            (1, (1, 2, 28, 2)),
+            (2, (6, 3, 28, 2)),
+            (2, (7, 1, 28, 2)),
+        ];
+        for (edition, (place, byte, number, record)) in of_both.chain(of_one) {
+            refuses(begun(&damaged(edition, place, byte), 32), 32, addition, number, record);
+            refuses(
+                begun(&damaged(edition, place, byte), 5000),
+                32,
+                addition,
+                number,
+                record,
+            );
         }
-        let repeated = [three(), record(3, 0, [7, 0, 0])].concat();
-        refuses(begun(&repeated, 40), 40, addition, 7, 4);
+        for repeated in editions([three(), record(3, 0, [7, 0, 0])].concat()) {
+            refuses(begun(&repeated, 40), 40, addition, 7, 4);
+        }
     }
 }
 
@@ -184,7 +225,9 @@ fn then_there_has_to_be_room() {
         }
         // 512 records are no fewer in a longer buffer.
         for length in [4096, 4104, 10_000] {
-            refuses(begun(&names(512), length), 4096, addition, 27, 512);
+            for full in editions(names(512)) {
+                refuses(begun(&full, length), 4096, addition, 27, 512);
+            }
         }
     }
 }
@@ -227,7 +270,8 @@ fn a_buffer_fills_up_to_its_last_eight_bytes() {
         assert_eq!(used, 8 * (usize::from(label) + 1));
     }
     assert_eq!(check_vocabulary(&buffer[..used]), Ok(512));
-    assert_eq!(buffer[..4096], names(512)[..]);
+    let [_, full] = editions(names(512));
+    assert_eq!(buffer[..4096], full[..]);
     assert_eq!(buffer[4096..], lent(4096 + 16)[4096..]);
 }
 
@@ -286,14 +330,14 @@ fn expected(roles: u16, list: &[Addition]) -> Vec<u8> {
         let mut statements = rest.filter(|(_, addition)| matches!(addition, Statement(..)));
         statements.next().map_or(0, |(place, _)| place as u16 + 1)
     };
-    let mut bytes = record(16, 1, [after(0), roles, 0]);
+    let mut bytes = record(16, 2, [after(0), roles, 0]);
     for (place, addition) in list.iter().enumerate() {
         bytes.extend(match *addition {
             Term(kind, a, b) => record(kind, 0, [a, b, 0]),
             Statement(a, b) => record(9, 0, [a, b, after(place + 1)]),
         });
     }
-    bytes
+    counted(bytes)
 }
 
 #[test]
@@ -338,7 +382,7 @@ fn the_builder_takes_any_buffer_and_gives_it_back() {
     let refusal = terms.bottom().unwrap_err();
     assert_eq!((refusal.rule.number(), refusal.place), (27, 2));
     assert_eq!(terms.as_bytes().len(), 16);
-    assert_eq!(array, [16, 1, 0, 0, 0, 0, 0, 0, 1, 0, 0, 0, 0, 0, 0, 0, 9, 9, 9, 9]);
+    assert_eq!(array, [16, 2, 0, 0, 0, 0, 0, 0, 1, 0, 0, 0, 0, 0, 0, 0, 9, 9, 9, 9]);
     let (buffer, used) = Builder::in_buffer(vec![0; 30], 3).unwrap().into_inner();
     assert_eq!((buffer.len(), used), (30, 8));
     let refused = |answer: Result<Builder<Vec<u8>>, Refusal>| answer.unwrap_err().rule.number();
