@@ -20,7 +20,8 @@ use support::{
 /// The text of a vocabulary of so many names, the first of which has this label, and its bytes.
 fn vocabulary(first: u16, names: u16) -> (String, Vec<u8>) {
     let mut text = "vocabulary roles 0\n".to_string();
-    let mut bytes = vec![16, 1, 0, 0, 0, 0, 0, 0];
+    let [low, high] = names.to_le_bytes();
+    let mut bytes = vec![16, 2, 0, 0, 0, 0, low, high];
     for label in first..first + names {
         text += &format!("c{label}\n");
         let [low, high] = label.to_le_bytes();

@@ -10,8 +10,14 @@ use std::fs;
 use std::os::unix::fs::{symlink, MetadataExt};
 use support::{mode, run, set_mode, start, Place, Said};
 
-/// The header of a vocabulary without roles.
-const EMPTY: [u8; 8] = [16, 1, 0, 0, 0, 0, 0, 0];
+/// The header of a vocabulary without roles or atoms.
+const EMPTY: [u8; 8] = header(0);
+
+/// The header of a vocabulary without roles, of so many atoms.
+const fn header(atoms: u16) -> [u8; 8] {
+    let [low, high] = atoms.to_le_bytes();
+    [16, 2, 0, 0, 0, 0, low, high]
+}
 
 /// The eight bytes of a name.
 fn name(label: u16) -> [u8; 8] {
@@ -78,7 +84,7 @@ fn of_two_runs_that_make_a_file_one_does() {
         let statuses = runs.map(|run| Said::from(run.wait_with_output().unwrap()).status);
         let made = statuses.iter().position(|status| *status == Some(0)).unwrap();
         assert_eq!(statuses[1 - made], Some(73));
-        assert_eq!(place.get(&file), [16, 1, 0, 0, made as u8 + 1, 0, 0, 0]);
+        assert_eq!(place.get(&file), [16, 2, 0, 0, made as u8 + 1, 0, 0, 0]);
     }
     assert!(!place.has_temporary());
 }
@@ -112,9 +118,10 @@ fn of_additions_at_once_each_is_made() {
 #[test]
 fn what_is_refused_leaves_the_file_as_it_was() {
     let place = Place::new("refused");
-    let (one, full) = ([EMPTY, name(1)].concat(), (1..512).flat_map(name));
-    let full = EMPTY.into_iter().chain(full).collect::<Vec<u8>>();
-    let damaged = [[16, 1, 7, 0, 0, 0, 0, 0], name(1)].concat();
+    let (one, full) = ([header(1), name(1)].concat(), (1..512).flat_map(name));
+    let full = header(511).into_iter().chain(full).collect::<Vec<u8>>();
+    let damaged = [[16, 2, 7, 0, 0, 0, 1, 0], name(1)].concat();
+    let miscounted = [header(512), name(1)].concat();
     for (bytes, words, refusal) in [
         (&one, &["term", "c1"][..], "refused, 7, at record 2"),
         (&one, &["term", "4", "2"], "refused, 5, at record 2"),
@@ -126,6 +133,7 @@ fn what_is_refused_leaves_the_file_as_it_was() {
         (&full, &["term", "owl:Thing"], "refused, 27, at record 512"),
         (&full, &["term", "c1"], "refused, 27, at record 512"),
         (&damaged, &["term", "c2"], "refused, 8, at record 0"),
+        (&miscounted, &["term", "c2"], "refused, 28, 1 atom"),
         (&one[..15].to_vec(), &["term", "c2"], "refused, 1"),
         (&Vec::new(), &["term", "c2"], "refused, 1"),
         (&[full.clone(), full.clone()].concat(), &["term", "c2"], "refused, 1"),
@@ -190,7 +198,7 @@ fn mode_and_links_stay() {
     let said = run(&mut place.desk(["add", "link", "term", "c1"]));
     assert_eq!(said.status, Some(0), "{said:?}");
     assert!(fs::symlink_metadata(place.path("link")).unwrap().is_symlink());
-    assert_eq!((mode(&path), place.get("x")), (0o640, [EMPTY, name(1)].concat()));
+    assert_eq!((mode(&path), place.get("x")), (0o640, [header(1), name(1)].concat()));
     assert_eq!(place.names(), ["link", "x"]);
 }
 

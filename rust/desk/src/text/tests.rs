@@ -8,6 +8,7 @@ use super::{cursor::Fault, script, vocabulary, Kind};
 use crate::script::read as read_script;
 use crate::stored::{script_cases, vocabulary_cases};
 use base::vocabulary::Vocabulary;
+use judge::Edition;
 
 /// The bytes of a text, and whether they are a script's.
 fn assemble(text: &str) -> Result<(Vec<u8>, bool), Vec<Fault>> {
@@ -52,6 +53,13 @@ fn stored_vocabularies_come_back_from_their_texts() {
         if judge::check_vocabulary(&bytes).is_ok() {
             accepted += 1;
             assert!(!text.contains("raw"), "{text}");
+            let [one, two] = [Edition::One, Edition::Two].map(|edition| {
+                let mut bytes = bytes.clone();
+                judge::set_edition(&mut bytes, edition).unwrap();
+                round_trip(&bytes, false)
+            });
+            assert_eq!(one, two.replacen(" edition 2", " edition 1", 1));
+            assert!(one != two && (text == one || text == two), "{text}");
         }
     }
     assert!(whole > 4_000 && accepted > 500, "{whole} whole, {accepted} accepted");
@@ -100,7 +108,7 @@ fn records_of_random_bytes_come_back_from_their_texts() {
         // Mostly a header, so that links are followed; high and second bytes mostly 0, so that records have a form.
         if case % 8 > 0 {
             bytes[0] = if case % 2 == 0 { 16 } else { 32 };
-            bytes[1] = (case % 2 == 0).into();
+            bytes[1] = if case % 2 == 0 { 1 + random.below(2) as u8 } else { 0 };
             for byte in bytes.iter_mut().skip(3).step_by(2) {
                 *byte = if random.below(20) == 0 { 1 } else { 0 };
             }
@@ -165,7 +173,7 @@ fn random_terms_come_back_from_their_texts() {
 }
 
 /// Pieces that mutations put into a text.
-const PIECES: [&str; 46] = [
+const PIECES: [&str; 48] = [
     " ",
     "\n",
     "\r\n",
@@ -201,6 +209,8 @@ const PIECES: [&str; 46] = [
     " next 3",
     " next 0",
     " first 2",
+    " edition 1",
+    " edition 2",
     "raw ",
     "raw 9 0 1 1 0\n",
     "raw 3 0 0 0 0 0 0 0\n",
@@ -285,7 +295,7 @@ fn damaged_texts_are_assembled_to_a_fixed_point_or_not_at_all() {
 }
 
 /// Texts with one fault: the text, the line and column of the fault, and what is said.
-const FAULTY: [(&str, usize, usize, &str); 15] = [
+const FAULTY: [(&str, usize, usize, &str); 19] = [
     (
         "",
         1,
@@ -307,6 +317,30 @@ const FAULTY: [(&str, usize, usize, &str); 15] = [
         "a number from 0 to 65535 is expected here, without leading zeros",
     ),
     ("vocabulary roles 0 1", 1, 20, "nothing more is expected on this line"),
+    (
+        "vocabulary roles 0 edition 3",
+        1,
+        28,
+        "the edition of a vocabulary is 1 or 2",
+    ),
+    (
+        "vocabulary roles 0 edition",
+        1,
+        27,
+        "a number from 0 to 65535 is expected here, without leading zeros",
+    ),
+    (
+        "vocabulary roles 0 editon 1",
+        1,
+        20,
+        "'editon' is not expected here; did you mean 'edition'?",
+    ),
+    (
+        "vocabulary roles 0 first 0 edition 1",
+        1,
+        28,
+        "nothing more is expected on this line",
+    ),
     ("vocabulary roles 0\n2: c1", 2, 1, "this line is record 1"),
     (
         "vocabulary roles 0\n\n é",
@@ -361,6 +395,35 @@ fn faults_are_said_with_line_and_column() {
             [Fault::at(line, column, message)],
             "{text}"
         );
+    }
+}
+
+/// Of a vocabulary that is refused the number of atoms is that of the records of an atom's kind.
+#[test]
+fn a_text_that_says_no_edition_is_of_edition_2_and_has_the_number_of_atoms() {
+    for (lines, atoms) in [
+        ("", 0),
+        (
+            "owl:Thing\nc1\nObjectAllValuesFrom(r0 c1)\nObjectSomeValuesFrom(r0 c1)\nSubClassOf(c1 c1)\n",
+            3,
+        ),
+        ("c1\nc1\n", 2),
+        (
+            "c1\nObjectSomeValuesFrom(r1 c1)\nraw 7 1 0 1 0\nraw 10 0 0 0 0\nSubClassOf(c1 c1) next 1\n",
+            3,
+        ),
+    ] {
+        let of = |header: &str| assemble(&format!("vocabulary roles 1{header}\n{lines}")).unwrap().0;
+        let (none, one, two) = (of(""), of(" edition 1"), of(" edition 2"));
+        assert_eq!(none, two);
+        assert_eq!((&one[2..6], &one[8..]), (&two[2..6], &two[8..]));
+        assert_eq!([one[1], one[6], one[7]], [1, 0, 0], "{lines}");
+        assert_eq!([two[1], two[6], two[7]], [2, atoms, 0], "{lines}");
+        round_trip(&two, false);
+        // Another number is shown, too, with the other fields of the header.
+        let mut wrong = two.clone();
+        wrong[6] += 1;
+        assert!(round_trip(&wrong, false).starts_with("vocabulary raw 16 2 "));
     }
 }
 

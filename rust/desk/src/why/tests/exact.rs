@@ -361,7 +361,7 @@ fn chains() {
     }
 }
 
-/// The detail of a vocabulary, which is refused by this number at this record.
+/// The detail of a vocabulary, which is refused by this number at this place.
 fn of_vocabulary(text: &str, number: u8, place: u32) -> String {
     let vocabulary = assembled(&format!("vocabulary {text}"));
     let refusal = check_vocabulary(&vocabulary).expect_err("a refusal");
@@ -372,9 +372,28 @@ fn of_vocabulary(text: &str, number: u8, place: u32) -> String {
 /// The lines of a vocabulary, the number and the place.
 const VOCABULARIES: &[(&str, u8, u32, &str)] = &[
     ("raw 17 1 0 0 0\n", 2, 0, "the kind is 17, and a header has 16"),
-    ("raw 16 0 0 0 0\n", 2, 0, "the second byte is 0, and a header has 1"),
+    (
+        "raw 16 0 0 0 0\n",
+        2,
+        0,
+        "the second byte is 0, and a header has 1 or 2",
+    ),
+    (
+        "raw 16 3 0 0 0\n",
+        2,
+        0,
+        "the second byte is 3, and a header has 1 or 2",
+    ),
     ("roles 65\n", 2, 0, "the number of roles is 65, and the most is 64"),
-    ("raw 16 1 0 0 5\n", 2, 0, "next is 5, and a header has 0"),
+    ("raw 16 1 0 0 5\n", 2, 0, "next is 5, and a header of edition 1 has 0"),
+    ("raw 16 2 0 0 5\n", 28, 0, "the header says 5 atoms; there are 0"),
+    ("raw 16 2 0 0 0\nc1\n", 28, 1, "the header says 0 atoms; there is 1"),
+    (
+        "raw 16 2 0 1 1\nc1\nObjectAllValuesFrom(r0 c1)\n",
+        28,
+        2,
+        "the header says 1 atom; there are 2",
+    ),
     (
         "roles 0\nraw 10 0 0 0 0\n",
         3,

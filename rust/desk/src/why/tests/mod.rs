@@ -8,7 +8,7 @@ use super::script::Checked;
 use super::{addition_detail, detail, vocabulary, vocabulary_detail};
 use crate::stored::{script_cases, vocabularies};
 use base::vocabulary::{Record, Vocabulary};
-use judge::{check_script, check_vocabulary, Refusal};
+use judge::{check_script, check_vocabulary, Refusal, Rule};
 use std::collections::BTreeMap;
 
 /// The kinds of records in words.
@@ -73,7 +73,7 @@ fn every_stored_refusal_has_a_detail_but_for_lengths() {
         let number = refusal.rule.number();
         match detail(&vocabulary, &script, refusal) {
             None => *without.entry(number).or_default() += 1,
-            Some(_) if number >= 20 => *of_chain.entry(number).or_default() += 1,
+            Some(_) if refusal.rule.is_of_chain() => *of_chain.entry(number).or_default() += 1,
             Some(detail) => *shapes.entry((number, shape(&detail))).or_default() += 1,
         }
     }
@@ -111,9 +111,13 @@ fn nothing_is_found_in_the_records_that_the_library_passes() {
         let (rule, place) = match check_vocabulary(&bytes) {
             Ok(count) => (99, count as usize),
             Err(refusal) if refusal.rule.number() <= 2 => continue,
+            // All records have passed; the place is none of them.
+            Err(refusal) if refusal.rule == Rule::AtomCount => (99, vocabulary.records.len()),
             Err(refusal) => (refusal.rule.number(), refusal.place as usize),
         };
         assert_eq!(vocabulary::header(vocabulary.get(0)), None);
+        let atoms = vocabulary::atoms(&vocabulary, vocabulary.atoms().len());
+        assert!(check_vocabulary(&bytes).is_err() || atoms.is_none(), "{atoms:?}");
         let all = vocabulary.records.len();
         for number in 1..if rule >= 8 { all } else { place + 1 } {
             let limit = if number == place { rule } else { 99 };
@@ -138,7 +142,7 @@ fn nothing_is_found_in_the_script_records_that_the_library_passes() {
         let all = checked.script.len();
         let (rule, place) = match check_script(&vocabulary, &script) {
             Ok(_) => (99, all),
-            Err(refusal) if refusal.rule.number() < 15 => continue,
+            Err(refusal) if refusal.rule.number() < 15 || refusal.rule.is_of_vocabulary() => continue,
             Err(refusal) => (refusal.rule.number(), refusal.place as usize),
         };
         assert_eq!(checked.header(), None);
@@ -173,7 +177,7 @@ fn nothing_is_found_in_the_script_records_that_the_library_passes() {
 fn a_vocabulary_has_the_same_detail_from_both_calls() {
     let mut compared = 0;
     for (vocabulary, script, refusal) in refused() {
-        if refusal.rule.number() <= 8 {
+        if refusal.rule.is_of_vocabulary() {
             let expected = vocabulary_detail(&vocabulary, refusal);
             assert_eq!(detail(&vocabulary, &script, refusal), expected);
             compared += 1;
