@@ -155,12 +155,11 @@ fn answers_are_the_same_in_both_editions() {
                 ["--quiet", "--json", "--color=never"]
                     .map(|option| run(&mut place.desk([words, &[option][..]].concat())))
             });
-            let said: Vec<_> = said.map(|said| (said.status, said.out, said.err)).collect();
-            (said, place.get("written"), place.get("drawn"))
+            (said.collect::<Vec<Said>>(), place.get("written"), place.get("drawn"))
         };
         let one = all();
         assert!(
-            one.0.iter().all(|(status, ..)| matches!(status, Some(0 | 1))),
+            one.0.iter().all(|said| matches!(said.status, Some(0 | 1))),
             "{vocabulary}"
         );
         assert_eq!(run(&mut place.desk(["edition", "x", "2"])).status, Some(0));

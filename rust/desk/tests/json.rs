@@ -234,6 +234,7 @@ fn damaged_inputs_get_json_and_never_a_panic() {
         assert!(says_json(&name, &bytes, &["add"], &["term", "c1", &number]));
         assert!(says_json(&name, &bytes, &["add"], &["term", "5", &number, "2"]));
         assert!(says_json(&name, &bytes, &["add"], &["statement", &number, "c2"]));
+        assert!(says_json(&name, &bytes, &["edition"], &[&number]));
         std::fs::remove_file(PathBuf::from(env!("CARGO_TARGET_TMPDIR")).join(name)).unwrap();
     }
 }

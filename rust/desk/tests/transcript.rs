@@ -128,6 +128,7 @@ fn the_examples_of_desk_md_are_what_desk_says() {
     let place = with_examples("desk.md");
     let (text, _) = place.said("desk show v.vocabulary");
     fs::write(place.file("v.text"), text).unwrap();
+    fs::copy(place.file("v.vocabulary"), place.file("filed.vocabulary")).unwrap();
     check_document(&place, "DESK.md", 8);
 }
 
