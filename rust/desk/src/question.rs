@@ -1,5 +1,6 @@
 //! Questions about one vocabulary. Each is put to the library's comparison; where one needs a term that no record says, it is
-//! put to a copy with that record at its end. The added record is no atom, so that elements are the same in both.
+//! put to a copy with that record at its end. The added record is no atom, so that elements are the same in both, and a header
+//! of edition 2 holds the true number of atoms.
 
 #[cfg(test)]
 mod tests;
