@@ -2,7 +2,7 @@
 
 #![allow(clippy::unwrap_used)]
 
-use judge::{check_script, check_vocabulary, classify, compare, Refusal};
+use judge::{check_script, check_vocabulary, classify, compare, Edition, Refusal};
 
 /// The header of a vocabulary with these roles and first statement.
 fn header(roles: usize, first: u8) -> Vec<u8> {
@@ -95,7 +95,7 @@ fn scripts_are_refused_past_their_limits() {
 }
 
 #[test]
-fn the_header_has_the_same_limits() {
+fn the_header_has_the_same_limits_and_editions() {
     let header = include_str!("../../../include/judge.h");
     for (name, limit) in [
         ("VOCABULARY_BYTES", judge::VOCABULARY_BYTES),
@@ -108,6 +108,8 @@ fn the_header_has_the_same_limits() {
         ("ATOMS", judge::ATOMS),
         ("FRAMES", judge::FRAMES),
         ("STACK_BYTES", judge::STACK_BYTES),
+        ("EDITION_1", Edition::One.number().into()),
+        ("EDITION_2", Edition::Two.number().into()),
     ] {
         let line = header.split(&format!("JUDGE_{name} = ")).nth(1).unwrap();
         let digits: String = line.chars().take_while(char::is_ascii_digit).collect();
