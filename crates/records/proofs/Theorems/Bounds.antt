@@ -11,14 +11,14 @@ use lib.Dec.{ltb}
 use borrow.Author.Tests.{ltb-true}
 use Rattle.records.specs.Outcome.{accepted, _then_, require}
 use Rattle.records.specs.Format.{recordSize, count}
-use Rattle.records.specs.Check.{lengthCheck, recordsCheck, vocabularyCheck}
+use Rattle.records.specs.Check.{lengthCheck, vocabularyRows, vocabularyCheck}
 use Rattle.records.specs.Call.{recordCall}
 use Rattle.records.proofs.Laws.Checks.{require-passed, then-passed}
 
 pub vocabulary-count : (v : List ℕ) (n : ℕ) → vocabularyCheck v ≡ accepted n → n ≡ count v
 unfolding vocabularyCheck
 vocabulary-count v n e =
-    let d : accepted (count v) ≡ accepted n = then-passed (recordsCheck v) _ n e .1 in
+    let d : accepted (count v) ≡ accepted n = then-passed (vocabularyRows v) _ n e .1 in
     cc
 
 pub record-within : (v : List ℕ) (n at : ℕ) → recordCall v n ≡ accepted at → at + recordSize ≤ length v
