@@ -5,7 +5,8 @@
 --   Operand, Linked, SortHolds, WellFounded, AcceptedFacts   what is told of a field, of a record, of a vocabulary
 --   RowsPassed, well-formed-rows                   rows 1 to 8 one by one, of a vocabulary that passed them
 --   well-formed-vocabulary                         such a vocabulary gives AcceptedFacts
---   RowsAccepted, rows-accepted, accepted-rows     rows 1 to 8 and 28, of one that passed all, so of an accepted one
+--   RowsAccepted, rows-accepted, rows-vocabulary   rows 1 to 8 and 28, of one that passed all, which so gives AcceptedFacts
+--   accepted-rows                                  an accepted one passed all
 --   accepted-well-formed, accepted-vocabulary      an accepted one passed rows 1 to 8, and so gives AcceptedFacts
 --   vocabulary-refused, vocabulary-then            what the vocabulary check refuses; what comes after it
 -- Assumes nothing.
@@ -277,6 +278,9 @@ rows-accepted v e =
     let both = then-passed (recordsCheck v) (heldCheck v) tt e in
     record { well = both .0; held = require-passed (heldFits v) 28 (atoms v) (both .1) }
 
+pub rows-vocabulary : (v : List ℕ) → vocabularyRows v ≡ pass → AcceptedFacts v
+rows-vocabulary v e = well-formed-vocabulary v (rows-accepted v e .well)
+
 -- What the vocabulary check accepts passed all rows.
 pub accepted-rows : (v : List ℕ) (n : ℕ) → vocabularyCheck v ≡ accepted n → vocabularyRows v ≡ pass
 unfolding vocabularyCheck
@@ -286,7 +290,7 @@ pub accepted-well-formed : (v : List ℕ) (n : ℕ) → vocabularyCheck v ≡ ac
 accepted-well-formed v n e = rows-accepted v (accepted-rows v n e) .well
 
 pub accepted-vocabulary : (v : List ℕ) (n : ℕ) → vocabularyCheck v ≡ accepted n → AcceptedFacts v
-accepted-vocabulary v n e = well-formed-vocabulary v (accepted-well-formed v n e)
+accepted-vocabulary v n e = rows-vocabulary v (accepted-rows v n e)
 
 -- What it refuses, its rows refuse.
 pub vocabulary-refused : (v : List ℕ) (n p : ℕ) → vocabularyCheck v ≡ refused n p → vocabularyRows v ≡ refused n p

@@ -20,14 +20,14 @@ use Rattle.records.specs.declared.answers.Checked.{Checked}
 use Rattle.records.specs.declared.answers.Checked.the-variants.{Fine, Refused}
 use Rattle.records.proofs.Laws.Checks.{checked-fine, require-passed}
 use Rattle.records.proofs.Laws.Parts.{put-length}
-use Rattle.records.proofs.Theorems.Accepted.{AcceptedFacts, well-formed-vocabulary}
+use Rattle.records.proofs.Theorems.Accepted.{AcceptedFacts, rows-vocabulary}
 use Rattle.writer.specs.Additions.{Addition, term, statement, newRecord, linkPlace, relinked, grown}
 use Rattle.writer.specs.Calls.{emptyHeader, making, adding, newLength, bufferAfter}
 use Rattle.writer.specs.Code.Counting.{raised}
 use Rattle.writer.proofs.Refinement.Buffer.{use-length, use-count, link-behind}
 use Rattle.writer.proofs.Refinement.Counting.{term-written}
 use Rattle.writer.proofs.Theorems.Grown.{grown-length, link-within}
-use Rattle.writer.proofs.Theorems.Outcomes.{Fit, fit-well}
+use Rattle.writer.proofs.Theorems.Outcomes.{Fit}
 
 -- An answer and a buffer are those of an outcome.
 abbrev pub Answers : Outcome (List ℕ) → List ℕ → Outcome ℕ → List ℕ → Type 0
@@ -46,7 +46,7 @@ module _ (buffer : List ℕ) (used : ℕ) (y : Addition) (fit : Fit buffer used 
   inUse = take used buffer
 
   abbrev good : AcceptedFacts inUse
-  good = well-formed-vocabulary inUse (fit-well buffer used y fit)
+  good = rows-vocabulary inUse (fit .accepts)
 
   long : (x : Addition) → used + recordSize ≡ length (grown inUse x)
   long x = sym (grown-length inUse good x ∙ ap (λ (n : ℕ). n + recordSize) (use-length buffer used (fit .within)))

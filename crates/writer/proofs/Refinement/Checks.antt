@@ -16,7 +16,7 @@ use Rattle.records.specs.declared.answers.Counted.{Counted}
 use Rattle.records.specs.declared.answers.Counted.the-variants.{Records, Refused}
 use Rattle.records.specs.declared.fields.Record.{Record}
 use Rattle.records.proofs.Laws.Checks.{then-assoc, then-passed}
-use Rattle.records.proofs.Theorems.Accepted.{AcceptedFacts, rows-accepted, accepted-rows, well-formed-vocabulary, vocabulary-refused}
+use Rattle.records.proofs.Theorems.Accepted.{AcceptedFacts, rows-vocabulary, accepted-rows, vocabulary-refused}
 use Rattle.records.proofs.Theorems.Bounds.{vocabulary-count}
 use Rattle.writer.specs.Calls.{roomCheck}
 use Rattle.writer.specs.Code.Checks.{newRecordCheck}
@@ -42,5 +42,4 @@ module _ (v : List ℕ) (size : ℕ) where
       then-assoc (vocabularyRows v) (roomCheck v size) (require addable 3 (count v) then fieldsCheck v (count v) r)
 
   pub room-passed : (vocabularyRows v then roomCheck v size) ≡ pass → AcceptedFacts v
-  room-passed e =
-      well-formed-vocabulary v (rows-accepted v (then-passed (vocabularyRows v) (roomCheck v size) tt e .0) .well)
+  room-passed e = rows-vocabulary v (then-passed (vocabularyRows v) (roomCheck v size) tt e .0)

@@ -19,7 +19,7 @@ use Rattle.records.specs.Atoms.{atoms}
 use Rattle.records.specs.declared.fields.Record.{Record}
 use Rattle.records.proofs.Laws.Parts.{put-length, put-front, record-take, record-front}
 use Rattle.records.proofs.Laws.Tests.{both-left, both-right}
-use Rattle.records.proofs.Theorems.Accepted.{AcceptedFacts, well-formed-vocabulary}
+use Rattle.records.proofs.Theorems.Accepted.{AcceptedFacts, rows-vocabulary}
 use Rattle.records.proofs.Theorems.Bounds.{held-atoms, held-bound}
 use Rattle.records.proofs.Theorems.Growth.{atoms-grown}
 use Rattle.writer.specs.Additions.{Addition, term, newRecord, linked, grown}
@@ -37,7 +37,7 @@ module _ (buffer : List ℕ) (used kind a b : ℕ) (fit : Fit buffer used (term 
   inUse = take used buffer
 
   abbrev good : AcceptedFacts inUse
-  good = well-formed-vocabulary inUse (fit-well buffer used x fit)
+  good = rows-vocabulary inUse (fit .accepts)
 
   -- a header is in use
   some : recordSize ≤ used

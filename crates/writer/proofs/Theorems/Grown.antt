@@ -1,7 +1,8 @@
 -- The bytes in use with an addition: a vocabulary with one record more, and the link that reaches it.
 --   relinked-length, grown-length   how many bytes they are
 --   end-small, link-within          the link stands in the bytes in use
---   byte-kept, link-written         which bytes stay, and what the link says
+--   grown-kept, grown-link          which bytes stay, and what the link says
+--   grown-behind                    the new record stands behind them
 --   grown-grows                     they grow as `records` says
 -- Assumes nothing.
 use Prim.Native.Nat.{ℕ, zero, suc, _+_, _*_, _≤_, _<_}
@@ -11,9 +12,10 @@ use mathlib.Core.Path.{_≡_, refl, sym, ap, subst, _∙_}
 use mathlib.Core.Bool.{Bool, true, false, cond, _&&_}
 use mathlib.Core.List.{List, _++_}
 use mathlib.Core.Logic.{_⊎_, inl, inr}
-use lib.ListN.{length, getD, length-append, List·getD-append}
+use lib.ListN.{length, getD, drop, length-append, List·getD-append}
+use lib.Seq.{drop-at}
 use lib.Dec.{eqb}
-use borrow.Author.Tests.{eq-eqb, ne-eqb}
+use borrow.Author.Tests.{eq-eqb, ne-eqb, eqb-true}
 use Rattle.records.specs.Format.{recordSize, recordLimit, wordSize, placeOfA, placeOfNext, wordAt, wordBytes}
 use Rattle.records.specs.Format.{recordBytes, recordAt, count, firstStatement, edition, atomsHeld}
 use Rattle.records.specs.Finite.{put}
@@ -21,9 +23,10 @@ use Rattle.records.specs.Kinds.{kindOf, isAtom, isStatement}
 use Rattle.records.specs.Atoms.{atoms}
 use Rattle.records.specs.Chain.{chainEnd}
 use Rattle.records.specs.declared.fields.Record.{Record}
-use Rattle.records.proofs.Laws.Parts.{put-length, pair-off, pair-word, record-bytes, record-behind}
+use Rattle.records.proofs.Laws.Parts.{put-length, put-drop, pair-off, pair-word, record-bytes, record-behind}
 use Rattle.records.proofs.Laws.Parts.{ButHeld, held-same, held-put, held-read}
 use Rattle.records.proofs.Laws.Ranges.{term-no-statement}
+use Rattle.records.proofs.Laws.Tests.{both-left}
 use Rattle.records.proofs.Theorems.Accepted.{AcceptedFacts}
 use Rattle.records.proofs.Theorems.Chains.{end-statement}
 use Rattle.records.proofs.Theorems.Growth.{Grows, relink}
@@ -88,12 +91,12 @@ module _ (v : List ℕ) (good : AcceptedFacts v) where
   Elsewhere (term kind a b) i = Unit {0}
   Elsewhere (statement a b) i = (i ≡ linkPlace v → ⊥) × (i ≡ linkPlace v + 1 → ⊥)
 
-  pub byte-kept : (x : Addition) (i : ℕ) → i < length v → Elsewhere x i → getD (linked v x) i 0 ≡ getD v i 0
+  byte-kept : (x : Addition) (i : ℕ) → i < length v → Elsewhere x i → getD (linked v x) i 0 ≡ getD v i 0
   byte-kept (term kind a b) i h off = byte-front (term kind a b) i h
   byte-kept (statement a b) i h off =
       byte-front (statement a b) i h ∙ pair-off v (linkPlace v) (count v) link-within i (off .0) (off .1)
 
-  pub link-written : (a b : ℕ) → wordAt (linked v (statement a b)) (linkPlace v) ≡ count v
+  link-written : (a b : ℕ) → wordAt (linked v (statement a b)) (linkPlace v) ≡ count v
   link-written a b =
       rw (
         byte-front (statement a b) (linkPlace v) (omega (arith, link-within)),
@@ -300,3 +303,45 @@ module _ (v : List ℕ) (good : AcceptedFacts v) where
   unfolding grown
   grown-length (term kind a b) = but kind a b .size ∙ linked-length (term kind a b)
   grown-length (statement a b) = linked-length (statement a b)
+
+  -- A byte that is not of the k that the header holds.
+  abbrev pub Uncounted : ℕ → Type 0
+  Uncounted i = edition v ≡ 2 → (i < placeOfNext) ⊎ (recordSize ≤ i)
+
+  pub grown-kept : (x : Addition) (i : ℕ) → i < length v → Elsewhere x i → Uncounted i → getD (grown v x) i 0 ≡ getD v i 0
+  unfolding grown
+  grown-kept (statement a b) i h off free = byte-kept (statement a b) i h off
+  grown-kept (term kind a b) i h off free = at (counts kind a b) refl ∙ byte-kept (term kind a b) i h off
+    where
+      at : (c : Bool) → counts kind a b ≡ c → getD (recount kind a b c) i 0 ≡ getD (w kind a b) i 0
+      at false q = refl
+      at true q =
+          let first = both-left (eqb (edition (w kind a b)) 2) (isAtom kind) q in
+          let two : edition v ≡ 2 = sym (edition-kept kind a b) ∙ eqb-true (edition (w kind a b)) 2 first in
+          of (free two)
+        where
+          of : (i < placeOfNext) ⊎ (recordSize ≤ i) → getD (recount kind a b true) i 0 ≡ getD (w kind a b) i 0
+          of (inl l) =
+              pair-off (w kind a b) placeOfNext (atoms (w kind a b)) (with-header kind a b) i (λ e. omega arith)
+              (λ e. omega arith)
+          of (inr l) =
+              pair-off (w kind a b) placeOfNext (atoms (w kind a b)) (with-header kind a b) i (λ e. omega arith)
+              (λ e. omega arith)
+
+  pub grown-link : (a b : ℕ) → wordAt (grown v (statement a b)) (linkPlace v) ≡ count v
+  unfolding grown
+  grown-link a b = link-written a b
+
+  linked-behind : (x : Addition) → drop (length v) (linked v x) ≡ recordBytes (newRecord x)
+  linked-behind x = drop-at (relinked x v) (recordBytes (newRecord x)) (length v) (relinked-length x)
+
+  pub grown-behind : (x : Addition) → drop (length v) (grown v x) ≡ recordBytes (newRecord x)
+  unfolding grown
+  grown-behind (statement a b) = linked-behind (statement a b)
+  grown-behind (term kind a b) = at (counts kind a b) ∙ linked-behind (term kind a b)
+    where
+      at : (c : Bool) → drop (length v) (recount kind a b c) ≡ drop (length v) (w kind a b)
+      at false = refl
+      at true =
+          put-drop (w kind a b) placeOfNext (wordBytes (atoms (w kind a b))) (with-header kind a b) (length v)
+          (good .sized .least)

@@ -26,7 +26,7 @@ use Rattle.records.specs.declared.answers.Checked.the-variants.{Fine, Refused}
 use Rattle.records.specs.declared.fields.Record.{Record}
 use Rattle.records.proofs.Laws.Tests.{clash, both-left, both-right}
 use Rattle.records.proofs.Laws.Checks.{refusal-same, then-assoc, then-same, require-passed, then-passed, checked-fine}
-use Rattle.records.proofs.Theorems.Accepted.{RowsAccepted, rows-accepted, well-formed-vocabulary, vocabulary-then}
+use Rattle.records.proofs.Theorems.Accepted.{RowsAccepted, rows-accepted, rows-vocabulary, vocabulary-then}
 use Rattle.records.proofs.Theorems.Growth.{Grows, grows-rows, grows-check, grown-record}
 use Rattle.writer.specs.Additions.{Addition, term, statement, newRecord, grown}
 use Rattle.writer.specs.Calls.{emptyHeader, making, roomCheck, isAddable, addition, adding, newLength}
@@ -76,7 +76,7 @@ module _ (v : List ℕ) (size : ℕ) (x : Addition) where
         (both-left (ltb (count v) recordLimit) (leb (length v + recordSize) size) (require-passed roomy 27 (count v) fits))
 
     grows : Grows v (grown v x) (newRecord x)
-    grows = grown-grows v (well-formed-vocabulary v (facts .well)) x (require-passed (isAddable x) 3 (count v) is)
+    grows = grown-grows v (rows-vocabulary v accepts) x (require-passed (isAddable x) 3 (count v) is)
 
     -- the reader's check of the bytes with the record is that of the record
     pub reader-own : {B : Type 0} (o : Outcome B) → (vocabularyCheck (grown v x) then o) ≡ (own then o)
@@ -121,7 +121,7 @@ module _ (buffer : List ℕ) (used : ℕ) (x : Addition) where
 
   pub fit-small : Fit buffer used x → used ≤ recordSize * recordLimit
   fit-small fit =
-      let good = well-formed-vocabulary inUse (fit-well fit) in
+      let good = rows-vocabulary inUse (fit .accepts) in
       omega (arith, good .sized .most, length-take-le used buffer (fit .within))
 
   abbrev checks : Check
@@ -158,7 +158,7 @@ module _ (buffer : List ℕ) (used : ℕ) (x : Addition) where
 
   length-fit : Fit buffer used x → length (grown inUse x) ≡ used + recordSize
   length-fit fit =
-      grown-length inUse (well-formed-vocabulary inUse (fit-well fit)) x
+      grown-length inUse (rows-vocabulary inUse (fit .accepts)) x
       ∙ ap (λ (n : ℕ). n + recordSize) (length-take-le used buffer (fit .within))
 
   -- The rows of an addition, the last of them those of the reader at the new record.

@@ -1,6 +1,6 @@
 -- What reading shows after an addition that succeeded: that addition, after what was shown before.
 --   statements-append                  the statements of a list of additions and another
---   grown-accepts, grown-roles         the bytes pass the rows of the vocabulary check, with the same roles
+--   grown-accepts, grown-roles, ..     the bytes pass the rows of the vocabulary check, with the same roles and edition
 --   term-chain, statement-chain        the chain
 --   grown-contents, grown-stated       the records from 1 on, and the statements on the chain
 --   empty-accepts, .., empty-stated    the same of an empty vocabulary
@@ -25,7 +25,7 @@ use Rattle.records.proofs.Laws.Lists.{map-same}
 use Rattle.records.proofs.Laws.Parts.{record-behind}
 use Rattle.records.proofs.Laws.Ranges.{term-no-statement}
 use Rattle.records.proofs.Laws.Sets.{table-cong, table-last}
-use Rattle.records.proofs.Theorems.Accepted.{AcceptedFacts, rows-accepted, well-formed-vocabulary}
+use Rattle.records.proofs.Theorems.Accepted.{AcceptedFacts, rows-accepted, rows-vocabulary}
 use Rattle.records.proofs.Theorems.Chains.{chain-statement}
 use Rattle.records.proofs.Theorems.Following.{follow-nil}
 use Rattle.records.proofs.Theorems.Growth.{Grows, header-alone, grown-count, grows-rows, chain-kept, chain-grown}
@@ -55,7 +55,7 @@ module _ (v : List ℕ) (x : Addition) (accepts : vocabularyRows v ≡ pass) (fe
   well = rows-accepted v accepts .well
 
   abbrev good : AcceptedFacts v
-  good = well-formed-vocabulary v well
+  good = rows-vocabulary v accepts
 
   grows : Grows v w (newRecord x)
   grows = grown-grows v good x is
@@ -72,6 +72,9 @@ module _ (v : List ℕ) (x : Addition) (accepts : vocabularyRows v ≡ pass) (fe
 
   pub grown-roles : roleCount w ≡ roleCount v
   grown-roles = grows .b 0 some
+
+  pub grown-edition : edition w ≡ edition v
+  grown-edition = grows .second 0 some
 
   shown-kept : (j : ℕ) → 0 < j → j < count v → shown (recordAt w j) ≡ shown (recordAt v j)
   shown-kept j p h = rw (grows .kind j h, grows .a j p h, grows .b j h)
@@ -143,6 +146,9 @@ module _ (roles : ℕ) (few : roles ≤ roleLimit) where
   header-fits : headerFits (recordAt empty 0) ≡ true
   header-fits = rw (header, le-leb roles roleLimit few)
 
+  pub empty-edition : edition empty ≡ 2
+  empty-edition = ap (λ (r : Record). r .second) header
+
   -- it has no atom, and says so
   empty-atoms : atoms empty ≡ 0
   unfolding rank kindOf
@@ -150,7 +156,7 @@ module _ (roles : ℕ) (few : roles ≤ roleLimit) where
 
   empty-held : heldFits empty ≡ true
   empty-held =
-      let two : eqb (edition empty) 2 ≡ true = ap (λ (r : Record). eqb (r .second) 2) header in
+      let two : eqb (edition empty) 2 ≡ true = eq-eqb (edition empty) 2 empty-edition in
       let zero : atomsHeld empty ≡ 0 = ap (λ (r : Record). r .next) header in
       rw two (eq-eqb (atomsHeld empty) (atoms empty) (zero ∙ sym empty-atoms))
 
