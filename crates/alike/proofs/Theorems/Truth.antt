@@ -22,6 +22,7 @@ use Rattle.records.proofs.Laws.Tests.{clash, either-left, unless-false}
 use Rattle.records.proofs.Laws.Ranges.{term-no-statement, statement-kind}
 use Rattle.records.proofs.Theorems.Accepted.{AcceptedFacts, Operand, Over, over-map}
 use Rattle.records.proofs.Theorems.Constructs.{construct-over, construct-inclusion}
+use Rattle.records.proofs.Theorems.Ranks.{rank-cong}
 use Rattle.types.specs.Meaning.{plain, restrictionOf, restrictionAt, evaluate}
 use Rattle.types.specs.Types.{types, truth}
 use Rattle.types.proofs.Theorems.Truth.{evaluate-over, OverFiller, restriction-over, restricted, truth-eq}
@@ -53,9 +54,7 @@ SameTruth v w i = (t : ℕ) → truth v t i ≡ truth w t i
 
 module _ (v w : List ℕ) (alike : Alike v w) where
   pub rank-alike : (i : ℕ) → rank v i ≡ rank w i
-  unfolding rank
-  rank-alike zero = refl
-  rank-alike (suc i) = rw (rank-alike i, alike .kinds i)
+  rank-alike i = rank-cong v w i (λ j h. alike .kinds j)
 
   pub atoms-alike : atoms v ≡ atoms w
   atoms-alike = rank-alike (count v) ∙ ap (rank w) (alike .counts)
