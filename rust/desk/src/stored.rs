@@ -40,7 +40,7 @@ pub fn vocabulary_cases() -> Vec<Vec<u8>> {
         take(&mut rest, 4);
         cases.push(take(&mut rest, length).to_vec());
     }
-    assert_eq!(cases.len(), 5376);
+    assert_eq!(cases.len(), 5931);
     cases
 }
 
@@ -53,7 +53,7 @@ pub fn comparison_cases() -> Vec<(Vec<u8>, u32, u32)> {
         take(&mut rest, 3);
         cases.push((take(&mut rest, length).to_vec(), a, b));
     }
-    assert_eq!(cases.len(), 4996);
+    assert_eq!(cases.len(), 5561);
     cases
 }
 
@@ -68,7 +68,7 @@ pub fn classification_cases() -> Vec<(Vec<u8>, String)> {
         cases.push((take(&mut rest, length).to_vec(), line.to_string()));
     }
     assert!(rest.is_empty());
-    assert_eq!(cases.len(), 3572);
+    assert_eq!(cases.len(), 4161);
     cases
 }
 
@@ -88,7 +88,7 @@ pub fn script_cases() -> Vec<(Vec<u8>, Vec<u8>)> {
         let vocabulary = take(&mut rest, vocabulary).to_vec();
         cases.push((vocabulary, take(&mut rest, script).to_vec()));
     }
-    assert_eq!(cases.len(), 6043);
+    assert_eq!(cases.len(), 6575);
     cases
 }
 

@@ -53,7 +53,7 @@ fn the_element_belongs_to_just_one_term_and_is_the_first_that_does() {
             }
         }
     }
-    assert_eq!((cases().len(), different, elements), (4_996, 2_346, 89_169));
+    assert_eq!((cases().len(), different, elements), (5_561, 2_423, 94_802));
 }
 
 #[test]
@@ -95,7 +95,7 @@ fn bytes_terms_and_statements_are_those_of_the_records() {
         assert_eq!(vocabulary.statements(), chained);
         statements += chained.len();
     }
-    assert_eq!((accepted, statements), (4_232, 5_674));
+    assert_eq!((accepted, statements), (4_500, 6_044));
     for edition in [Edition::One, Edition::Two] {
         let header = super::Record::header(edition, 258).bytes();
         assert_eq!(header, [16, edition.number(), 0, 0, 2, 1, 0, 0]);

@@ -81,7 +81,7 @@ fn the_replay_agrees_with_the_library_on_every_case() {
     for (i, (vocabulary, script)) in cases.iter().enumerate() {
         let verdict = check_script(vocabulary, script);
         let number = verdict.map_or_else(|refusal| refusal.rule.number(), |_| 0);
-        let keeps_form = number == 0 || number >= 20;
+        let keeps_form = verdict.map_or_else(|refusal| refusal.rule.is_of_chain(), |_| true);
         if keeps_form {
             let trace = run::replay(&Vocabulary::read(vocabulary), &merged(script));
             assert!(trace.agrees(verdict), "case {i}: {:?}, {verdict:?}", trace.answer());
@@ -91,13 +91,13 @@ fn the_replay_agrees_with_the_library_on_every_case() {
         assert_eq!(shown.is_some(), keeps_form, "case {i}");
     }
     let expected = [
-        (0, 711),
-        (20, 235),
-        (21, 1043),
-        (22, 991),
+        (0, 747),
+        (20, 247),
+        (21, 1060),
+        (22, 1006),
         (23, 32),
-        (24, 487),
-        (25, 131),
+        (24, 499),
+        (25, 143),
     ];
     assert_eq!(replayed, BTreeMap::from(expected));
 }

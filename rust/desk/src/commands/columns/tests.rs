@@ -86,7 +86,7 @@ fn the_columns_are_those_that_the_library_knows() {
         }
     }
     let counts = [owners, without, columns, positions, with_y];
-    assert_eq!(counts, [27_773, 9_117, 43_004, 91_898, 5_756]);
+    assert_eq!(counts, [35_674, 13_234, 53_048, 114_315, 8_311]);
 }
 
 /// A vocabulary of this text, with its words.

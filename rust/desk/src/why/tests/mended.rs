@@ -114,12 +114,12 @@ fn mending_what_is_named_mends_the_step() {
         }
     }
     let expected = [
-        (QueryColumn, 62),
-        (Owner, 129),
-        (Column, 80),
-        (X, 160),
-        (Y, 106),
-        (Position, 110),
+        (QueryColumn, 64),
+        (Owner, 131),
+        (Column, 82),
+        (X, 165),
+        (Y, 109),
+        (Position, 111),
     ];
     assert_eq!(mended, BTreeMap::from(expected));
 }

@@ -79,7 +79,7 @@ fn every_stored_refusal_has_a_detail_but_for_lengths() {
     }
     let numbers: Vec<u8> = without.into_keys().collect();
     assert_eq!(numbers, [1, 13]);
-    let expected = [(20, 235), (21, 1043), (22, 991), (23, 32), (24, 487), (25, 131)];
+    let expected = [(20, 247), (21, 1060), (22, 1006), (23, 32), (24, 499), (25, 143)];
     assert_eq!(of_chain, BTreeMap::from(expected));
     let lines: Vec<String> = shapes
         .into_iter()
