@@ -28,13 +28,14 @@ static uint64_t k_of_header(const uint8_t *vocabulary, size_t vocabulary_len)
 
 static uint64_t k_by_pass(const uint8_t *vocabulary, size_t vocabulary_len)
 {
+    const unsigned atom_kinds = 1u << NAME | 1u << SOME | 1u << ALL; /* no kind that passed is over 9 */
     uint64_t answer = judge_check_vocabulary(vocabulary, vocabulary_len);
     uint32_t atoms = 0;
 
     if ((answer & 0xff) != ACCEPTED)
         return answer;
     for (size_t i = RECORD_BYTES; i < vocabulary_len; i += RECORD_BYTES)
-        atoms += is_atom(vocabulary[i]);
+        atoms += atom_kinds >> vocabulary[i] & 1;
     return pack_answer(ACCEPTED, atoms);
 }
 
