@@ -403,12 +403,12 @@ void damage_question(struct question *question, size_t *lent)
                 put(input, NAME, 1000 + last_number(input), 0);
             choose_edition(input);
             break;
-        case 5: damage_edition(input); break;
         case 4:
             if (below(2))
                 break;
             input->len = below(2) ? below(ROOM + 1) : RECORD_BYTES * below(MAX_RECORDS + 3);
             return; /* nothing else can be done to a vocabulary without records */
+        case 5: damage_edition(input); break;
         default: damage_field(input);
         }
     } while (below(2));
