@@ -7,7 +7,7 @@ use mathlib.Core.List.{List, [], _∷_, _++_}
 use mathlib.Core.Logic.{_⊎_}
 use lib.ListN.{length, getD, take, drop}
 use Rattle.records.specs.Outcome.{accepted}
-use Rattle.records.specs.Format.{wordAt, recordBytes, count, roleCount}
+use Rattle.records.specs.Format.{wordAt, recordBytes, count, roleCount, edition, atomsHeld}
 use Rattle.records.specs.Chain.{chain}
 use Rattle.records.specs.Check.{vocabularyCheck}
 use Rattle.records.specs.Atoms.{atoms}
@@ -81,12 +81,21 @@ abbrev pub AtChainEnd : List ℕ → Addition → List ℕ → Type 0
 AtChainEnd v (term kind a b) w = chain w ≡ chain v
 AtChainEnd v (statement a b) w = chain w ≡ chain v ++ (count v ∷ [])
 
+-- Slip 5: "Header edition 2 (second byte 2) holds k in next. .. an addition there may also change the header's k.": byte i is
+-- not of it.
+abbrev pub OffCount : List ℕ → ℕ → Type 0
+OffCount v i = edition v ≡ 2 → (i < 6) ⊎ (8 ≤ i)
+
 -- "On success only the new record, and the link that reaches it, change.": the record stands behind the bytes in use, and every
--- other byte of the buffer is as it was. The bytes now in use are the grown ones.
+-- other byte of the buffer, but for the k of an edition 2 header, is as it was. The bytes now in use are the grown ones, of the
+-- same edition, and in edition 2 the header holds their k.
 pub record OnlyNew (buffer : List ℕ) (used : ℕ) (x : Addition) (after : List ℕ) : Type 0 where
   pub new : take 8 (drop used after) ≡ recordBytes (newRecord x)
   pub reached : Reached (take used buffer) x after
-  pub kept : (i : ℕ) → (i < used) ⊎ (used + 8 ≤ i) → OffLink (take used buffer) x i → getD after i 0 ≡ getD buffer i 0
+  pub kept : (i : ℕ) → (i < used) ⊎ (used + 8 ≤ i) → OffLink (take used buffer) x i → OffCount (take used buffer) i
+      → getD after i 0 ≡ getD buffer i 0
+  pub same-edition : edition (take (used + 8) after) ≡ edition (take used buffer)
+  pub true-count : edition (take used buffer) ≡ 2 → wordAt after 6 ≡ atoms (take (used + 8) after)
   pub size : length after ≡ length buffer
   pub grows : take (used + 8) after ≡ grown (take used buffer) x
   pub chained : AtChainEnd (take used buffer) x (take (used + 8) after)
@@ -119,10 +128,13 @@ pub record Built (lent : List ℕ) (roles : ℕ) (l : List Addition) (after : Li
 
 -- "reading the buffer shows exactly those terms and statements in their order": the vocabulary check accepts the bytes, with the
 -- header and a record for each; the records from 1 on are the additions, and the statements on the chain those among them.
+-- Slip 5: "The writer makes edition 2", which "holds k in next".
 pub record Shows (v : List ℕ) (n : ℕ) (l : List Addition) : Type 0 where
   pub accepts : AcceptedVocabulary v
   pub counted : vocabularyCheck v ≡ accepted (1 + length l)
   pub roles : roleCount v ≡ n
+  pub second-edition : edition v ≡ 2
+  pub held : atomsHeld v ≡ atoms v
   pub records : contents v ≡ l
   pub statements : stated v ≡ statementsOf l
 

@@ -1,12 +1,13 @@
 -- Samples 1 to 9 of paper 01, from the bytes of their vocabularies and scripts, as "a joint table": answers, counts, and of the
 -- comparison the first two bytes written. "Every statement in these samples is on the chain." After them cases of paper 02,
 -- worked by hand: of the classification the counts and the entries; scripts with repeated terms; of the writer the new length
--- and the whole buffer.
+-- and the whole buffer; headers of both editions.
 use Prim.Native.Nat.{ℕ, _*_}
 use mathlib.Core.Path.{_≡_}
 use mathlib.Core.List.{List, [], _∷_, map}
 use lib.ListN.{length, take}
 use Rattle.records.specs.Outcome.{Outcome, accepted, refused}
+use Rattle.records.specs.Check.{vocabularyCheck}
 use Rattle.writer.specs.Additions.{Addition, term, statement}
 use Rattle.writer.specs.Calls.{making, adding, newLength, bufferAfter}
 use Rattle.types.specs.declared.answers.Counts.{Counts}
@@ -25,6 +26,10 @@ words a b c d rest = a ∷ 0 ∷ b ∷ 0 ∷ c ∷ 0 ∷ d ∷ 0 ∷ rest
 -- the records of a vocabulary
 abbrev pub header : ℕ → ℕ → List ℕ → List ℕ
 header first roles rest = 16 ∷ 1 ∷ first ∷ 0 ∷ roles ∷ 0 ∷ 0 ∷ 0 ∷ rest
+
+-- one of edition 2, which holds k
+abbrev pub holding : ℕ → ℕ → ℕ → List ℕ → List ℕ
+holding first roles k rest = 16 ∷ 2 ∷ first ∷ 0 ∷ roles ∷ 0 ∷ k ∷ 0 ∷ rest
 
 abbrev pub top : List ℕ → List ℕ
 top rest = fields 1 0 0 0 rest
@@ -72,9 +77,10 @@ extension owner column x position next rest = words 4 owner column x (words 0 po
 abbrev pub reduction : ℕ → ℕ → List ℕ → List ℕ
 reduction frame next rest = words 5 frame 0 0 (words 0 0 0 next rest)
 
--- A comparison of two terms, a script to check, names to classify, a buffer for an empty vocabulary with a number of roles, or
--- one with a length in use for an addition.
+-- A vocabulary to check, a comparison of two terms, a script to check, names to classify, a buffer for an empty vocabulary with a
+-- number of roles, or one with a length in use for an addition.
 pub data Question : Type 0 where
+  reads : List ℕ → Question
   compares : List ℕ → ℕ → ℕ → Question
   checks : List ℕ → List ℕ → Question
   classifies : List ℕ → Question
@@ -88,6 +94,7 @@ pub data Answer : Type 0 where
   buffers : Outcome ℕ → List ℕ → Answer
 
 abbrev pub answer : Question → Answer
+answer (reads v) = judgments (vocabularyCheck v)
 answer (compares v a b) = verdicts (comparison v a b 512) (take 2 (bitmap v))
 answer (checks v s) = judgments (scriptCheck v s)
 answer (classifies v) = tables (classification v 512 144) (take (nameCount v * nameCount v) (taxonomy v))
@@ -187,6 +194,18 @@ free rest = 99 ∷ 99 ∷ 99 ∷ 99 ∷ 99 ∷ 99 ∷ 99 ∷ 99 ∷ rest
 abbrev pub B₁ : ℕ → ℕ → List ℕ → List ℕ
 B₁ first next rest = header first 0 (name 1 (within 1 1 next (within 1 1 0 rest)))
 
+-- V₁ in edition 2, with this first statement, holding k.
+abbrev pub E₁ : ℕ → ℕ → List ℕ
+E₁ first k = holding first 0 k (name 1 (name 2 (name 3 (and 1 2 (within 4 3 0 [])))))
+
+-- An edition 1 header that holds k; name 1.
+abbrev pub E₂ : ℕ → List ℕ
+E₂ k = 16 ∷ 1 ∷ 0 ∷ 0 ∷ 0 ∷ 0 ∷ k ∷ 0 ∷ name 1 []
+
+-- Name 1; 2 some role 0 to 1; 3 all role 0 to 1; 4 not 1.
+abbrev pub E₃ : ℕ → List ℕ
+E₃ k = holding 0 1 k (name 1 (some 0 1 (all 0 1 (not 1 []))))
+
 abbrev pub asked : List Question
 asked =
     compares V₁ 4 3
@@ -218,6 +237,21 @@ asked =
     ∷ adds (B₁ 2 0 (free [])) 32 (term 9 1 1)
     ∷ adds (B₁ 2 0 (7 ∷ [])) 32 (term 9 1 1)
     ∷ adds (B₁ 2 0 (free [])) 41 (term 1 0 0)
+    ∷ reads (E₁ 5 3)
+    ∷ reads (E₁ 5 4)
+    ∷ reads (E₁ 4 4)
+    ∷ reads (E₂ 0)
+    ∷ reads (E₂ 1)
+    ∷ reads (E₃ 3)
+    ∷ reads (E₃ 2)
+    ∷ compares (E₁ 5 3) 4 3
+    ∷ checks (E₁ 5 3) S₇
+    ∷ checks (E₁ 5 0) []
+    ∷ adds (holding 0 0 0 (free (7 ∷ []))) 8 (term 3 258 0)
+    ∷ adds (holding 0 0 0 (free [])) 8 (term 1 0 0)
+    ∷ adds (holding 0 0 1 (name 1 (free []))) 16 (statement 1 1)
+    ∷ adds (holding 0 0 1 (name 1 (free []))) 16 (term 3 1 0)
+    ∷ adds (holding 0 0 2 (name 1 [])) 16 (term 3 1 0)
     ∷ []
 
 abbrev pub answered : List Answer
@@ -241,7 +275,7 @@ answered =
     ∷ judgments (refused 21 11)
     ∷ judgments (refused 17 2)
     ∷ judgments (accepted 6)
-    ∷ buffers (accepted 8) (header 0 2 (7 ∷ []))
+    ∷ buffers (accepted 8) (holding 0 2 0 (7 ∷ []))
     ∷ buffers (refused 27 0) (7 ∷ 7 ∷ 7 ∷ 7 ∷ 7 ∷ 7 ∷ 7 ∷ [])
     ∷ buffers (refused 2 0) (free [])
     ∷ buffers (accepted 16) (header 0 0 (3 ∷ 0 ∷ 2 ∷ 1 ∷ 0 ∷ 0 ∷ 0 ∷ 0 ∷ 7 ∷ []))
@@ -251,6 +285,21 @@ answered =
     ∷ buffers (refused 3 4) (B₁ 2 0 (free []))
     ∷ buffers (refused 27 4) (B₁ 2 0 (7 ∷ []))
     ∷ buffers (refused 1 0) (B₁ 2 0 (free []))
+    ∷ judgments (accepted 6)
+    ∷ judgments (refused 28 3)
+    ∷ judgments (refused 8 0)
+    ∷ judgments (accepted 2)
+    ∷ judgments (refused 2 0)
+    ∷ judgments (accepted 5)
+    ∷ judgments (refused 28 3)
+    ∷ says (different 4 7 0) 247 0
+    ∷ judgments (accepted 3)
+    ∷ judgments (refused 28 3)
+    ∷ buffers (accepted 16) (holding 0 0 1 (3 ∷ 0 ∷ 2 ∷ 1 ∷ 0 ∷ 0 ∷ 0 ∷ 0 ∷ 7 ∷ []))
+    ∷ buffers (accepted 16) (holding 0 0 0 (top []))
+    ∷ buffers (accepted 24) (holding 2 0 1 (name 1 (within 1 1 0 [])))
+    ∷ buffers (refused 7 2) (holding 0 0 1 (name 1 (free [])))
+    ∷ buffers (refused 28 1) (holding 0 0 2 (name 1 []))
     ∷ []
 
 abbrev pub Samples : Type 0

@@ -1,5 +1,5 @@
 -- The paper's table of refusals, as a list of rows for each call: each row with its number, its place and whether it applies.
--- Rows 26 and 27 are paper 02's.
+-- Rows 26 to 28 are paper 02's.
 -- "Every refusal gives number and place and leaves all lent memory untouched. The first that applies in table order is given
 -- and never otherwise."
 use Prim.Native.Nat.{ℕ, zero, suc, _+_, _-_}
@@ -11,7 +11,7 @@ use lib.Dec.{ltb, leb}
 use Rattle.records.specs.Outcome.{Outcome, accepted, refused}
 use Rattle.records.specs.Format.{recordAt, count, firstStatement}
 use Rattle.records.specs.Kinds.{sortsOf, isTerm}
-use Rattle.records.specs.Check.{lengthFits, headerFits, kindFits, rowFits, linkFits, nextFits}
+use Rattle.records.specs.Check.{lengthFits, headerFits, kindFits, rowFits, linkFits, nextFits, heldFits}
 use Rattle.records.specs.Atoms.{atoms}
 use Rattle.writer.specs.Additions.{Addition, grown}
 use Rattle.writer.specs.Calls.{isAddable}
@@ -41,6 +41,7 @@ abbrev pub lengthRow : List ℕ → Row
 lengthRow v = row 1 0 (not (lengthFits v))
 
 -- | Its header | 2 | kind, second byte, role count or next | 0 |
+-- Slip 5 of paper 02: "Refusal 2 admits the new second byte with any next."
 abbrev pub headerRow : List ℕ → Row
 headerRow v = row 2 0 (not (headerFits (recordAt v 0)))
 
@@ -65,6 +66,10 @@ headerLinkRow v = row 8 0 (not (linkFits v 0 (firstStatement v)))
 
 abbrev pub nextRows : List ℕ → ℕ → List Row
 nextRows v i = row 8 i (not (nextFits v i)) ∷ []
+
+-- Slip 5 of paper 02: "Turned away: 28, after 8, when an edition 2 header holds a wrong k, place the true k."
+abbrev pub heldRow : List ℕ → Row
+heldRow v = row 28 (atoms v) (not (heldFits v))
 
 -- | Record call, after 1 | 9 | number past the end | number |
 abbrev pub numberRow : List ℕ → ℕ → Row
@@ -171,14 +176,18 @@ module _ (v s : List ℕ) where
   chainTable [] = row 20 0 true ∷ []
   chainTable (i ∷ rest) = row 20 i (not (isStart (stepAt s i))) ∷ laterRows (framesAfter [] i) i rest
 
--- The tables of the calls. The vocabulary check:
-abbrev pub vocabularyTable : List ℕ → List Row
-vocabularyTable v =
+-- The tables of the calls. Rows 1 to 8:
+abbrev pub recordsTable : List ℕ → List Row
+recordsTable v =
     lengthRow v
     ∷ headerRow v
     ∷ rowsInTurn (recordRows v) 1 (count v - 1)
     ++ headerLinkRow v
     ∷ rowsInTurn (nextRows v) 1 (count v - 1)
+
+-- The vocabulary check: 28 "and later refusals of the vocabulary check count among 1 to 8 wherever these are named".
+abbrev pub vocabularyTable : List ℕ → List Row
+vocabularyTable v = recordsTable v ++ heldRow v ∷ []
 
 -- The record call, "after 1":
 abbrev pub recordTable : List ℕ → ℕ → List Row
@@ -238,7 +247,7 @@ abbrev pub NoneApplies : List Row → Type 0
 NoneApplies [] = Unit {0}
 NoneApplies (r ∷ rows) = (r .applies ≡ false) × NoneApplies rows
 
--- "A vocabulary is accepted when no refusal of the vocabulary check applies to it (here 1 to 8)"
+-- "A vocabulary is accepted when no refusal of the vocabulary check applies to it (here 1 to 8)", and 28
 abbrev pub AcceptedVocabulary : List ℕ → Type 0
 AcceptedVocabulary v = NoneApplies (vocabularyTable v)
 

@@ -1,4 +1,4 @@
--- Rows 1 to 8 of the table of refusals, and the vocabulary check.
+-- Rows 1 to 8 and 28 of the table of refusals, and the vocabulary check.
 use Prim.Native.Nat.{ℕ, _-_, _*_, _%_}
 use mathlib.Core.Path.{_≡_}
 use mathlib.Core.Bool.{Bool, not, _&&_, _||_}
@@ -8,7 +8,9 @@ use lib.Dec.{ltb, leb, eqb}
 use Rattle.records.specs.Finite.{anyBelow}
 use Rattle.records.specs.Outcome.{Outcome, Check, accepted, pass, _then_, require, inTurn}
 use Rattle.records.specs.Format.{recordSize, recordLimit, roleLimit, recordAt, count, firstStatement, roleCount}
+use Rattle.records.specs.Format.{edition, atomsHeld}
 use Rattle.records.specs.Kinds.{Sorts, isTerm, isStatement, sortsOf, kinds}
+use Rattle.records.specs.Atoms.{atoms}
 use Rattle.records.specs.declared.fields.Record.{Record}
 use Rattle.records.specs.declared.kinds.Sort.{Sort}
 use Rattle.records.specs.declared.kinds.Sort.the-variants.{Spare, Term, Role, Label, Link}
@@ -22,9 +24,10 @@ abbrev pub lengthCheck : List ℕ → Check
 lengthCheck v = require (lengthFits v) 1 0
 
 -- Row 2: "kind, second byte, role count or next" of the header: "kind 16, second byte 1, .. B the number of roles (0 to 64),
--- next 0"
+-- next 0". Slip 5 of paper 02: "Refusal 2 admits the new second byte with any next."
 abbrev pub headerFits : Record → Bool
-headerFits r = eqb (r .kind) 16 && (eqb (r .second) 1 && (leb (r .b) roleLimit && eqb (r .next) 0))
+headerFits r =
+    eqb (r .kind) 16 && (leb (r .b) roleLimit && (eqb (r .second) 2 || (eqb (r .second) 1 && eqb (r .next) 0)))
 
 abbrev pub headerCheck : List ℕ → Check
 headerCheck v = require (headerFits (recordAt v 0)) 2 0
@@ -115,9 +118,20 @@ recordsCheck v =
 abbrev pub IsWellFormed : List ℕ → Type 0
 IsWellFormed v = recordsCheck v ≡ pass
 
+-- Row 28, slip 5 of paper 02: "after 8, when an edition 2 header holds a wrong k, place the true k"
+abbrev pub heldFits : List ℕ → Bool
+heldFits v = not (eqb (edition v) 2) || eqb (atomsHeld v) (atoms v)
+
+abbrev pub heldCheck : List ℕ → Check
+heldCheck v = require (heldFits v) 28 (atoms v)
+
+-- All rows of the vocabulary check: 28 "and later refusals of the vocabulary check count among 1 to 8 wherever these are named".
+unfoldable pub vocabularyRows : List ℕ → Check
+vocabularyRows v = recordsCheck v then heldCheck v
+
 -- The vocabulary check "answers the number of records, header included".
 unfoldable pub vocabularyCheck : List ℕ → Outcome ℕ
-vocabularyCheck v = recordsCheck v then accepted (count v)
+vocabularyCheck v = vocabularyRows v then accepted (count v)
 
 -- "A vocabulary is accepted when no refusal of the vocabulary check applies to it".
 abbrev pub IsAccepted : List ℕ → Type 0

@@ -59,3 +59,10 @@ firstStatement v = recordAt v 0 .a
 
 abbrev pub roleCount : List ℕ → ℕ
 roleCount v = recordAt v 0 .b
+
+-- Slip 5 of paper 02: "Header edition 2 (second byte 2) holds k in next."
+abbrev pub edition : List ℕ → ℕ
+edition v = recordAt v 0 .second
+
+abbrev pub atomsHeld : List ℕ → ℕ
+atomsHeld v = recordAt v 0 .next

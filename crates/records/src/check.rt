@@ -1,8 +1,9 @@
-// The vocabulary check: rows 1 to 8 of the table of refusals, each a check of its own.
+// The vocabulary check: rows 1 to 8 and 28 of the table of refusals, each a check of its own.
 use crate::answers::Checked;
 use crate::answers::Counted;
 use crate::answers::count_after;
 use crate::answers::pass_if;
+use crate::atoms::count_atoms;
 use crate::fields::Record;
 use crate::fields::read_at;
 use crate::kinds::Sort;
@@ -22,7 +23,7 @@ ghost use Rattle.records.specs.Kinds as kinds;
 ghost use Rattle.records.specs.Kinds.{sortsOf};
 ghost use Rattle.records.specs.Check.{lengthFits, lengthCheck, headerFits, headerCheck, kindFits, kindCheck, named};
 ghost use Rattle.records.specs.Check.{labelled, termFits, linkFits, row, rowsCheck, fieldsCheck, recordCheck, linkCheck};
-ghost use Rattle.records.specs.Check.{linksCheck, recordsCheck, vocabularyCheck};
+ghost use Rattle.records.specs.Check.{linksCheck, recordsCheck, heldCheck, vocabularyRows, vocabularyCheck};
 ghost use Rattle.records.specs.Code.Fields.{fieldFits, allFit, noFault, firstOf, AtRecord};
 
 // Row 1: the length.
@@ -44,17 +45,20 @@ pub fn check_length(v: &[u8]) -> Checked
     pass_if(length_fits(v), 1, 0)
 }
 
-// Row 2: the header.
+// Row 2: the header. Edition 2 holds any number in next, until row 28.
 fn header_fits(header: Record) -> bool
     ensures { λ r. ⌜ r ≡ headerFits header ⌝ }
 {
     if header.kind != 16 {
         return false;
     }
-    if header.second != 1 {
+    if header.b > Record::ROLES {
         return false;
     }
-    if header.b > Record::ROLES {
+    if header.second == 2 {
+        return true;
+    }
+    if header.second != 1 {
         return false;
     }
     header.next == 0
@@ -378,10 +382,33 @@ fn check_records(v: &[u8]) -> Checked
     check_links(v)
 }
 
+// Row 28: the k that an edition 2 header holds. In edition 1 nothing is counted.
+fn check_held(v: &[u8]) -> Checked
+    requires { ⌜ recordSize ≤ length (now v) ⌝ }
+    ensures { λ r. ⌜ checked r ≡ heldCheck (now (v .entry)) ⌝ }
+{
+    let header = read_at(v, 0);
+    if header.second != 2 {
+        return Checked::Fine;
+    }
+    let k = count_atoms(v);
+    pass_if(header.next as usize == k, 28, k)
+}
+
+// All rows of the vocabulary check.
+fn check_all(v: &[u8]) -> Checked
+    ensures { λ r. ⌜ checked r ≡ vocabularyRows (now (v .entry)) ⌝ }
+{
+    let records = check_records(v);
+    let Checked::Fine = records else {
+        return records;
+    };
+    check_held(v)
+}
+
 // The vocabulary check: the number of records, or the first refusal in table order.
 pub fn check_vocabulary(v: &[u8]) -> Counted
     ensures { λ r. ⌜ counted r ≡ vocabularyCheck (now (v .entry)) ⌝ }
 {
-    let records = check_records(v);
-    count_after(records, v.len() / Record::SIZE)
+    count_after(check_all(v), v.len() / Record::SIZE)
 }

@@ -1,11 +1,12 @@
 -- What is added to a vocabulary, the bytes in use with it, and what reading shows.
 use Prim.Native.Nat.{ℕ, suc, _+_, _-_, _*_}
-use mathlib.Core.Bool.{cond}
+use mathlib.Core.Bool.{cond, _&&_}
 use mathlib.Core.List.{List, [], _∷_, _++_, map}
 use lib.Dec.{eqb}
 use Rattle.records.specs.Finite.{put, table}
-use Rattle.records.specs.Format.{recordSize, placeOfA, placeOfNext, wordBytes, recordBytes, recordAt, count}
-use Rattle.records.specs.Kinds.{isStatement}
+use Rattle.records.specs.Format.{recordSize, placeOfA, placeOfNext, wordBytes, recordBytes, recordAt, count, edition}
+use Rattle.records.specs.Kinds.{isAtom, isStatement}
+use Rattle.records.specs.Atoms.{atoms}
 use Rattle.records.specs.Chain.{chain, chainEnd}
 use Rattle.records.specs.declared.fields.Record.{Record}
 
@@ -32,8 +33,17 @@ relinked (term kind a b) v = v
 relinked (statement a b) v = put v (linkPlace v) (wordBytes (count v))
 
 -- The bytes in use with the addition: "only the new record, and the link that reaches it, change".
+abbrev pub linked : List ℕ → Addition → List ℕ
+linked v x = relinked x v ++ recordBytes (newRecord x)
+
+-- Slip 5: "The writer makes edition 2, and an addition there may also change the header's k.": an atom does. "additions to
+-- [edition 1] keep it edition 1".
+abbrev pub recounted : Addition → List ℕ → List ℕ
+recounted (term kind a b) w = cond (eqb (edition w) 2 && isAtom kind) (put w placeOfNext (wordBytes (atoms w))) w
+recounted (statement a b) w = w
+
 unfoldable pub grown : List ℕ → Addition → List ℕ
-grown v x = relinked x v ++ recordBytes (newRecord x)
+grown v x = recounted x (linked v x)
 
 -- "reading the buffer shows exactly those terms and statements in their order": what a record shows, and all from 1 on.
 abbrev pub shown : Record → Addition

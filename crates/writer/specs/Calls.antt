@@ -11,9 +11,9 @@ use Rattle.records.specs.Check.{vocabularyCheck}
 use Rattle.records.specs.declared.fields.Record.{Record}
 use Rattle.writer.specs.Additions.{Addition, term, statement, grown}
 
--- "In a lent buffer a call makes an empty vocabulary with a role count": the header alone.
+-- "In a lent buffer a call makes an empty vocabulary with a role count": the header alone. Slip 5: "The writer makes edition 2".
 abbrev pub emptyHeader : ℕ → Record
-emptyHeader roles = record { kind = 16; second = 1; a = 0; b = roles; next = 0 }
+emptyHeader roles = record { kind = 16; second = 2; a = 0; b = roles; next = 0 }
 
 -- "27 .. at .. fewer than 8 free bytes, place .. 0 when an empty one is being made; role counts over 64 then get 2.": the bytes
 -- made, in a buffer of this size.

@@ -6,7 +6,9 @@ use records::answers::Checked;
 use records::answers::pass_if;
 use records::chain::find_end;
 use records::fields::Record;
+use records::fields::read_at;
 use records::fields::write_word;
+use records::kinds::is_atom;
 use records::kinds::is_term;
 ghost use mathlib.Core.Path.{_≡_};
 ghost use Prim.Native.Nat.{_+_, _/_, _≤_};
@@ -14,10 +16,11 @@ ghost use lib.ListN.{length, take};
 ghost use Rattle.records.specs.Answers.{checked};
 ghost use Rattle.records.specs.Check.{IsWellFormed};
 ghost use Rattle.records.specs.Finite.{put};
-ghost use Rattle.records.specs.Format.{recordSize, wordBytes, recordBytes};
+ghost use Rattle.records.specs.Format.{recordSize, recordLimit, wordBytes, recordBytes, atomsHeld};
 ghost use Rattle.writer.specs.Additions.{recordWith, linkPlace, term, statement};
 ghost use Rattle.writer.specs.Answers.{lengthened};
 ghost use Rattle.writer.specs.Calls.{making, adding, newLength, bufferAfter};
+ghost use Rattle.writer.specs.Code.Counting.{raised};
 
 // Writes a record over eight bytes of the buffer.
 fn write_record(buffer: &mut [u8], at: usize, f: Record)
@@ -52,6 +55,23 @@ fn link_behind(buffer: &mut [u8], used: usize)
     write_word(&mut buffer[link..end], (used / Record::SIZE) as u16);
 }
 
+// Counts a record of this kind, if it is an atom, in the k of an edition 2 header. Edition 1 holds none.
+fn raise_atoms(buffer: &mut [u8], kind: u8)
+    requires { ⌜ recordSize ≤ length (now buffer) ⌝ }
+    requires { ⌜ atomsHeld (now buffer) ≤ recordLimit ⌝ }
+    ensures { λ _. ⌜ now (buffer .exit) ≡ raised kind (now (buffer .entry)) ⌝ }
+{
+    let header = read_at(buffer, 0);
+    if header.second != 2 {
+        return;
+    }
+    if !is_atom(kind) {
+        return;
+    }
+    let end = Record::NEXT_AT + Record::WORD;
+    write_word(&mut buffer[Record::NEXT_AT..end], header.next + 1);
+}
+
 // An empty vocabulary with so many roles: its length, or the refusal, which writes nothing.
 pub fn make_vocabulary(buffer: &mut [u8], roles: u32) -> Lengthened
     ensures { λ r. ⌜ lengthened r ≡ newLength (making (length (now (buffer .entry))) roles) ⌝ }
@@ -67,7 +87,7 @@ pub fn make_vocabulary(buffer: &mut [u8], roles: u32) -> Lengthened
     };
     let header = Record {
         kind: 16,
-        second: 1,
+        second: 2,
         a: 0,
         b: roles as u16,
         next: 0,
@@ -100,6 +120,7 @@ pub fn add_term(buffer: &mut [u8], used: usize, kind: u8, a: u16, b: u16) -> Len
     let Checked::Fine = term else {
         return length_after(term, 0);
     };
+    raise_atoms(buffer, kind);
     write_record(buffer, used, f);
     let length = used + Record::SIZE;
     Lengthened::Length(length)

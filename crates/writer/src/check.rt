@@ -1,4 +1,4 @@
-// What the writer refuses: rows 1 to 8 of the bytes in use, row 27, and rows 3 to 7 of the new record.
+// What the writer refuses: rows 1 to 8 and 28 of the bytes in use, row 27, and rows 3 to 7 of the new record.
 use records::answers::Checked;
 use records::answers::Counted;
 use records::answers::check_after;
@@ -13,7 +13,7 @@ ghost use lib.Dec.{ltb, leb};
 ghost use Rattle.records.specs.Outcome.{_then_};
 ghost use Rattle.records.specs.Answers.{checked};
 ghost use Rattle.records.specs.Format.{recordSize, recordLimit};
-ghost use Rattle.records.specs.Check.{recordsCheck};
+ghost use Rattle.records.specs.Check.{vocabularyRows};
 ghost use Rattle.writer.specs.Calls.{roomCheck};
 ghost use Rattle.writer.specs.Code.Checks.{newRecordCheck, additionCheck};
 
@@ -28,10 +28,10 @@ fn has_room(records: usize, used: usize, size: usize) -> bool
     size - used >= Record::SIZE
 }
 
-// Rows 1 to 8 of the bytes in use, then row 27, in a buffer of this size.
+// The vocabulary check of the bytes in use, then row 27, in a buffer of this size.
 fn check_room(v: &[u8], size: usize) -> Checked
     requires { ⌜ length (now v) ≤ size ⌝ }
-    ensures { λ r. ⌜ checked r ≡ (recordsCheck (now (v .entry)) then roomCheck (now (v .entry)) size) ⌝ }
+    ensures { λ r. ⌜ checked r ≡ (vocabularyRows (now (v .entry)) then roomCheck (now (v .entry)) size) ⌝ }
 {
     let vocabulary = records::check_vocabulary(v);
     let Counted::Records(records) = vocabulary else {

@@ -41,7 +41,8 @@ use Rattle.scripts.specs.Format.{entryLimit, entries, queryOf, firstStep, chain
 use Rattle.scripts.specs.Form as script
 use Rattle.scripts.specs.Run.{scriptCheck}
 use Rattle.scripts.proofs.Theorems.Form.{OnChain, KeepsForm, length-sized, keeps-form, chain-ahead, chain-few}
-use Rattle.demands.specs.Table.{Row, row, rowsInTurn, recordRows, nextRows, vocabularyTable, recordTable, termRow}
+use Rattle.demands.specs.Table.{Row, row, rowsInTurn, recordRows, nextRows, recordsTable, heldRow, vocabularyTable}
+use Rattle.demands.specs.Table.{recordTable, termRow}
 use Rattle.demands.specs.Table.{comparisonTable, classificationTable, entryRows, firstStepRow, nextStepRows, formTable}
 use Rattle.demands.specs.Table.{makingTable, roomRow, addableRow, additionTable}
 use Rattle.demands.specs.Table.{OpenFrames, framesAfter, stepRows, laterRows, chainTable, NoneApplies, Refuses, Follows}
@@ -135,11 +136,17 @@ module _ (m : ℕ) where
   small {rows} {value} {answer = refused n p} f h k = refusal-near rows n p h (f .refused-only n p refl)
 
   -- the rows after 1, where the length is as it should be
-  vocabulary-near : recordLimit ≤ m → (v : List ℕ) → Sized v → AllNear m (tail (vocabularyTable v))
-  vocabulary-near large v sized =
+  records-near : recordLimit ≤ m → (v : List ℕ) → Sized v → AllNear m (tail (recordsTable v))
+  records-near large v sized =
       let turns = near-turns (recordRows v) (count v - 1) 1 (omega arith) (λ i h. omega arith) in
       let links = near-turns (nextRows v) (count v - 1) 1 (omega arith) (λ i h. omega arith) in
       (omega arith, near-append (rowsInTurn (recordRows v) 1 (count v - 1)) _ turns (omega arith, links))
+
+  -- there are no more atoms than records
+  vocabulary-near : recordLimit ≤ m → (v : List ℕ) → Sized v → AllNear m (tail (vocabularyTable v))
+  vocabulary-near large v sized =
+      near-append (tail (recordsTable v)) (heldRow v ∷ []) (records-near large v sized)
+      (omega (arith, rank-bound v (count v), sized .most))
 
   vocabulary-bounded : recordLimit ≤ m → (v : List ℕ) → Bounded m (vocabularyTable v)
   vocabulary-bounded large v =

@@ -6,7 +6,7 @@ use Rattle.records.specs.Kinds.{kindOf}
 use Rattle.records.specs.Outcome.{inTurn}
 use Rattle.records.specs.Finite.{anyBelow, occurs, allBelow, least, listBelow, table, members, bit, number, unrolled, without}
 use Rattle.records.specs.Finite.{allZero, lastOr}
-use Rattle.records.specs.Check.{recordCheck, linkCheck, recordsCheck, vocabularyCheck}
+use Rattle.records.specs.Check.{recordCheck, linkCheck, recordsCheck, vocabularyRows, vocabularyCheck}
 use Rattle.records.specs.Chain.{follow}
 use Rattle.records.specs.Atoms.{rank}
 use Rattle.writer.specs.Additions.{grown}
@@ -24,5 +24,5 @@ use Rattle.scripts.specs.Run.{close, extendBy, stepCheck, stepped, run, chainCh
 use Rattle.demands.specs.Samples.{Samples}
 
 pub samples : Samples
-unfolding recordAt kindOf inTurn anyBelow recordCheck linkCheck recordsCheck vocabularyCheck follow occurs allBelow least table members bit number unrolled rank truth allowed served satisfies stage rounds survivors verdict comparison bitmap listBelow broader entry taxonomy classification sameTerm complementary columnsAt takesY script.entryAt script.kindOf script.termAt allZero form'.entryCheck form'.linkCheck form'.formCheck without close extendBy stepCheck stepped run chainCheck scriptCheck lastOr grown making addition adding
+unfolding recordAt kindOf inTurn anyBelow recordCheck linkCheck recordsCheck vocabularyRows vocabularyCheck follow occurs allBelow least table members bit number unrolled rank truth allowed served satisfies stage rounds survivors verdict comparison bitmap listBelow broader entry taxonomy classification sameTerm complementary columnsAt takesY script.entryAt script.kindOf script.termAt allZero form'.entryCheck form'.linkCheck form'.formCheck without close extendBy stepCheck stepped run chainCheck scriptCheck lastOr grown making addition adding
 samples = refl

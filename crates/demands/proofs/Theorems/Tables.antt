@@ -1,5 +1,5 @@
 -- Each call is its table: it tries the rows in their order and then has a value.
---   tries-vocabulary, tries-form, tries-chain                    rows 1 to 8; 13 to 19; 20 to 25
+--   tries-vocabulary, tries-form, tries-chain                    rows 1 to 8 and 28; 13 to 19; 20 to 25
 --   term-passed, form-passed                                     what row 10, and what the form, lets through
 --   vocabulary-follows, record-follows, comparison-follows,
 --   making-follows, addition-follows,
@@ -15,7 +15,7 @@ use Rattle.records.specs.Outcome.{Check, accepted, refused, pass, _then_, requi
 use Rattle.records.specs.Format.{recordSize, recordLimit, roleLimit, recordBytes, recordAt, count, firstStatement}
 use Rattle.records.specs.Kinds.{sortsOf, isTerm}
 use Rattle.records.specs.Check.{lengthFits, lengthCheck, headerFits, kindFits, rowFits, recordCheck, linkFits, nextFits}
-use Rattle.records.specs.Check.{linkCheck, recordsCheck, vocabularyCheck}
+use Rattle.records.specs.Check.{linkCheck, recordsCheck, heldFits, vocabularyRows, vocabularyCheck}
 use Rattle.records.specs.Call.{recordCall}
 use Rattle.records.specs.Atoms.{atoms}
 use Rattle.writer.specs.Additions.{Addition, grown}
@@ -30,7 +30,7 @@ use Rattle.records.specs.Finite.{isNil}
 use Rattle.scripts.specs.Run.{isStart, connects, reduces, hasRoom, stepCheck, run, chainCheck, writtenOut, stepAt, scriptCheck}
 use Rattle.records.proofs.Laws.Checks.{then-assoc}
 use Rattle.records.proofs.Theorems.Accepted.{vocabulary-then}
-use Rattle.demands.specs.Table.{Row, Follows, recordRows, nextRows, vocabularyTable, recordTable, termRow}
+use Rattle.demands.specs.Table.{Row, Follows, recordRows, nextRows, recordsTable, vocabularyTable, recordTable, termRow}
 use Rattle.demands.specs.Table.{makingTable, additionTable}
 use Rattle.demands.specs.Table.{comparisonTable, classificationTable, entryRows, nextStepRows, formTable, OpenFrames}
 use Rattle.demands.specs.Table.{framesAfter, stepRows, laterRows, chainTable, scriptTable, TermOf, InForm}
@@ -48,14 +48,18 @@ module _ (v : List ℕ) where
       (tries-row (rowFits v i 5 s r) 5 i
       (tries-row (rowFits v i 6 s r) 6 i (tries-last (rowFits v i 7 s r) 7 i))))
 
-  pub tries-vocabulary : Tries (vocabularyTable v) (recordsCheck v)
+  tries-records : Tries (recordsTable v) (recordsCheck v)
   unfolding recordsCheck linkCheck
-  tries-vocabulary =
+  tries-records =
       tries-row (lengthFits v) 1 0
       (tries-row (headerFits (recordAt v 0)) 2 0
       (tries-append (tries-in-turn (recordRows v) (recordCheck v) (count v - 1) 1 tries-record)
       (tries-row (linkFits v 0 (firstStatement v)) 8 0
       (tries-in-turn (nextRows v) (linkCheck v) (count v - 1) 1 (λ i. tries-last (nextFits v i) 8 i)))))
+
+  pub tries-vocabulary : Tries (vocabularyTable v) (vocabularyRows v)
+  unfolding vocabularyRows
+  tries-vocabulary = tries-append tries-records (tries-last (heldFits v) 28 (atoms v))
 
   pub vocabulary-follows : Follows (vocabularyTable v) (count v) (vocabularyCheck v)
   unfolding vocabularyCheck
@@ -90,7 +94,7 @@ module _ (v : List ℕ) where
       let rows = tries-row (leb (atoms v) atomLimit) 11 (atoms v) buffers in
       follows (tries-append tries-vocabulary rows)
       (vocabulary-then v size (tableCheck room then accepted (counts v))
-      ∙ regroup (recordsCheck v) (atomsCheck (atoms v)) (lentCheck lent) (tableCheck room))
+      ∙ regroup (vocabularyRows v) (atomsCheck (atoms v)) (lentCheck lent) (tableCheck room))
     where
       regroup : (r k l t : Check)
           → ((r then k then l) then t then accepted (counts v)) ≡ ((r then k then l then t) then accepted (counts v))
@@ -170,4 +174,4 @@ module _ (v s : List ℕ) where
       let value = accepted (length (chain s)) in
       follows (tries-append (tries-append (tries-vocabulary v) tries-form) (tries-chain (chain s)))
       (vocabulary-then v (script.formCheck v s) (ran then value)
-      ∙ sym (then-assoc (recordsCheck v then script.formCheck v s) ran value))
+      ∙ sym (then-assoc (vocabularyRows v then script.formCheck v s) ran value))

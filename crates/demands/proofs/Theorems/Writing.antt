@@ -12,22 +12,26 @@ use mathlib.Core.Bool.{true}
 use mathlib.Core.List.{List, [], _∷_, _++_, append-assoc, append-nil}
 use mathlib.Core.Logic.{_⊎_, inl, inr}
 use lib.ListN.{length, getD, take, drop, length-append, length-drop, List·getD-append}
-use lib.Seq.{length-take-le, take-at, drop-at, getD-take, getD-drop, getD-append-add}
+use lib.Seq.{length-take-le, take-at, drop-append-le, getD-take, getD-drop, getD-append-add}
 use borrow.Author.Tests.{lt-ltb, le-leb}
 use Rattle.records.specs.Outcome.{accepted, pass, require}
-use Rattle.records.specs.Format.{recordSize, recordLimit, recordBytes, recordAt, count, roleCount}
-use Rattle.records.specs.Check.{fieldsCheck, recordsCheck, vocabularyCheck, IsWellFormed}
+use Rattle.records.specs.Format.{recordSize, recordLimit, wordAt, recordBytes, recordAt, count, roleCount, edition, atomsHeld}
+use Rattle.records.specs.Atoms.{atoms}
+use Rattle.records.specs.Check.{fieldsCheck, vocabularyRows, vocabularyCheck}
+use Rattle.records.specs.declared.fields.Record.{Record}
+use Rattle.records.proofs.Laws.Parts.{record-bytes}
 use Rattle.records.proofs.Laws.Sets.{length-table}
 use Rattle.records.proofs.Theorems.Growth.{fields-at}
-use Rattle.records.proofs.Theorems.Accepted.{AcceptedFacts, well-formed-vocabulary, accepted-well-formed}
-use Rattle.writer.specs.Additions.{Addition, term, statement, newRecord, linkPlace, relinked, grown, contents, stated}
+use Rattle.records.proofs.Theorems.Accepted.{AcceptedFacts, rows-vocabulary, accepted-rows}
+use Rattle.records.proofs.Theorems.Bounds.{held-atoms}
+use Rattle.writer.specs.Additions.{Addition, term, statement, newRecord, linkPlace, grown, contents, stated}
 use Rattle.writer.specs.Additions.{shown, statementsOf}
 use Rattle.writer.specs.Calls.{emptyHeader, making, roomCheck, isAddable, adding, newLength, bufferAfter}
 use Rattle.writer.proofs.Theorems.Grown as bytes
-use Rattle.writer.proofs.Theorems.Outcomes.{Succeeded, adding-succeeded, adding-reader, records-own, making-succeeded}
+use Rattle.writer.proofs.Theorems.Outcomes.{Succeeded, adding-succeeded, adding-reader, rows-own, making-succeeded}
 use Rattle.writer.proofs.Theorems.Reading as reading
 use Rattle.demands.specs.Table.{vocabularyTable, AcceptedVocabulary, Refuses, Follows}
-use Rattle.demands.specs.Promises.{Reached, OffLink, AtChainEnd, OnlyNew, Roomy, AsReader, Succeed, Built, Shows}
+use Rattle.demands.specs.Promises.{Reached, OffLink, OffCount, AtChainEnd, OnlyNew, Roomy, AsReader, Succeed, Built, Shows}
 use Rattle.demands.specs.Promises.{WritesVocabularies}
 use Rattle.demands.proofs.Laws.Rows.{follows, refuses-first}
 use Rattle.demands.proofs.Theorems.Tables.{tries-vocabulary, vocabulary-follows}
@@ -44,7 +48,7 @@ module _ (buffer : List ℕ) (used : ℕ) (x : Addition) (n : ℕ) (done : Succe
   after = w ++ drop (length w) buffer
 
   abbrev good : AcceptedFacts v
-  good = well-formed-vocabulary v (done .fit .well)
+  good = rows-vocabulary v (done .fit .accepts)
 
   in-use : length v ≡ used
   in-use = length-take-le used buffer (done .fit .within)
@@ -70,12 +74,12 @@ module _ (buffer : List ℕ) (used : ℕ) (x : Addition) (n : ℕ) (done : Succe
   off (statement a b) i (inl h) = (λ e. omega arith, λ e. omega arith)
   off (statement a b) i (inr h) = (λ e. omega arith, λ e. omega arith)
 
-  kept : (i : ℕ) → (i < used) ⊎ (used + recordSize ≤ i) → OffLink v x i → getD after i 0 ≡ getD buffer i 0
-  kept i (inl h) o =
+  kept : (i : ℕ) → (i < used) ⊎ (used + recordSize ≤ i) → OffLink v x i → OffCount v i → getD after i 0 ≡ getD buffer i 0
+  kept i (inl h) o k =
       front i (omega arith)
-      ∙ bytes.byte-kept v good x i (omega (arith, in-use)) (off x i o)
+      ∙ bytes.grown-kept v good x i (omega (arith, in-use)) (off x i o) k
       ∙ getD-take used buffer i 0 h
-  kept i (inr h) o = behind i h
+  kept i (inr h) o k = behind i h
 
   reached : (y : Addition) → y ≡ x → Reached v y after
   reached (term kind a b) e = tt
@@ -83,19 +87,33 @@ module _ (buffer : List ℕ) (used : ℕ) (x : Addition) (n : ℕ) (done : Succe
       let within = bytes.link-within v good in
       let here = linkPlace v in
       rw (front here (omega (arith, within, in-use)), front (here + 1) (omega (arith, within, in-use)), ← e)
-      (bytes.link-written v good a b)
+      (bytes.grown-link v good a b)
 
   new : take recordSize (drop used after) ≡ recordBytes (newRecord x)
-  unfolding grown
   new =
-      let r = recordBytes (newRecord x) in
       let rest = drop (length w) buffer in
-      ap (λ (l : List ℕ). take recordSize (drop used l)) (append-assoc (relinked x v) r rest)
-      ∙ ap (take recordSize) (drop-at (relinked x v) (r ++ rest) used (bytes.relinked-length v good x ∙ in-use))
+      let record-there = ap (λ (m : ℕ). drop m w) (sym in-use) ∙ bytes.grown-behind v good x in
+      ap (take recordSize) (drop-append-le used w rest (omega (arith, long)) ∙ ap (λ (l : List ℕ). l ++ rest) record-there)
 
   chained : (y : Addition) → isAddable y ≡ true → fieldsCheck v (count v) (newRecord y) ≡ pass → AtChainEnd v y (grown v y)
-  chained (term kind a b) is own = reading.term-chain v (done .fit .well) (done .fit .few) kind a b is own
-  chained (statement a b) is own = reading.statement-chain v (done .fit .well) (done .fit .few) a b own
+  chained (term kind a b) is own = reading.term-chain v (done .fit .accepts) (done .fit .few) kind a b is own
+  chained (statement a b) is own = reading.statement-chain v (done .fit .accepts) (done .fit .few) a b own
+
+  pub grown-accepted : vocabularyRows w ≡ pass
+  grown-accepted =
+      let fit = done .fit in
+      reading.grown-accepts v x (fit .accepts) (fit .few) (fit .addable) (fit .own)
+
+  same-edition : edition w ≡ edition v
+  same-edition =
+      let fit = done .fit in
+      reading.grown-edition v x (fit .accepts) (fit .few) (fit .addable) (fit .own)
+
+  -- the header's next, by its bytes
+  true-count : edition v ≡ 2 → wordAt after 6 ≡ atoms w
+  true-count two =
+      rw (front 6 (omega arith), front 7 (omega arith))
+      (sym (ap (λ (r : Record). r .next) (record-bytes w 0)) ∙ held-atoms w grown-accepted (same-edition ∙ two))
 
   pub only-new : OnlyNew buffer used x after
   only-new =
@@ -104,24 +122,21 @@ module _ (buffer : List ℕ) (used : ℕ) (x : Addition) (n : ℕ) (done : Succe
         new = new;
         reached = reached x refl;
         kept = kept;
+        same-edition = rw now same-edition;
+        true-count = λ two. rw now (true-count two);
         size = length-append w (drop (length w) buffer)
             ∙ omega (arith, long, length-drop (length w) buffer, done .fit .room);
         grows = now;
         chained = rw now (chained x (done .fit .addable) (done .fit .own));
       }
 
-  pub grown-accepted : IsWellFormed w
-  grown-accepted =
-      let fit = done .fit in
-      reading.grown-well v x (fit .well) (fit .few) (fit .addable) (fit .own)
-
 -- Where there is room, the reader's rows decide.
 module _ (buffer : List ℕ) (used : ℕ) (x : Addition) (room : Roomy buffer used) (is : isAddable x ≡ true) where
   abbrev inUse : List ℕ
   inUse = take used buffer
 
-  well : recordsCheck inUse ≡ pass
-  well = accepted-well-formed inUse (count inUse) (vocabulary-follows inUse .accepted-always (room .accepts))
+  passed : vocabularyRows inUse ≡ pass
+  passed = accepted-rows inUse (count inUse) (vocabulary-follows inUse .accepted-always (room .accepts))
 
   fits : roomCheck inUse (length buffer) ≡ pass
   fits =
@@ -135,22 +150,23 @@ module _ (buffer : List ℕ) (used : ℕ) (x : Addition) (room : Roomy buffer us
   own n p r =
       let adds : require (isAddable x) 3 (count inUse) ≡ pass = rw is in
       fields-at inUse (count inUse) (newRecord x) n p
-      (sym (records-own inUse (length buffer) x well fits adds)
+      (sym (rows-own inUse (length buffer) x passed fits adds)
       ∙ sym (tries-vocabulary (grown inUse x) .same)
       ∙ refuses-first (vocabularyTable (grown inUse x)) n p r)
 
   pub as-reader : AsReader buffer used x
   as-reader =
       record {
-        same = follows (tries-vocabulary (grown inUse x)) (adding-reader buffer used x (room .within) well fits is);
+        same = follows (tries-vocabulary (grown inUse x)) (adding-reader buffer used x (room .within) passed fits is);
         own = own;
       }
 
 -- What holds of a buffer while additions succeed.
 pub record State (buffer : List ℕ) (used n : ℕ) (l : List Addition) : Type 0 where
   pub within : used ≤ length buffer
-  pub well : IsWellFormed (take used buffer)
+  pub accepts : vocabularyRows (take used buffer) ≡ pass
   pub roles : roleCount (take used buffer) ≡ n
+  pub two : edition (take used buffer) ≡ 2
   pub records : contents (take used buffer) ≡ l
   pub statements : stated (take used buffer) ≡ statementsOf l
 
@@ -172,11 +188,12 @@ module _ (roles : ℕ) where
       let now = in-use-after (grown v x) buffer n (done .long) in
       rw (done .outcome) record {
         within = now .0;
-        well = rw (now .1) (reading.grown-well v x (fit .well) (fit .few) (fit .addable) (fit .own));
-        roles = rw (now .1) (reading.grown-roles v x (fit .well) (fit .few) (fit .addable) (fit .own) ∙ s .roles);
-        records = rw (now .1) (reading.grown-contents v x (fit .well) (fit .few) (fit .addable) (fit .own)
+        accepts = rw (now .1) (reading.grown-accepts v x (fit .accepts) (fit .few) (fit .addable) (fit .own));
+        roles = rw (now .1) (reading.grown-roles v x (fit .accepts) (fit .few) (fit .addable) (fit .own) ∙ s .roles);
+        two = rw (now .1) (reading.grown-edition v x (fit .accepts) (fit .few) (fit .addable) (fit .own) ∙ s .two);
+        records = rw (now .1) (reading.grown-contents v x (fit .accepts) (fit .few) (fit .addable) (fit .own)
             ∙ ap (λ (m : List Addition). m ++ (x ∷ [])) (s .records));
-        statements = rw (now .1) (reading.grown-stated v (fit .well) (fit .few) x (fit .addable) (fit .own)
+        statements = rw (now .1) (reading.grown-stated v (fit .accepts) (fit .few) x (fit .addable) (fit .own)
             ∙ ap (λ (m : List Addition). m ++ statementsOf (x ∷ [])) (s .statements)
             ∙ sym (reading.statements-append l (x ∷ [])));
       }
@@ -198,8 +215,9 @@ module _ (roles : ℕ) where
       let now = in-use-after (recordBytes (emptyHeader roles)) lent n (done .long) in
       rw (done .outcome) record {
         within = now .0;
-        well = rw (now .1) (reading.empty-well roles (done .few));
+        accepts = rw (now .1) (reading.empty-accepts roles (done .few));
         roles = rw (now .1) (reading.empty-roles roles (done .few));
+        two = rw (now .1) (reading.empty-edition roles (done .few));
         records = rw (now .1) (reading.empty-contents roles (done .few));
         statements = rw (now .1) (reading.empty-stated roles (done .few));
       }
@@ -208,14 +226,16 @@ module _ (roles : ℕ) where
   unfolding contents vocabularyCheck
   shows after used l s =
       let v = take used after in
-      let accepts : vocabularyCheck v ≡ accepted (count v) = rw (s .well) in
-      let header = well-formed-vocabulary v (s .well) .sized .least in
+      let accepts : vocabularyCheck v ≡ accepted (count v) = rw (s .accepts) in
+      let header = rows-vocabulary v (s .accepts) .sized .least in
       let listed = length-table (count v - 1) (λ i. shown (recordAt v (suc i))) in
       let all : count v ≡ 1 + length l = omega (arith, header, listed, ap length (s .records)) in
       record {
         accepts = vocabulary-follows v .accepted-only (count v) accepts .0;
         counted = accepts ∙ ap (λ (n : ℕ). accepted n) all;
         roles = s .roles;
+        second-edition = s .two;
+        held = held-atoms v (s .accepts) (s .two);
         records = s .records;
         statements = s .statements;
       }

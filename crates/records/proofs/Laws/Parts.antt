@@ -5,17 +5,21 @@
 --   word-bytes                                       a number is read from its bytes
 --   fieldsAt, record-bytes                           a record's fields, by the bytes of the vocabulary
 --   record-behind                                    a record is read from its bytes, behind others
+--   record-same, record-take, record-front           a record goes by its bytes, so it is read from a front that has it
+--   ButHeld, held-same, held-put, held-read          a vocabulary with another next in its header
+--   put-front                                        a part of a list's front, replaced
 -- Assumes nothing.
 use Prim.Native.Nat.{ℕ, _+_, _*_, _-_, _/_, _%_, _≤_, _<_}
 use native.Mathlib.Omega.{arith}
 use native.Mathlib.Decide.{decLt}
 use mathlib.Core.Path.{_≡_, refl, sym, ap, _∙_}
-use mathlib.Core.List.{List, [], _∷_, _++_}
+use mathlib.Core.List.{List, [], _∷_, _++_, append-assoc}
+use mathlib.Core.Logic.{_⊎_, inl, inr}
 use lib.ListN.{length, getD, take, drop, length-append, length-drop, List·getD-append}
 use lib.Seq.{length-take-le, getD-take, getD-drop, getD-append-add, drop-at, drop-drop, take-take, take-add, take-append-add}
-use lib.Seq.{drop-append-add}
+use lib.Seq.{drop-append-add, take-append-le, drop-append-le}
 use Rattle.records.specs.Finite.{put}
-use Rattle.records.specs.Format.{recordSize, wordAt, wordBytes, recordOf, partAt, recordAt, recordBytes}
+use Rattle.records.specs.Format.{recordSize, placeOfNext, wordAt, wordBytes, recordOf, partAt, recordAt, recordBytes}
 use Rattle.records.specs.declared.fields.Record.{Record}
 
 module _ {A : Type 0} (l : List A) (at : ℕ) (others : List A) (fits : at + length others ≤ length l) where
@@ -133,3 +137,71 @@ pub record-behind : (l : List ℕ) (i : ℕ) (r : Record) → length l ≡ recor
 unfolding recordAt
 record-behind l i r e =
     ap (λ (m : List ℕ). recordOf (take recordSize m)) (drop-at l (recordBytes r) (recordSize * i) e) ∙ record-written r
+
+-- A record goes by its bytes.
+pub record-same : (v w : List ℕ) (i : ℕ)
+    → ((n : ℕ) → recordSize * i ≤ n → n < recordSize * i + recordSize → getD v n 0 ≡ getD w n 0) → recordAt v i ≡ recordAt w i
+record-same v w i same =
+    let at = recordSize * i in
+    rw (record-bytes v i, record-bytes w i)
+    (rw (
+      same at (omega arith) (omega arith),
+      same (at + 1) (omega arith) (omega arith),
+      same (at + 2) (omega arith) (omega arith),
+      same (at + 2 + 1) (omega arith) (omega arith),
+      same (at + 4) (omega arith) (omega arith),
+      same (at + 4 + 1) (omega arith) (omega arith),
+      same (at + 6) (omega arith) (omega arith),
+      same (at + 6 + 1) (omega arith) (omega arith),
+    ))
+
+pub record-take : (l : List ℕ) (n i : ℕ) → recordSize * i + recordSize ≤ n → recordAt (take n l) i ≡ recordAt l i
+record-take l n i fits = record-same (take n l) l i (λ m p h. getD-take n l m 0 (omega arith))
+
+pub record-front : (l r : List ℕ) (i : ℕ) → recordSize * i + recordSize ≤ length l → recordAt (l ++ r) i ≡ recordAt l i
+record-front l r i fits = record-same (l ++ r) l i (λ m p h. List·getD-append l r 0 m (omega arith))
+
+-- u is w but for the header's next.
+pub record ButHeld (u w : List ℕ) : Type 0 where
+  pub size : length u ≡ length w
+  pub later : (j : ℕ) → 0 < j → recordAt u j ≡ recordAt w j
+  pub kind : recordAt u 0 .kind ≡ recordAt w 0 .kind
+  pub second : recordAt u 0 .second ≡ recordAt w 0 .second
+  pub a : recordAt u 0 .a ≡ recordAt w 0 .a
+  pub b : recordAt u 0 .b ≡ recordAt w 0 .b
+
+pub held-same : (w : List ℕ) → ButHeld w w
+held-same w = record { size = refl; later = λ j p. refl; kind = refl; second = refl; a = refl; b = refl }
+
+module _ (w : List ℕ) (k : ℕ) (fits : recordSize ≤ length w) where
+  abbrev holding : List ℕ
+  holding = put w placeOfNext (wordBytes k)
+
+  byte : (i : ℕ) → (i < placeOfNext) ⊎ (recordSize ≤ i) → getD holding i 0 ≡ getD w i 0
+  byte i (inl h) = pair-off w placeOfNext k (omega arith) i (λ e. omega arith) (λ e. omega arith)
+  byte i (inr h) = pair-off w placeOfNext k (omega arith) i (λ e. omega arith) (λ e. omega arith)
+
+  header : (v : List ℕ) → recordAt v 0 ≡ fieldsAt v 0
+  header v = record-bytes v 0
+
+  pub held-put : ButHeld holding w
+  held-put =
+      record {
+        size = put-length w placeOfNext (wordBytes k) (omega arith);
+        later = λ j p. record-same holding w j (λ n l h. byte n (inr (omega arith)));
+        kind = rw (header holding, header w) (byte 0 (inl (omega arith)));
+        second = rw (header holding, header w) (byte 1 (inl (omega arith)));
+        a = rw (header holding, header w, byte 2 (inl (omega arith)), byte 3 (inl (omega arith)));
+        b = rw (header holding, header w, byte 4 (inl (omega arith)), byte 5 (inl (omega arith)));
+      }
+
+  pub held-read : recordAt holding 0 .next ≡ k
+  held-read = ap (λ (r : Record). r .next) (header holding) ∙ pair-word w placeOfNext k (omega arith)
+
+-- What replaces a part of a front leaves what lies behind it.
+pub put-front : {A : Type 0} (l r : List A) (at : ℕ) (others : List A) → at + length others ≤ length l
+    → put (l ++ r) at others ≡ put l at others ++ r
+put-front {A = A} l r at others fits =
+    let rest = drop (at + length others) l in
+    rw (take-append-le at l r (omega arith), drop-append-le (at + length others) l r fits)
+    (sym (append-assoc (take at l) (others ++ rest) r ∙ ap (λ (m : List A). take at l ++ m) (append-assoc others rest r)))

@@ -5,10 +5,10 @@
 --   Operand, Linked, SortHolds, WellFounded, AcceptedFacts   what is told of a field, of a record, of a vocabulary
 --   RowsPassed, well-formed-rows                   rows 1 to 8 one by one, of a vocabulary that passed them
 --   well-formed-vocabulary                         such a vocabulary gives AcceptedFacts
---   accepted-well-formed                           one that the vocabulary check accepts passed them
---   vocabulary-refused                             what the vocabulary check refuses
---   vocabulary-then                                what comes after it
---   accepted-vocabulary                            and so gives them
+--   RowsAccepted, rows-accepted, rows-vocabulary   rows 1 to 8 and 28, of one that passed all, which so gives AcceptedFacts
+--   accepted-rows                                  an accepted one passed all
+--   accepted-well-formed, accepted-vocabulary      an accepted one passed rows 1 to 8, and so gives AcceptedFacts
+--   vocabulary-refused, vocabulary-then            what the vocabulary check refuses; what comes after it
 -- Assumes nothing.
 use Prim.Native.Nat.{ℕ, _-_, _*_, _%_, _≤_, _<_}
 use native.Mathlib.Omega.{arith}
@@ -27,7 +27,8 @@ use Rattle.records.specs.Kinds.{Name, Restriction, Statement, Kind, noKi
 use Rattle.records.specs.Kinds.{Sorts}
 use Rattle.records.specs.Check.{firstStatementCheck, lengthFits, lengthCheck, headerFits, headerCheck, kindCheck, named}
 use Rattle.records.specs.Check.{labelled, termFits, linkFits, rowsCheck, recordCheck, nextFits, linkCheck, linksCheck}
-use Rattle.records.specs.Check.{IsWellFormed, recordsCheck, vocabularyCheck}
+use Rattle.records.specs.Check.{IsWellFormed, recordsCheck, heldFits, heldCheck, vocabularyRows, vocabularyCheck}
+use Rattle.records.specs.Atoms.{atoms}
 use Rattle.records.specs.Code.Fields.{fieldFits}
 use Rattle.records.specs.declared.fields.Record.{Record}
 use Rattle.records.specs.declared.kinds.Sort.{Sort}
@@ -250,13 +251,12 @@ well-formed-vocabulary v e =
     let passed = well-formed-rows v e in
     let r = recordAt v 0 in
     let fit : headerFits r ≡ true = require-passed (headerFits r) 2 0 (passed .header) in
-    let after = both-right (eqb (r .kind) 16) (eqb (r .second) 1 && (leb (r .b) roleLimit && eqb (r .next) 0)) fit in
-    let roles = both-right (eqb (r .second) 1) (leb (r .b) roleLimit && eqb (r .next) 0) after in
+    let edition = eqb (r .second) 2 || (eqb (r .second) 1 && eqb (r .next) 0) in
+    let after = both-right (eqb (r .kind) 16) (leb (r .b) roleLimit && edition) fit in
     record {
       sized = length-passed v (passed .length);
-      header = eqb-true (r .kind) 16
-          (both-left (eqb (r .kind) 16) (eqb (r .second) 1 && (leb (r .b) roleLimit && eqb (r .next) 0)) fit);
-      roles = leb-true (r .b) roleLimit (both-left (leb (r .b) roleLimit) (eqb (r .next) 0) roles);
+      header = eqb-true (r .kind) 16 (both-left (eqb (r .kind) 16) (leb (r .b) roleLimit && edition) fit);
+      roles = leb-true (r .b) roleLimit (both-left (leb (r .b) roleLimit) edition after);
       fields = λ i p h. record-held v i (passed .each i p h);
       labels = λ i j p h q k same.
           let clear = record-unlabelled v i (record-held v i (passed .each i (omega arith) h)) q in
@@ -267,24 +267,41 @@ well-formed-vocabulary v e =
       rises = λ i p h q. record-linked v i (passed .links i p h) q;
     }
 
--- What the vocabulary check accepts passed rows 1 to 8.
-pub accepted-well-formed : (v : List ℕ) (n : ℕ) → vocabularyCheck v ≡ accepted n → IsWellFormed v
-unfolding vocabularyCheck
-accepted-well-formed v n e = then-passed (recordsCheck v) (accepted (count v)) n e .0
+-- What all rows of the vocabulary check tell: those of rows 1 to 8, and row 28.
+pub record RowsAccepted (v : List ℕ) : Type 0 where
+  pub well : IsWellFormed v
+  pub held : heldFits v ≡ true
 
--- What it refuses, rows 1 to 8 refuse.
-pub vocabulary-refused : (v : List ℕ) (n p : ℕ) → vocabularyCheck v ≡ refused n p → recordsCheck v ≡ refused n p
+pub rows-accepted : (v : List ℕ) → vocabularyRows v ≡ pass → RowsAccepted v
+unfolding vocabularyRows
+rows-accepted v e =
+    let both = then-passed (recordsCheck v) (heldCheck v) tt e in
+    record { well = both .0; held = require-passed (heldFits v) 28 (atoms v) (both .1) }
+
+pub rows-vocabulary : (v : List ℕ) → vocabularyRows v ≡ pass → AcceptedFacts v
+rows-vocabulary v e = well-formed-vocabulary v (rows-accepted v e .well)
+
+-- What the vocabulary check accepts passed all rows.
+pub accepted-rows : (v : List ℕ) (n : ℕ) → vocabularyCheck v ≡ accepted n → vocabularyRows v ≡ pass
 unfolding vocabularyCheck
-vocabulary-refused v n p e = then-stops (recordsCheck v) (count v) n p e
+accepted-rows v n e = then-passed (vocabularyRows v) (accepted (count v)) n e .0
+
+pub accepted-well-formed : (v : List ℕ) (n : ℕ) → vocabularyCheck v ≡ accepted n → IsWellFormed v
+accepted-well-formed v n e = rows-accepted v (accepted-rows v n e) .well
 
 pub accepted-vocabulary : (v : List ℕ) (n : ℕ) → vocabularyCheck v ≡ accepted n → AcceptedFacts v
-accepted-vocabulary v n e = well-formed-vocabulary v (accepted-well-formed v n e)
+accepted-vocabulary v n e = rows-vocabulary v (accepted-rows v n e)
 
--- What comes after the vocabulary check comes after rows 1 to 8.
-pub vocabulary-then : {B C : Type 0} (v : List ℕ) (b : Outcome B) (c : Outcome C)
-    → (vocabularyCheck v then b then c) ≡ ((recordsCheck v then b) then c)
+-- What it refuses, its rows refuse.
+pub vocabulary-refused : (v : List ℕ) (n p : ℕ) → vocabularyCheck v ≡ refused n p → vocabularyRows v ≡ refused n p
 unfolding vocabularyCheck
-vocabulary-then v b c = at (recordsCheck v)
+vocabulary-refused v n p e = then-stops (vocabularyRows v) (count v) n p e
+
+-- What comes after the vocabulary check comes after its rows.
+pub vocabulary-then : {B C : Type 0} (v : List ℕ) (b : Outcome B) (c : Outcome C)
+    → (vocabularyCheck v then b then c) ≡ ((vocabularyRows v then b) then c)
+unfolding vocabularyCheck
+vocabulary-then v b c = at (vocabularyRows v)
   where
     at : (r : Check) → ((r then accepted (count v)) then b then c) ≡ ((r then b) then c)
     at (accepted u) = refl

@@ -1,10 +1,11 @@
 -- A vocabulary with one record more, and the link that reaches it.
---   relink, Grows                what w has of v: all but the new record and a link
+--   relink, Grows                what w has of v: all but the new record, a link and the k of edition 2
 --   header-alone                 the smallest vocabulary
 --   grown-count                  there is one record more
 --   fields-at                    a record's rows refuse at its number
 --   fields-same, grown-record    a record's rows look at the records before it, and so do those of the new one
---   grows-records, grows-check   rows 1 to 8, and the vocabulary check, of w are those of the new record
+--   atoms-grown                  w has one atom more, if the new record is one
+--   grows-rows, grows-check      the rows of the vocabulary check, and the check, of w are those of the new record
 --   chain-kept, chain-grown      the chain of w
 -- Assumes nothing.
 use Prim.Native.Nat.{ℕ, zero, suc, _+_, _-_, _*_, _%_, _≤_, _<_}
@@ -18,14 +19,15 @@ use lib.ListN.{length}
 use lib.Dec.{ltb, leb, eqb}
 use borrow.Author.Tests.{lt-ltb, le-ltb, le-leb, eq-eqb, ne-eqb, eqb-true}
 use Rattle.records.specs.Outcome.{Check, accepted, pass, _then_, require, inTurn}
-use Rattle.records.specs.Finite.{anyBelow, lastOr}
-use Rattle.records.specs.Format.{recordSize, recordLimit, recordAt, count, firstStatement, roleCount}
-use Rattle.records.specs.Kinds.{Sorts, kindOf, isTerm, isStatement, sortsOf}
+use Rattle.records.specs.Finite.{digit, anyBelow, lastOr}
+use Rattle.records.specs.Format.{recordSize, recordLimit, recordAt, count, firstStatement, roleCount, edition, atomsHeld}
+use Rattle.records.specs.Kinds.{Sorts, kindOf, isTerm, isAtom, isStatement, sortsOf}
+use Rattle.records.specs.Atoms.{rank, atoms}
 use Rattle.records.specs.Chain.{nextStatement, follow, chain, chainEnd}
 use Rattle.records.specs.Check.{lengthFits, lengthCheck, headerFits, headerCheck, named, labelled, termFits, linkFits}
 use Rattle.records.specs.Check.{kindFits, kindCheck, clear, rowFits, rowCheck, rowsCheck, fieldsCheck, recordCheck}
 use Rattle.records.specs.Check.{firstStatementCheck, nextFits, linkCheck, linksCheck, recordsCheck, IsWellFormed}
-use Rattle.records.specs.Check.{vocabularyCheck}
+use Rattle.records.specs.Check.{heldFits, heldCheck, vocabularyRows, vocabularyCheck}
 use Rattle.records.specs.declared.fields.Record.{Record}
 use Rattle.records.specs.declared.kinds.Sort.{Sort}
 use Rattle.records.specs.declared.kinds.Sort.the-variants.{Spare, Term, Role, Label, Link}
@@ -38,12 +40,13 @@ use Rattle.records.proofs.Theorems.Accepted.{well-formed-rows, well-for
 use Rattle.records.proofs.Theorems.Following.{Ahead, Onward, Carried, follow-nil, follow-ends, follow-cong}
 use Rattle.records.proofs.Theorems.Following.{follow-linked, last-above}
 use Rattle.records.proofs.Theorems.Chains.{end-statement}
+use Rattle.records.proofs.Theorems.Ranks.{rank-cong}
 
 -- The link x of record j: to a new statement, where j is the end of the chain; else as it was.
 abbrev pub relink : List ℕ → Record → ℕ → ℕ → ℕ
 relink v r j x = cond (isStatement (r .kind) && eqb j (chainEnd v)) (count v) x
 
--- w is v with the record r behind it, and the link that reaches it.
+-- w is v with the record r behind it, the link that reaches it, and an atom counted.
 pub record Grows (v w : List ℕ) (r : Record) : Type 0 where
   pub longer : length w ≡ length v + recordSize
   pub new : recordAt w (count v) ≡ r
@@ -53,7 +56,7 @@ pub record Grows (v w : List ℕ) (r : Record) : Type 0 where
   pub a : (j : ℕ) → 0 < j → j < count v → recordAt w j .a ≡ recordAt v j .a
   pub first : firstStatement w ≡ relink v r 0 (firstStatement v)
   pub next : (j : ℕ) → 0 < j → j < count v → recordAt w j .next ≡ relink v r j (recordAt v j .next)
-  pub unlinked : recordAt w 0 .next ≡ recordAt v 0 .next
+  pub held : atomsHeld w ≡ cond (eqb (edition v) 2 && isAtom (r .kind)) (atoms w) (atomsHeld v)
 
 -- A header alone is a vocabulary.
 pub header-alone : (v : List ℕ) → length v ≡ recordSize → headerFits (recordAt v 0) ≡ true → firstStatement v ≡ 0 → IsWellFormed v
@@ -176,9 +179,33 @@ module _ (v w : List ℕ) (r : Record) (well : IsWellFormed v) (few : count v < 
         eq-eqb (length w % recordSize) 0 (omega (arith, grows .longer, s .whole)),
       )
 
+  header-same : (e : Bool) → eqb (edition v) 2 ≡ e → headerFits (recordAt w 0) ≡ headerFits (recordAt v 0)
+  header-same true q = rw (grows .kind 0 some, grows .second 0 some, grows .b 0 some, q)
+  header-same false q =
+      let kept : atomsHeld w ≡ atomsHeld v = grows .held ∙ rw q in
+      rw (grows .kind 0 some, grows .second 0 some, grows .b 0 some, kept)
+
   header-grown : headerCheck w ≡ pass
-  header-grown =
-      rw (grows .kind 0 some, grows .second 0 some, grows .b 0 some, grows .unlinked) (passed .header)
+  header-grown = rw (header-same (eqb (edition v) 2) refl) (passed .header)
+
+  pub atoms-grown : atoms w ≡ atoms v + digit (isAtom (r .kind))
+  unfolding rank
+  atoms-grown = rw (grown-count, rank-cong w v (count v) (grows .kind), grows .new)
+
+  -- Row 28: an atom is counted, and nothing else is.
+  held-grown : heldFits v ≡ true → heldCheck w ≡ pass
+  held-grown h = rw (at (eqb (edition v) 2) refl (isAtom (r .kind)) refl h)
+    where
+      at : (e : Bool) → eqb (edition v) 2 ≡ e → (a : Bool) → isAtom (r .kind) ≡ a
+          → (not e || eqb (atomsHeld v) (atoms v)) ≡ true → heldFits w ≡ true
+      at false q a k f = rw (grows .second 0 some, q)
+      at true q true k f =
+          let own : atomsHeld w ≡ atoms w = grows .held ∙ rw (q, k) in
+          rw (grows .second 0 some, q, eq-eqb (atomsHeld w) (atoms w) own)
+      at true q false k f =
+          let kept : atomsHeld w ≡ atomsHeld v = grows .held ∙ rw (q, k) in
+          let same : atoms w ≡ atoms v = atoms-grown ∙ rw k (omega arith) in
+          rw (grows .second 0 some, q, kept, same) f
 
   -- Links of v lead on in w, and so does the new one.
   linked-on : (j x : ℕ) → Linked v j x → Linked w j x
@@ -244,15 +271,20 @@ module _ (v w : List ℕ) (r : Record) (well : IsWellFormed v) (few : count v < 
         rw first-grown (turns-pass (linkCheck w) (count w - 1) 1
         (λ k l h. link-grown k l (omega (arith, grown-count))))
 
-    -- Of w nothing but the new record is left to check.
-    pub grows-records : recordsCheck w ≡ fieldsCheck v (count v) r
+    grows-records : recordsCheck w ≡ fieldsCheck v (count v) r
     unfolding recordsCheck
     grows-records =
         rw (length-grown, header-grown, records-grown, links-grown) (then-pass (fieldsCheck v (count v) r))
 
-    pub grows-check : vocabularyCheck w ≡ (fieldsCheck v (count v) r then accepted (suc (count v)))
-    unfolding vocabularyCheck
-    grows-check = rw (grows-records, grown-count)
+    -- Of w nothing but the new record is left to check.
+    module _ (held : heldFits v ≡ true) where
+      pub grows-rows : vocabularyRows w ≡ fieldsCheck v (count v) r
+      unfolding vocabularyRows
+      grows-rows = rw (grows-records, held-grown held) (then-pass (fieldsCheck v (count v) r))
+
+      pub grows-check : vocabularyCheck w ≡ (fieldsCheck v (count v) r then accepted (suc (count v)))
+      unfolding vocabularyCheck
+      grows-check = rw (grows-rows, grown-count)
 
   -- The chain, where the new record is no statement.
   pub chain-kept : isStatement (r .kind) ≡ false → chain w ≡ chain v

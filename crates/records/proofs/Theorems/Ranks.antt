@@ -1,5 +1,5 @@
 -- Atoms are numbered in record order.
---   rank-turn                         atoms counted, one record further
+--   rank-turn, rank-cong              atoms counted, one record further; they are told by the kinds
 --   rank-mono, rank-next, rank-same   a later atom has a greater number
 --   rank-below, rank-bound            an atom's number is below their count, and no more than its record's
 --   class-few, names-few              records of a class of atoms, as names are, are no more than the atoms
@@ -9,7 +9,7 @@ use Prim.Native.Nat.{ℕ, zero, suc, _+_, _≤_, _<_}
 use native.Mathlib.Omega.{arith}
 use native.Mathlib.Decide.{ℕ-discrete, decLt}
 use native.Mathlib.Numerals.{add-one}
-use mathlib.Core.Path.{_≡_}
+use mathlib.Core.Path.{_≡_, refl}
 use mathlib.Core.Bool.{Bool, true}
 use mathlib.Core.List.{List}
 use Rattle.records.specs.Format.{recordAt, count}
@@ -25,6 +25,11 @@ pub rank-turn : (v : List ℕ) (i found : ℕ) (b : Bool) → found ≡ rank v i
     → found + digit b ≡ rank v (i + 1)
 unfolding rank
 rank-turn v i found b e q = rw (add-one, e, q)
+
+pub rank-cong : (v w : List ℕ) (n : ℕ) → ((i : ℕ) → i < n → recordAt v i .kind ≡ recordAt w i .kind) → rank v n ≡ rank w n
+unfolding rank
+rank-cong v w zero same = refl
+rank-cong v w (suc n) same = rw (rank-cong v w n (λ i h. same i (omega arith)), same n (omega arith))
 
 module _ (v : List ℕ) where
   pub rank-mono : (i j : ℕ) → i ≤ j → rank v i ≤ rank v j

@@ -8,10 +8,10 @@ use mathlib.Core.List.{List}
 use lib.Dec.{leb}
 use borrow.Author.Tests.{leb-true, le-leb}
 use Rattle.records.specs.Outcome.{accepted, _then_}
-use Rattle.records.specs.Check.{recordsCheck, vocabularyCheck}
+use Rattle.records.specs.Check.{vocabularyRows, vocabularyCheck}
 use Rattle.records.specs.Atoms.{atoms}
 use Rattle.records.proofs.Laws.Checks.{require-passed, then-passed}
-use Rattle.records.proofs.Theorems.Accepted.{AcceptedFacts, well-formed-vocabulary, vocabulary-then}
+use Rattle.records.proofs.Theorems.Accepted.{AcceptedFacts, rows-vocabulary, vocabulary-then}
 use Rattle.types.specs.declared.answers.Counts.{Counts}
 use Rattle.types.specs.Comparison.{atomLimit, bitmapBytes, atomsCheck, lentCheck, sizeCheck, counts}
 use Rattle.taxonomy.specs.Taxonomy.{taxonomyBytes, tableCheck, classification}
@@ -29,13 +29,13 @@ module _ (v : List ℕ) (lent room : ℕ) where
   answered c e =
       let size = sizeCheck (atoms v) lent in
       let last = tableCheck room then accepted (counts v) in
-      let all = then-passed (recordsCheck v then size) last c (sym (vocabulary-then v size last) ∙ e) in
-      let early = then-passed (recordsCheck v) size tt (all .0) in
+      let all = then-passed (vocabularyRows v then size) last c (sym (vocabulary-then v size last) ∙ e) in
+      let early = then-passed (vocabularyRows v) size tt (all .0) in
       let late = then-passed (tableCheck room) (accepted (counts v)) c (all .1) in
       let sized = then-passed (atomsCheck (atoms v)) (lentCheck lent) tt (early .1) in
       let known : accepted (counts v) ≡ accepted c = late .1 in
       record {
-        good = well-formed-vocabulary v (early .0);
+        good = rows-vocabulary v (early .0);
         few = leb-true (atoms v) atomLimit (require-passed (leb (atoms v) atomLimit) 11 (atoms v) (sized .0));
         first = leb-true bitmapBytes lent (require-passed (leb bitmapBytes lent) 12 0 (sized .1));
         second = leb-true taxonomyBytes room (require-passed (leb taxonomyBytes room) 26 0 (late .0));

@@ -20,10 +20,12 @@ use Rattle.records.specs.declared.answers.Checked.{Checked}
 use Rattle.records.specs.declared.answers.Checked.the-variants.{Fine, Refused}
 use Rattle.records.proofs.Laws.Checks.{checked-fine, require-passed}
 use Rattle.records.proofs.Laws.Parts.{put-length}
-use Rattle.records.proofs.Theorems.Accepted.{AcceptedFacts, well-formed-vocabulary}
+use Rattle.records.proofs.Theorems.Accepted.{AcceptedFacts, rows-vocabulary}
 use Rattle.writer.specs.Additions.{Addition, term, statement, newRecord, linkPlace, relinked, grown}
 use Rattle.writer.specs.Calls.{emptyHeader, making, adding, newLength, bufferAfter}
-use Rattle.writer.proofs.Refinement.Buffer.{use-length, use-count, record-behind, link-behind}
+use Rattle.writer.specs.Code.Counting.{raised}
+use Rattle.writer.proofs.Refinement.Buffer.{use-length, use-count, link-behind}
+use Rattle.writer.proofs.Refinement.Counting.{term-written}
 use Rattle.writer.proofs.Theorems.Grown.{grown-length, link-within}
 use Rattle.writer.proofs.Theorems.Outcomes.{Fit}
 
@@ -44,7 +46,7 @@ module _ (buffer : List ℕ) (used : ℕ) (y : Addition) (fit : Fit buffer used 
   inUse = take used buffer
 
   abbrev good : AcceptedFacts inUse
-  good = well-formed-vocabulary inUse (fit .well)
+  good = rows-vocabulary inUse (fit .accepts)
 
   long : (x : Addition) → used + recordSize ≡ length (grown inUse x)
   long x = sym (grown-length inUse good x ∙ ap (λ (n : ℕ). n + recordSize) (use-length buffer used (fit .within)))
@@ -57,15 +59,6 @@ module _ (buffer : List ℕ) (used : ℕ) (y : Addition) (fit : Fit buffer used 
       ∙ put-length buffer (linkPlace inUse) (wordBytes (used / recordSize))
       (omega (arith, link-within inUse good, use-length buffer used (fit .within), fit .within))
 
-  pub term-answers : (kind a b : ℕ) (after : List ℕ) → let x = term kind a b in
-      adding buffer used x ≡ accepted (grown inUse x) → after ≡ put buffer used (recordBytes (newRecord x))
-      → Answers (adding buffer used x) buffer (accepted (used + recordSize)) after
-  unfolding grown
-  term-answers kind a b after q e =
-      let x = term kind a b in
-      written-answers (adding buffer used x) buffer (grown inUse x) after _ q (long x)
-      (e ∙ record-behind buffer used (fit .within) (newRecord x))
-
   pub statement-answers : (a b : ℕ) (linked after : List ℕ) → let x = statement a b in
       adding buffer used x ≡ accepted (grown inUse x) → linked ≡ put buffer (linkPlace inUse) (wordBytes (used / recordSize))
       → after ≡ put linked used (recordBytes (newRecord x))
@@ -77,6 +70,18 @@ module _ (buffer : List ℕ) (used : ℕ) (y : Addition) (fit : Fit buffer used 
       (e ∙ rw (l, ← use-count buffer used (fit .within))
       (link-behind buffer used (fit .within) (linkPlace inUse) (count inUse) (newRecord x)
       (omega (arith, link-within inUse good, use-length buffer used (fit .within))) (fit .room)))
+
+-- A term that was written.
+module _ (buffer : List ℕ) (used kind a b : ℕ) (fit : Fit buffer used (term kind a b)) where
+  abbrev x : Addition
+  x = term kind a b
+
+  pub term-answers : (counted after : List ℕ) → adding buffer used x ≡ accepted (grown (take used buffer) x)
+      → counted ≡ raised kind buffer → after ≡ put counted used (recordBytes (newRecord x))
+      → Answers (adding buffer used x) buffer (accepted (used + recordSize)) after
+  term-answers counted after q c e =
+      written-answers (adding buffer used x) buffer (grown (take used buffer) x) after _ q (long buffer used x fit x)
+      (e ∙ ap (λ (l : List ℕ). put l used (recordBytes (newRecord x))) c ∙ term-written buffer used kind a b fit)
 
 -- An empty vocabulary being made: first the room, then the roles.
 module _ (buffer : List ℕ) (roles : ℕ) where

@@ -3,7 +3,7 @@
 --   addition-checks, adding-checks   an addition is the code's checks, and then the grown bytes
 --   length-then, refused-length      the new length, after checks; a refusal
 --   adding-rows, adding-reader       the new length, after the rows of an addition, and after the reader's
---   Fit, checks-fit, fit-small       what passed checks tell
+--   Fit, checks-fit, fit-well, ..    what passed checks tell
 --   adding-refused, adding-fine      the outcome, by what the checks answered
 --   Succeeded, adding-succeeded      an addition that succeeded
 --   Made, making-succeeded           an empty vocabulary that was made
@@ -20,14 +20,14 @@ use borrow.Author.Tests.{ltb-true, leb-true, le-leb}
 use Rattle.records.specs.Outcome.{Outcome, Check, accepted, refused, pass, _then_, require}
 use Rattle.records.specs.Answers.{checked}
 use Rattle.records.specs.Format.{recordSize, recordLimit, roleLimit, recordBytes, count}
-use Rattle.records.specs.Check.{recordsCheck, fieldsCheck, recordCheck, vocabularyCheck, IsWellFormed}
+use Rattle.records.specs.Check.{fieldsCheck, recordCheck, vocabularyRows, vocabularyCheck, IsWellFormed}
 use Rattle.records.specs.declared.answers.Checked.{Checked}
 use Rattle.records.specs.declared.answers.Checked.the-variants.{Fine, Refused}
 use Rattle.records.specs.declared.fields.Record.{Record}
 use Rattle.records.proofs.Laws.Tests.{clash, both-left, both-right}
 use Rattle.records.proofs.Laws.Checks.{refusal-same, then-assoc, then-same, require-passed, then-passed, checked-fine}
-use Rattle.records.proofs.Theorems.Accepted.{well-formed-vocabulary, vocabulary-then}
-use Rattle.records.proofs.Theorems.Growth.{Grows, grows-records, grows-check, grown-record}
+use Rattle.records.proofs.Theorems.Accepted.{RowsAccepted, rows-accepted, rows-vocabulary, vocabulary-then}
+use Rattle.records.proofs.Theorems.Growth.{Grows, grows-rows, grows-check, grown-record}
 use Rattle.writer.specs.Additions.{Addition, term, statement, newRecord, grown}
 use Rattle.writer.specs.Calls.{emptyHeader, making, roomCheck, isAddable, addition, adding, newLength}
 use Rattle.writer.specs.Code.Checks.{newRecordCheck, additionCheck}
@@ -65,26 +65,30 @@ module _ (v : List ℕ) (size : ℕ) (x : Addition) where
   abbrev rest : Outcome (List ℕ)
   rest = require (isAddable x) 3 (count v) then vocabularyCheck (grown v x) then accepted (grown v x)
 
-  -- What a record that passed rows 1 to 8, 27 and 3 is checked for.
-  module _ (well : recordsCheck v ≡ pass) (fits : roomCheck v size ≡ pass) (is : require (isAddable x) 3 (count v) ≡ pass) where
+  -- What is checked of a record where all rows before its own passed.
+  module _ (accepts : vocabularyRows v ≡ pass) (fits : roomCheck v size ≡ pass) (is : require (isAddable x) 3 (count v) ≡ pass) where
+    abbrev facts : RowsAccepted v
+    facts = rows-accepted v accepts
+
     few : count v < recordLimit
     few =
         ltb-true (count v) recordLimit
         (both-left (ltb (count v) recordLimit) (leb (length v + recordSize) size) (require-passed roomy 27 (count v) fits))
 
     grows : Grows v (grown v x) (newRecord x)
-    grows = grown-grows v (well-formed-vocabulary v well) x (require-passed (isAddable x) 3 (count v) is)
+    grows = grown-grows v (rows-vocabulary v accepts) x (require-passed (isAddable x) 3 (count v) is)
 
     -- the reader's check of the bytes with the record is that of the record
     pub reader-own : {B : Type 0} (o : Outcome B) → (vocabularyCheck (grown v x) then o) ≡ (own then o)
     reader-own o =
-        rw (grows-check v (grown v x) (newRecord x) well few grows (new-ends x)) (then-assoc own (accepted (suc (count v))) o)
+        rw (grows-check v (grown v x) (newRecord x) (facts .well) few grows (new-ends x) (facts .held))
+        (then-assoc own (accepted (suc (count v))) o)
 
-    pub records-own : recordsCheck (grown v x) ≡ own
-    records-own = grows-records v (grown v x) (newRecord x) well few grows (new-ends x)
+    pub rows-own : vocabularyRows (grown v x) ≡ own
+    rows-own = grows-rows v (grown v x) (newRecord x) (facts .well) few grows (new-ends x) (facts .held)
 
     pub record-own : recordCheck (grown v x) (count v) ≡ own
-    record-own = grown-record v (grown v x) (newRecord x) well few grows
+    record-own = grown-record v (grown v x) (newRecord x) (facts .well) few grows
 
   pub addition-checks : addition v size x ≡ (newRecordCheck v size (isAddable x) (newRecord x) then accepted (grown v x))
   unfolding addition newRecordCheck
@@ -92,17 +96,17 @@ module _ (v : List ℕ) (size : ℕ) (x : Addition) where
       let is = require (isAddable x) 3 (count v) in
       let done = accepted (grown v x) in
       vocabulary-then v (roomCheck v size) rest
-      ∙ then-assoc (recordsCheck v) (roomCheck v size) rest
-      ∙ then-same (recordsCheck v) (roomCheck v size then rest) (roomCheck v size then is then own then done)
-      (λ well. then-same (roomCheck v size) rest (is then own then done)
+      ∙ then-assoc (vocabularyRows v) (roomCheck v size) rest
+      ∙ then-same (vocabularyRows v) (roomCheck v size then rest) (roomCheck v size then is then own then done)
+      (λ accepts. then-same (roomCheck v size) rest (is then own then done)
       (λ fits. then-same is (vocabularyCheck (grown v x) then done) (own then done)
-      (λ adds. reader-own well fits adds done)))
-      ∙ regroup (recordsCheck v) (roomCheck v size) is own done
+      (λ adds. reader-own accepts fits adds done)))
+      ∙ regroup (vocabularyRows v) (roomCheck v size) is own done
 
 -- What passed checks tell of the buffer, and of the addition.
 pub record Fit (buffer : List ℕ) (used : ℕ) (x : Addition) : Type 0 where
   pub within : used ≤ length buffer
-  pub well : IsWellFormed (take used buffer)
+  pub accepts : vocabularyRows (take used buffer) ≡ pass
   pub few : count (take used buffer) < recordLimit
   pub room : used + recordSize ≤ length buffer
   pub addable : isAddable x ≡ true
@@ -112,9 +116,12 @@ module _ (buffer : List ℕ) (used : ℕ) (x : Addition) where
   abbrev inUse : List ℕ
   inUse = take used buffer
 
+  pub fit-well : Fit buffer used x → IsWellFormed inUse
+  fit-well fit = rows-accepted inUse (fit .accepts) .well
+
   pub fit-small : Fit buffer used x → used ≤ recordSize * recordLimit
   fit-small fit =
-      let good = well-formed-vocabulary inUse (fit .well) in
+      let good = rows-vocabulary inUse (fit .accepts) in
       omega (arith, good .sized .most, length-take-le used buffer (fit .within))
 
   abbrev checks : Check
@@ -133,7 +140,7 @@ module _ (buffer : List ℕ) (used : ℕ) (x : Addition) where
       let new = require (isAddable x) 3 (count inUse) then fieldsCheck inUse (count inUse) (newRecord x) in
       let a = then-passed (require (leb used (length buffer)) 1 0)
       (newRecordCheck inUse (length buffer) (isAddable x) (newRecord x)) tt e in
-      let b = then-passed (recordsCheck inUse) (roomCheck inUse (length buffer) then new) tt (a .1) in
+      let b = then-passed (vocabularyRows inUse) (roomCheck inUse (length buffer) then new) tt (a .1) in
       let c = then-passed (roomCheck inUse (length buffer)) new tt (b .1) in
       let d = then-passed (require (isAddable x) 3 (count inUse)) (fieldsCheck inUse (count inUse) (newRecord x)) tt (c .1) in
       let within : used ≤ length buffer = leb-true _ _ (require-passed (leb used (length buffer)) 1 0 (a .0)) in
@@ -142,7 +149,7 @@ module _ (buffer : List ℕ) (used : ℕ) (x : Addition) where
       (both-right (ltb (count inUse) recordLimit) (leb (length inUse + recordSize) (length buffer)) room) in
       record {
         within = within;
-        well = b .0;
+        accepts = b .0;
         few = ltb-true _ _ (both-left (ltb (count inUse) recordLimit) (leb (length inUse + recordSize) (length buffer)) room);
         room = omega (arith, length-take-le used buffer within, fits);
         addable = require-passed (isAddable x) 3 (count inUse) (d .0);
@@ -151,14 +158,14 @@ module _ (buffer : List ℕ) (used : ℕ) (x : Addition) where
 
   length-fit : Fit buffer used x → length (grown inUse x) ≡ used + recordSize
   length-fit fit =
-      grown-length inUse (well-formed-vocabulary inUse (fit .well)) x
+      grown-length inUse (rows-vocabulary inUse (fit .accepts)) x
       ∙ ap (λ (n : ℕ). n + recordSize) (length-take-le used buffer (fit .within))
 
   -- The rows of an addition, the last of them those of the reader at the new record.
   abbrev pub rows : Check
   rows =
       require (leb used (length buffer)) 1 0
-      then recordsCheck inUse
+      then vocabularyRows inUse
       then roomCheck inUse (length buffer)
       then require (isAddable x) 3 (count inUse)
       then recordCheck (grown inUse x) (count inUse)
@@ -171,9 +178,9 @@ module _ (buffer : List ℕ) (used : ℕ) (x : Addition) where
       let new = fieldsCheck inUse (count inUse) (newRecord x) in
       let read = recordCheck (grown inUse x) (count inUse) in
       ap (λ (o : Check). require (leb used (length buffer)) 1 0 then o)
-      (then-same (recordsCheck inUse) (room then is then new) (room then is then read)
-      (λ well. then-same room (is then new) (is then read)
-      (λ fits. then-same is new read (λ adds. sym (record-own inUse (length buffer) x well fits adds)))))
+      (then-same (vocabularyRows inUse) (room then is then new) (room then is then read)
+      (λ accepts. then-same room (is then new) (is then read)
+      (λ fits. then-same is new read (λ adds. sym (record-own inUse (length buffer) x accepts fits adds)))))
 
   pub adding-rows : newLength (adding buffer used x) ≡ (rows then accepted (used + recordSize))
   adding-rows =
@@ -183,18 +190,18 @@ module _ (buffer : List ℕ) (used : ℕ) (x : Addition) where
       (λ e. ap (λ (n : ℕ). accepted n) (length-fit (checks-fit (checks-rows ∙ e))))
 
   -- Where the bytes in use pass, there is room and the record may be added, the reader's rows of the grown bytes decide.
-  pub adding-reader : used ≤ length buffer → recordsCheck inUse ≡ pass → roomCheck inUse (length buffer) ≡ pass
-      → isAddable x ≡ true → newLength (adding buffer used x) ≡ (recordsCheck (grown inUse x) then accepted (used + recordSize))
-  adding-reader within well fits is =
+  pub adding-reader : used ≤ length buffer → vocabularyRows inUse ≡ pass → roomCheck inUse (length buffer) ≡ pass
+      → isAddable x ≡ true → newLength (adding buffer used x) ≡ (vocabularyRows (grown inUse x) then accepted (used + recordSize))
+  adding-reader within accepts fits is =
       let adds : require (isAddable x) 3 (count inUse) ≡ pass = rw is in
       adding-rows
       ∙ rw (
         le-leb used (length buffer) within,
-        well,
+        accepts,
         fits,
         adds,
-        record-own inUse (length buffer) x well fits adds,
-        records-own inUse (length buffer) x well fits adds,
+        record-own inUse (length buffer) x accepts fits adds,
+        rows-own inUse (length buffer) x accepts fits adds,
       )
 
   module _ (k : Checked) (e : checked k ≡ checks) where

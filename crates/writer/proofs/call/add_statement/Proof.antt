@@ -14,7 +14,7 @@ use Rattle.writer.specs.Additions.{recordWith}
 use Rattle.writer.specs.Additions as additions
 use Rattle.writer.specs.Code.Checks.{additionCheck}
 use Rattle.writer.proofs.Refinement.Calls.{refused-answers, statement-answers, linked-length}
-use Rattle.writer.proofs.Theorems.Outcomes.{Fit, adding-refused, adding-fine, fine-fit, fit-small}
+use Rattle.writer.proofs.Theorems.Outcomes.{Fit, adding-refused, adding-fine, fine-fit, fit-well, fit-small}
 use Rattle.writer.proofs.call.add_statement.Statement.{statement}
 use Rattle.writer.proofs.call.add_statement.Tie as tie
 
@@ -46,7 +46,10 @@ fit c =
     fine-fit (now (a .buffer)) (a .used) (additions.statement (a .a) (a .b)) _ (asked k) (c .enum-told .given .1)
 
 link-behind-requires : tie.Need-link-behind-requires
-link-behind-requires c κs = let f = fit (c .before) in (f .within, f .well)
+link-behind-requires c κs =
+    let f = fit (c .before) in
+    let a = start (c .before .before .before) .args in
+    (f .within, fit-well (now (a .buffer)) (a .used) (additions.statement (a .a) (a .b)) f)
 
 write-record-requires : tie.Need-write-record-requires
 write-record-requires c κs =

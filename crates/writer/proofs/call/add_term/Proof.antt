@@ -1,4 +1,5 @@
--- `writer::call::add_term` meets its contract. A refusal leaves the buffer; else the record is written behind the bytes in use.
+-- `writer::call::add_term` meets its contract. A refusal leaves the buffer; else an atom is counted, and the record written behind
+-- the bytes in use.
 -- Assumes nothing.
 use native.Mathlib.Omega.{arith}
 use mathlib.Core.Bool.{Bool}
@@ -13,6 +14,7 @@ use Rattle.records.specs.Finite.{put}
 use Rattle.writer.specs.Additions.{term, recordWith}
 use Rattle.writer.specs.Code.Checks.{additionCheck}
 use Rattle.writer.proofs.Refinement.Calls.{refused-answers, term-answers}
+use Rattle.writer.proofs.Refinement.Counting.{header-fits, held-small, raised-length}
 use Rattle.writer.proofs.Theorems.Outcomes.{Fit, adding-refused, adding-fine, fine-fit, fit-small}
 use Rattle.writer.proofs.call.add_term.Statement.{statement}
 use Rattle.writer.proofs.call.add_term.Tie as tie
@@ -47,28 +49,50 @@ fit c =
     let a = start k .args in
     fine-fit (now (a .buffer)) (a .used) (term (a .kind) (a .a) (a .b)) _ (asked k) (c .enum-told .given .1)
 
+raise-atoms-requires : tie.Need-raise-atoms-requires
+raise-atoms-requires c κs =
+    let a = start (c .before .before .before) .args in
+    let f = fit (c .before) in
+    (
+      header-fits (now (a .buffer)) (a .used) (a .kind) (a .a) (a .b) f,
+      held-small (now (a .buffer)) (a .used) (a .kind) (a .a) (a .b) f,
+    )
+
 write-record-requires : tie.Need-write-record-requires
-write-record-requires c κs = fit (c .before) .room
+write-record-requires c κs =
+    let l = c .before .before .before in
+    let told = l .before .before in
+    let a = start (told .before .before) .args in
+    omega (
+      arith,
+      fit told .room,
+      raised-length (now (a .buffer)) (a .used) (a .kind) (a .a) (a .b) (fit told) (l .raise-atoms .last .0)
+          (l .raise-atoms .ensures),
+    )
 
 add-length : tie.Need-add-length
 add-length c =
-    let told = c .before .before .before .before in
+    let told = c .before .before .before .before .before .before .before .before in
     let a = start (told .before .before) .args in
     omega (arith, fit-small (now (a .buffer)) (a .used) (term (a .kind) (a .a) (a .b)) (fit told))
 
 returns-2 : tie.Need-returns-2
 returns-2 c =
     let w = c .before .before in
-    let told = w .before .before in
+    let l = w .before .before .before .before in
+    let told = l .before .before in
     let k = told .before .before in
     let a = start k .args in
-    term-answers (now (a .buffer)) (a .used) _ (fit told) (a .kind) (a .a) (a .b) _
+    term-answers (now (a .buffer)) (a .used) (a .kind) (a .a) (a .b) (fit told) (l .raise-atoms .last .0) _
     (adding-fine (now (a .buffer)) (a .used) (term (a .kind) (a .a) (a .b)) _ (asked k) (told .enum-told .given .1))
+    (l .raise-atoms .ensures)
     (w .write-record .ensures
-    ∙ ap (λ (r : Record). put (now (a .buffer)) (a .used) (recordBytes r)) (k .before .before .before .fields-of .ensures))
+    ∙ ap (λ (r : Record). put (l .raise-atoms .last .0) (a .used) (recordBytes r))
+    (k .before .before .before .fields-of .ensures))
 
 pub add-term-spec : {M : Type 1} → statement M
 add-term-spec =
     tie.close
     (tie.spec (λ c κs. search needs) (λ c κs. search needs) (λ c κs. search needs) (λ c. search needs) (λ c. search needs)
-    (λ c κs. search needs) (λ c. search needs) returns write-record-requires add-length (λ c. search needs) returns-2)
+    (λ c κs. search needs) (λ c. search needs) returns raise-atoms-requires write-record-requires add-length
+    (λ c. search needs) returns-2)
