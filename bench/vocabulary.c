@@ -167,7 +167,7 @@ static void make_wrong_k(struct input *input)
     write_u16(input->bytes + 6, MAX_RECORDS - 2);
 }
 
-/* vocabulary.sh counts the instructions of the first six, by these numbers. */
+/* vocabulary.sh counts the instructions of the first eight, by these numbers. */
 static void (*const makers[])(struct input *) = {
     make_names, make_names_2, make_mixed, make_mixed_2, make_small, make_small_2, make_header, make_header_2,
     make_same_label, make_bad_kind, make_wrong_k,

@@ -5,7 +5,7 @@
 #
 # Prints the time of a call on each input, after a comparison of both answers on each and on 55,000
 # damages; with --agree the comparison alone; with --instructions the instructions of a call on the
-# first six, and of a catalogue's question for k, counted by callgrind.
+# first eight, and of a catalogue's question for k, counted by callgrind.
 # ARCHIVE: default target/staticlib/libjudge.a in the repository.
 # Exit status: 0 done, 1 the answers differ or a build failed, 2 bad usage or something is missing.
 set -eu
@@ -36,7 +36,7 @@ echo '| input | library, instructions a call | plain C, instructions a call | ra
 echo '|---|---:|---:|---:|'
 at=0
 for input in '511 names' '511 names, edition 2' 'mixed kinds, full' 'mixed kinds, full, edition 2' \
-    '12 records' '12 records, edition 2'; do
+    '12 records' '12 records, edition 2' 'header alone' 'header alone, edition 2'; do
     library=$(per_call library "$at")
     plain=$(per_call plain "$at")
     hundredths=$(((100 * library + plain / 2) / plain))
