@@ -16,6 +16,8 @@ use Rattle.writer.specs.Calls.{emptyHeader, making, isAddable, adding, newLengt
 use Rattle.types.specs.Meaning.{Interpretation, Model, AlwaysEqual}
 use Rattle.types.specs.Comparison.{counts, comparison}
 use Rattle.types.specs.Bitmap.{bitmap, written}
+use Rattle.scripts.specs.Run.{scriptCheck}
+use Rattle.alike.specs.Editions.{DifferInEdition}
 use Rattle.taxonomy.specs.Nearest.{NameOf, Nearest}
 use Rattle.taxonomy.specs.Taxonomy.{names, nameCount, nameAt, classification, firstAfter, secondAfter}
 use Rattle.demands.specs.Table.{vocabularyTable, AcceptedVocabulary, TermOf, Refuses, Follows}
@@ -147,3 +149,21 @@ pub record WritesVocabularies : Type 0 where
   pub reader : (buffer : List ℕ) (used : ℕ) (x : Addition) → Roomy buffer used → isAddable x ≡ true → AsReader buffer used x
   pub shows : (lent : List ℕ) (roles : ℕ) (l : List Addition) (after : List ℕ) (used : ℕ) → Built lent roles l after used
       → Shows (take used after) roles l
+
+-- Slip 5, "Atom count in the header".
+
+-- "Comparison gives the same results", that is the same answer, counts and written bytes; and so do the vocabulary check, the
+-- nearest names and the script check, refusals included.
+pub record SameAnswers (v w : List ℕ) : Type 0 where
+  pub reads : vocabularyCheck v ≡ vocabularyCheck w
+  pub compares : (a b lent : ℕ) → comparison v a b lent ≡ comparison w a b lent
+  pub writes : (a b : ℕ) (lent : List ℕ)
+      → written (comparison v a b (length lent)) v lent ≡ written (comparison w a b (length lent)) w lent
+  pub classifies : (lent room : ℕ) → classification v lent room ≡ classification w lent room
+  pub fills : (lent room : List ℕ) → (firstAfter v lent room ≡ firstAfter w lent room)
+      × (secondAfter v lent room ≡ secondAfter w lent room)
+  pub checks : (s : List ℕ) → scriptCheck v s ≡ scriptCheck w s
+
+-- The promise: "for accepted vocabularies that differ only in edition".
+abbrev pub EditionsAgree : Type 0
+EditionsAgree = (v w : List ℕ) → AcceptedVocabulary v → AcceptedVocabulary w → DifferInEdition v w → SameAnswers v w

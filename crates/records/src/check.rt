@@ -391,8 +391,9 @@ fn check_held(v: &[u8]) -> Checked
     if header.second != 2 {
         return Checked::Fine;
     }
+    let held = header.next as usize;
     let k = count_atoms(v);
-    pass_if(header.next as usize == k, 28, k)
+    pass_if(held == k, 28, k)
 }
 
 // All rows of the vocabulary check.

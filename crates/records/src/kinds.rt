@@ -29,8 +29,8 @@ pub fn is_atom(kind: u8) -> bool
     ensures { λ r. ⌜ r ≡ isAtom kind ⌝ }
 {
     match kind {
-        3 => true,
-        7..=8 => true,
+        3 => true, // a name
+        7..=8 => true, // a restriction
         _ => false,
     }
 }

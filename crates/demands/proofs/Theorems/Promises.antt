@@ -2,6 +2,7 @@
 --   right-entry, right-table   an entry, and the second buffer, of a vocabulary that is compared
 --   nearest-names              slip 1
 --   writes-vocabularies        slip 4 (Writing has it)
+--   editions-agree             slip 5
 -- Assumes nothing.
 use Prim.Native.Nat.{ℕ, _≤_}
 use native.Mathlib.Omega.{arith}
@@ -20,7 +21,13 @@ use Rattle.taxonomy.proofs.Theorems.Names.{name-is, name-found, names-rise}
 use Rattle.taxonomy.proofs.Theorems.Entries.{entry-equal, equal-entry, entry-nearest, nearest-entry, entry-else}
 use Rattle.taxonomy.proofs.Theorems.Entries.{taxonomy-entry, taxonomy-rest, length-taxonomy}
 use Rattle.taxonomy.proofs.Theorems.Answers.{answers-always}
-use Rattle.demands.specs.Promises.{RightEntry, RightTable, NearestNames}
+use Rattle.alike.proofs.Theorems.Editions.{editions-alike}
+use Rattle.alike.proofs.Theorems.Comparison.{vocabulary-alike, comparison-alike, written-alike}
+use Rattle.alike.proofs.Theorems.Taxonomy.{classification-alike, first-alike, second-alike}
+use Rattle.alike.proofs.Theorems.Scripts.{script-alike}
+use Rattle.alike.specs.Alike.{Alike}
+use Rattle.demands.specs.Table.{AcceptedVocabulary}
+use Rattle.demands.specs.Promises.{RightEntry, RightTable, NearestNames, SameAnswers, EditionsAgree}
 use Rattle.demands.proofs.Theorems.Tables.{vocabulary-follows, term-passed}
 pub use Rattle.demands.proofs.Theorems.Writing.{writes-vocabularies, addition-accepted}
 
@@ -65,3 +72,23 @@ nearest-names v lent room good few first second =
       );
       second = right-table v (accepted-vocabulary v (count v) accepts) few room _ second (rw answers);
     }
+
+-- Accepted vocabularies that look alike get the same answers.
+alike-answers : (v w : List ℕ) → Alike v w → AcceptedVocabulary v → AcceptedVocabulary w → SameAnswers v w
+alike-answers v w alike first second =
+    let e = vocabulary-follows v .accepted-always first in
+    let f = vocabulary-follows w .accepted-always second in
+    record {
+      reads = vocabulary-alike v w alike (count v) (count w) e f;
+      compares = comparison-alike v w alike (count v) (count w) e f;
+      writes = written-alike v w alike (count v) (count w) e f;
+      classifies = classification-alike v w alike (count v) (count w) e f;
+      fills = λ lent room. (
+        first-alike v w alike (count v) (count w) e f lent room,
+        second-alike v w alike (count v) (count w) e f lent room,
+      );
+      checks = script-alike v w alike (count v) (count w) e f;
+    }
+
+pub editions-agree : EditionsAgree
+editions-agree v w first second differ = alike-answers v w (editions-alike v w differ) first second

@@ -1,6 +1,7 @@
 -- What the records of an accepted vocabulary say.
 --   record-past                                                        there is nothing past the end
 --   says-past                                                          kinds past 9 say nothing of an element
+--   construct-same                                                     what a record says goes by its kind, A and B
 --   construct-over                                                     what holds of operands, whichever record it is
 --   Earlier, construct-earlier                                         operands come before the record, whichever record it is
 --   construct-role                                                     a restriction's role is below the count
@@ -11,7 +12,7 @@
 use Prim.Native.Nat.{ℕ, zero, suc, _+_, _*_, _-_, _≤_, _<_}
 use native.Mathlib.Omega.{arith}
 use native.Mathlib.Decide.{decLt}
-use mathlib.Core.Path.{_≡_, refl, sym, ap, subst}
+use mathlib.Core.Path.{_≡_, refl, sym, ap, subst, _∙_}
 use mathlib.Core.Bool.{Bool, true, Bool·beq}
 use mathlib.Core.List.{List}
 use lib.ListN.{getD, take, drop, drop-of-length-le}
@@ -40,6 +41,15 @@ says-past k h r =
     subst (λ (n : ℕ). getD kinds n noKind .says r ≡ none) same
     (subst (λ (e : Kind). e .says r ≡ none) (getD-drop 10 kinds (k - 10) noKind)
     (all-default (λ e. e .says r ≡ none) (drop 10 kinds) noKind refl tt (k - 10)))
+
+-- What a record says goes by its kind, A and B.
+pub construct-same : (r q : Record) → r .kind ≡ q .kind → r .a ≡ q .a → r .b ≡ q .b → constructOf r ≡ constructOf q
+unfolding kindOf
+construct-same r q e a b =
+    let same : (k : Kind) → Type 0 = λ k. k .says r ≡ k .says q in
+    ap (λ (k : ℕ). kindOf k .says r) e
+    ∙ all-default same kinds noKind refl
+    (refl, (refl, (refl, (refl, (rw a, (rw (a, b), (rw (a, b), (rw (a, b), (rw (a, b), (rw (a, b), tt)))))))))) (q .kind)
 
 -- The operands of what record i says are records before it.
 abbrev pub Earlier : ℕ → Construct → Type 0

@@ -2,6 +2,7 @@
 --   Ahead, Onward             what lies ahead of i; 0, or something ahead
 --   follow-nil, follow-step   the chain from 0, and from a number ahead
 --   follow-few                it has no more numbers than steps were made
+--   follow-same               chains of which each link is the same; 0 has none
 --   follow-ends               followed as far as one likes it is the chain
 --   Rising, follow-rises      each is after the one before
 --   follow-target             what is on the chain may be on it
@@ -57,6 +58,13 @@ unfolding follow
 follow-few next zero i = omega arith
 follow-few next (suc n) zero = omega arith
 follow-few next (suc n) (suc i) = omega (arith, follow-few next n (next (suc i)))
+
+pub follow-same : (next other : ℕ → ℕ) → ((i : ℕ) → next (suc i) ≡ other (suc i)) → (n i : ℕ) → follow next n i ≡ follow other n i
+unfolding follow
+follow-same next other same zero i = refl
+follow-same next other same (suc n) zero = refl
+follow-same next other same (suc n) (suc i) =
+    ap (λ (l : List ℕ). suc i ∷ l) (ap (follow next n) (same i) ∙ follow-same next other same n (other (suc i)))
 
 rising-last : (i : ℕ) (l : List ℕ) → Rising i l → i ≤ lastOr i l
 unfolding lastOr

@@ -1,5 +1,7 @@
 -- What a record says by what its operands say: truth at a type, and membership in an interpretation.
---   evaluate-cong, evaluate-atom                 what a record says, from its atom and its operands
+--   evaluate-over, evaluate-cong                 what a record says, from its atom and its operands
+--   evaluate-atom                                what an atom's record says
+--   OverFiller, restriction-over                 what holds of a restriction's filler
 --   restricted-atom, some-earlier, all-earlier   restrictions are atoms, and their fillers come earlier
 --   truth-eq, belongs-eq                         the equations of truth and of membership
 --   truth-atom, belongs-atom                     at an atom
@@ -19,7 +21,7 @@ use Rattle.records.specs.Kinds.{inclusion, constructOf, kindOf, isAtom}
 use Rattle.records.specs.Finite.{anyBelow, allBelow, bit}
 use Rattle.records.specs.Chain.{chained}
 use Rattle.records.proofs.Laws.Tests.{clash}
-use Rattle.records.proofs.Theorems.Accepted.{AcceptedFacts}
+use Rattle.records.proofs.Theorems.Accepted.{AcceptedFacts, Over, over-map}
 use Rattle.records.proofs.Theorems.Constructs.{record-past, Earlier, construct-earlier, atomic, construct-atom}
 use Rattle.records.proofs.Theorems.Constructs.{construct-inclusion}
 use Rattle.records.proofs.Theorems.Chains.{chain-statement}
@@ -30,18 +32,22 @@ use Rattle.types.specs.Types.{truthRule, truth}
 use Rattle.records.proofs.Laws.InOrder.{Local, in-order}
 
 -- The atom's own truth matters to atoms only, and of the operands what they say.
+pub evaluate-over : (c : Construct) (x y : Bool) (f g : ℕ → Bool) → (atomic c ≡ true → x ≡ y) → Over (λ j. f j ≡ g j) c
+    → evaluate c x f ≡ evaluate c y g
+evaluate-over none x y f g a h = refl
+evaluate-over top x y f g a h = refl
+evaluate-over bottom x y f g a h = refl
+evaluate-over name x y f g a h = a refl
+evaluate-over (negation p) x y f g a h = ap not (h .0)
+evaluate-over (conjunction p q) x y f g a h = ap₂ _&&_ (h .0) (h .1 .0)
+evaluate-over (disjunction p q) x y f g a h = ap₂ _||_ (h .0) (h .1 .0)
+evaluate-over (existential r b) x y f g a h = a refl
+evaluate-over (universal r b) x y f g a h = a refl
+evaluate-over (inclusion p q) x y f g a h = ap₂ (λ (p q : Bool). not p || q) (h .0) (h .1 .0)
+
 pub evaluate-cong : (i : ℕ) (c : Construct) (x y : Bool) (f g : ℕ → Bool) → (atomic c ≡ true → x ≡ y) → Earlier i c
     → ((j : ℕ) → j < i → f j ≡ g j) → evaluate c x f ≡ evaluate c y g
-evaluate-cong i none x y f g a e h = refl
-evaluate-cong i top x y f g a e h = refl
-evaluate-cong i bottom x y f g a e h = refl
-evaluate-cong i name x y f g a e h = a refl
-evaluate-cong i (negation p) x y f g a e h = ap not (h p (e .0))
-evaluate-cong i (conjunction p q) x y f g a e h = ap₂ _&&_ (h p (e .0)) (h q (e .1 .0))
-evaluate-cong i (disjunction p q) x y f g a e h = ap₂ _||_ (h p (e .0)) (h q (e .1 .0))
-evaluate-cong i (existential r b) x y f g a e h = a refl
-evaluate-cong i (universal r b) x y f g a e h = a refl
-evaluate-cong i (inclusion p q) x y f g a e h = ap₂ (λ (p q : Bool). not p || q) (h p (e .0)) (h q (e .1 .0))
+evaluate-cong i c x y f g a e h = evaluate-over c x y f g a (over-map (λ j. j < i) (λ j. f j ≡ g j) h c e)
 
 pub evaluate-atom : (c : Construct) (x : Bool) (f : ℕ → Bool) → atomic c ≡ true → evaluate c x f ≡ x
 evaluate-atom none x f a = absurd (clash (cc))
@@ -73,23 +79,27 @@ restriction-atomic (existential r b) e = refl
 restriction-atomic (universal r b) e = refl
 restriction-atomic (inclusion p q) e = absurd (clash (cc))
 
+-- P of the filler of a restriction.
+abbrev pub OverFiller : (ℕ → Type 0) → Restriction → Type 0
+OverFiller P (some r b) = P b
+OverFiller P (all r b) = P b
+OverFiller P plain = Unit {0}
+
+pub restriction-over : (P : ℕ → Type 0) (c : Construct) → Over P c → OverFiller P (restrictionOf c)
+restriction-over P none h = tt
+restriction-over P top h = tt
+restriction-over P bottom h = tt
+restriction-over P name h = tt
+restriction-over P (negation p) h = tt
+restriction-over P (conjunction p q) h = tt
+restriction-over P (disjunction p q) h = tt
+restriction-over P (existential r b) h = h .0
+restriction-over P (universal r b) h = h .0
+restriction-over P (inclusion p q) h = tt
+
 -- The filler of a restriction comes before record i.
 abbrev FillerEarlier : ℕ → Restriction → Type 0
-FillerEarlier i (some r b) = b < i
-FillerEarlier i (all r b) = b < i
-FillerEarlier i plain = Unit {0}
-
-restriction-earlier : (i : ℕ) (c : Construct) → Earlier i c → FillerEarlier i (restrictionOf c)
-restriction-earlier i none e = tt
-restriction-earlier i top e = tt
-restriction-earlier i bottom e = tt
-restriction-earlier i name e = tt
-restriction-earlier i (negation p) e = tt
-restriction-earlier i (conjunction p q) e = tt
-restriction-earlier i (disjunction p q) e = tt
-restriction-earlier i (existential r b) e = e .0
-restriction-earlier i (universal r b) e = e .0
-restriction-earlier i (inclusion p q) e = tt
+FillerEarlier i k = OverFiller (λ j. j < i) k
 
 -- An atom's truth at d goes by the earlier records.
 atom-cong : (I : Interpretation) (i d : ℕ) (k : Restriction) (f g : ℕ → ℕ → Bool) → FillerEarlier i k
@@ -111,7 +121,7 @@ module _ (v : List ℕ) where
 module _ (v : List ℕ) (good : AcceptedFacts v) where
   filler-earlier : (i : ℕ) (k : Restriction) → restrictionAt v i ≡ k → FillerEarlier i k
   filler-earlier i k m =
-      subst (FillerEarlier i) m (restriction-earlier i (constructOf (recordAt v i)) (construct-earlier v good i))
+      subst (FillerEarlier i) m (restriction-over (λ j. j < i) (constructOf (recordAt v i)) (construct-earlier v good i))
 
   pub some-earlier : (i r b : ℕ) → restrictionAt v i ≡ some r b → b < i
   some-earlier i r b m = filler-earlier i (some r b) m

@@ -66,7 +66,8 @@ module _ (v : List ℕ) (size : ℕ) (x : Addition) where
   rest = require (isAddable x) 3 (count v) then vocabularyCheck (grown v x) then accepted (grown v x)
 
   -- What is checked of a record where all rows before its own passed.
-  module _ (accepts : vocabularyRows v ≡ pass) (fits : roomCheck v size ≡ pass) (is : require (isAddable x) 3 (count v) ≡ pass) where
+  module _ (accepts : vocabularyRows v ≡ pass) (fits : roomCheck v size ≡ pass)
+      (is : require (isAddable x) 3 (count v) ≡ pass) where
     abbrev facts : RowsAccepted v
     facts = rows-accepted v accepts
 

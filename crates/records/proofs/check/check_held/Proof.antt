@@ -34,12 +34,12 @@ returns c = unheld _ _ (c .before .before .read-at .ensures) (c .if1 .taken)
 
 returns-2 : tie.Need-returns-2
 returns-2 c =
-    let counted = c .before .before in
-    let header = counted .before in
+    let counted = c .before in
+    let header = counted .before .before in
     held _ _ _ _ (c .pass-if .ensures) (header .before .before .read-at .ensures) (header .if1 .left)
     (counted .count-atoms .ensures)
 
 pub check-held-spec : {M : Type 1} → statement M
 check-held-spec =
     tie.close
-    (tie.spec (λ c κs. search needs) returns (λ c κs. search needs) (λ c. search needs) (λ c κs. search needs) returns-2)
+    (tie.spec (λ c κs. search needs) returns (λ c. search needs) (λ c κs. search needs) (λ c κs. search needs) returns-2)

@@ -1,5 +1,5 @@
--- `writer::call::add_term` meets its contract. A refusal leaves the buffer; else an atom is counted, and the record written behind
--- the bytes in use.
+-- `writer::call::add_term` meets its contract. A refusal leaves the buffer; else an atom is counted, and the record is written
+-- behind the bytes in use.
 -- Assumes nothing.
 use native.Mathlib.Omega.{arith}
 use mathlib.Core.Bool.{Bool}
@@ -52,8 +52,7 @@ fit c =
 raise-atoms-requires : tie.Need-raise-atoms-requires
 raise-atoms-requires c κs =
     let a = start (c .before .before .before) .args in
-    let f = fit (c .before) in
-    (
+    let f = fit (c .before) in (
       header-fits (now (a .buffer)) (a .used) (a .kind) (a .a) (a .b) f,
       held-small (now (a .buffer)) (a .used) (a .kind) (a .a) (a .b) f,
     )

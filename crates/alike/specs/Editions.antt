@@ -1,0 +1,15 @@
+-- Slip 5 of paper 02: vocabularies that differ in edition.
+use Prim.Native.Nat.{ℕ, _≤_, _<_}
+use mathlib.Core.Path.{_≡_}
+use mathlib.Core.List.{List}
+use mathlib.Core.Logic.{_⊎_}
+use lib.ListN.{length, getD}
+
+-- Byte i is neither the edition, which is the header's second byte, nor k, which edition 2 has in the header's next.
+abbrev pub OffEdition : ℕ → Type 0
+OffEdition i = (i ≡ 1 → ⊥) × ((i < 6) ⊎ (8 ≤ i))
+
+-- "accepted vocabularies that differ only in edition": all other bytes are the same.
+pub record DifferInEdition (v w : List ℕ) : Type 0 where
+  pub size : length v ≡ length w
+  pub same : (i : ℕ) → OffEdition i → getD v i 0 ≡ getD w i 0
