@@ -141,6 +141,7 @@ static bool agree_on_vocabularies(const struct vocabulary *vocabularies, bool qu
 /* What came up among the random ones. `farther`: some name is broader than another and not nearest. */
 struct seen {
     unsigned refused[256], nearest, same, farther, empty, rounds, nameless;
+    struct editions editions;
 };
 
 /* Whether j is nearest to i, and k to j. */
@@ -165,6 +166,7 @@ static bool has_farther(const uint8_t *taxonomy, unsigned names)
 static void note(struct seen *seen, const struct input *input, const struct result *result)
 {
     seen->refused[result->answer & 0xff]++;
+    note_edition(&seen->editions, input->bytes, result->answer);
     if ((result->answer & 0xff) != ACCEPTED)
         return;
     unsigned names = list_names(input->bytes, input->len).count;
@@ -208,7 +210,8 @@ static bool agree_on_random(struct seen *seen)
 
 static bool print_seen(const struct seen *seen)
 {
-    static const int refusals[] = {1, 2, 3, 4, 5, 6, 7, 8, MANY_ATOMS, SHORT_BUFFER, SHORT_TAXONOMY};
+    static const int refusals[] = {1, 2, 3, 4, 5, 6, 7, 8, BAD_ATOMS, MANY_ATOMS, SHORT_BUFFER, SHORT_TAXONOMY};
+    bool editions = print_editions(PROGRAM, &seen->editions);
 
     printf("Random ones: nearest broader names %u, farther ones %u, equal names %u, no survivor %u, "
            "several rounds %u, no name %u;",
@@ -216,7 +219,7 @@ static bool print_seen(const struct seen *seen)
     if (!print_refusals(PROGRAM, seen->refused, refusals, sizeof refusals / sizeof *refusals))
         return false;
     if (seen->nearest && seen->farther && seen->same && seen->empty && seen->rounds && seen->nameless)
-        return true;
+        return editions;
     fprintf(stderr, "classification: some of these answers did not come up\n");
     return false;
 }

@@ -166,6 +166,7 @@ static void make_random_names(struct input *input)
         put(input, STATEMENT, narrower, below(4) ? some_name(input) : some_term(input));
     }
     link_at_random(input);
+    choose_edition(input);
 }
 
 void make_random_vocabulary(struct question *question)

@@ -82,16 +82,31 @@ static bool agree_on(const struct question *question, int last, size_t lent, uin
     return true;
 }
 
+/* Of an accepted vocabulary: the library's answer and bytes are the same in either edition. */
+static bool agree_in_editions(const struct question *question, size_t lent)
+{
+    static struct question other;
+    struct result result, other_result;
+
+    other = *question;
+    set_edition(&other.input, question->input.bytes[1] == EDITION_1 ? EDITION_2 : EDITION_1);
+    ask(question, LIBRARY, lent, &result);
+    ask(&other, LIBRARY, lent, &other_result);
+    return same_results("the other edition", LIBRARY, &result, &other_result);
+}
+
 /* What came up among the random questions. */
 struct seen {
     unsigned refused[256], different, equal, empty, rounds, most_rounds;
+    struct editions editions;
 };
 
-static void note(struct seen *seen, uint64_t answer)
+static void note(struct seen *seen, const uint8_t *header, uint64_t answer)
 {
     unsigned rounds = (unsigned)(answer >> 42);
 
     seen->refused[answer & 0xff]++;
+    note_edition(&seen->editions, header, answer);
     if ((answer & 0xff) != ACCEPTED)
         return;
     seen->different += answer >> 8 & 1;
@@ -113,25 +128,27 @@ static bool agree_on_random(struct seen *seen)
         make_random_question(&question);
         if (below(4) == 0)
             damage_question(&question, &lent);
-        if (!agree_on(&question, LITERAL, lent, &answer)) {
+        if (!agree_on(&question, LITERAL, lent, &answer)
+            || ((answer & 0xff) == ACCEPTED && !agree_in_editions(&question, lent))) {
             fprintf(stderr, "comparison: this was random question %d\n", i);
             return false;
         }
-        note(seen, answer);
+        note(seen, question.input.bytes, answer);
     }
     return true;
 }
 
 static bool print_seen(const struct seen *seen)
 {
-    static const int refusals[] = {1, 2, 3, 4, 5, 6, 7, 8, NO_TERM, MANY_ATOMS, SHORT_BUFFER};
+    static const int refusals[] = {1, 2, 3, 4, 5, 6, 7, 8, BAD_ATOMS, NO_TERM, MANY_ATOMS, SHORT_BUFFER};
+    bool editions = print_editions(PROGRAM, &seen->editions);
 
     printf("Random ones: Different %u, Equal %u, no survivor %u, several rounds %u (at most %u);",
            seen->different, seen->equal, seen->empty, seen->rounds, seen->most_rounds);
     if (!print_refusals(PROGRAM, seen->refused, refusals, sizeof refusals / sizeof *refusals))
         return false;
     if (seen->different && seen->equal && seen->empty && seen->rounds)
-        return true;
+        return editions;
     fprintf(stderr, "comparison: some of these answers did not come up\n");
     return false;
 }

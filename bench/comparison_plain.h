@@ -32,11 +32,6 @@ uint64_t refuse_comparison(const uint8_t *vocabulary, size_t vocabulary_len,
 /* Its rows 11 and 12, over a vocabulary that the check has accepted. */
 uint64_t refuse_atoms(const uint8_t *vocabulary, size_t count, size_t buffer_len);
 
-static inline bool is_atom(uint8_t kind)
-{
-    return kind == NAME || kind == SOME || kind == ALL;
-}
-
 /* The comparison where nothing refuses it. With 0, the header, for a and b no two terms are compared:
  * the answer is the survivors and the rounds. */
 typedef uint64_t settle_function(const uint8_t *vocabulary, size_t vocabulary_len, unsigned atoms,

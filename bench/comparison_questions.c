@@ -372,6 +372,7 @@ void make_random_question(struct question *question)
         }
     }
     link_at_random(input);
+    choose_edition(input);
     question->a = some_term(input);
     question->b = some_term(input);
 }
@@ -393,19 +394,21 @@ void damage_question(struct question *question, size_t *lent)
 
     /* Often several at once: the order of the refusals shows. */
     do {
-        switch (below(7)) {
+        switch (below(8)) {
         case 0: question->a = some_number(input); break;
         case 1: question->b = some_number(input); break;
         case 2: *lent = SURVIVOR_BYTES - 1 - (below(2) ? 0 : below(SURVIVOR_BYTES)); break;
         case 3:
             for (size_t left = 5 + below(12); left > 0; left--)
                 put(input, NAME, 1000 + last_number(input), 0);
+            choose_edition(input);
             break;
         case 4:
             if (below(2))
                 break;
             input->len = below(2) ? below(ROOM + 1) : RECORD_BYTES * below(MAX_RECORDS + 3);
             return; /* nothing else can be done to a vocabulary without records */
+        case 5: damage_edition(input); break;
         default: damage_field(input);
         }
     } while (below(2));

@@ -35,11 +35,18 @@ static uint64_t ask(const struct proof *proof, int version)
 
 /* --- agreement --- */
 
-static bool agree_on(const struct proof *proof, unsigned *seen)
+/* What came up. */
+struct seen {
+    unsigned refused[256], repeats;
+    struct editions editions;
+};
+
+static bool agree_on(const struct proof *proof, struct seen *seen)
 {
     uint64_t library = ask(proof, LIBRARY), plain = ask(proof, PLAIN);
 
-    seen[library & 0xff]++;
+    seen->refused[library & 0xff]++;
+    note_edition(&seen->editions, proof->input.bytes, library);
     if (library != plain) {
         fprintf(stderr, "scripts: on %s: library %#" PRIx64 ", plain C %#" PRIx64 "\n",
                 proof->input.name, library, plain);
@@ -54,7 +61,7 @@ static void damage(struct proof *proof)
     proof->input.expected = UNKNOWN;
 }
 
-static bool agree_on_shapes(const struct proof *shapes, unsigned *seen)
+static bool agree_on_shapes(const struct proof *shapes, struct seen *seen)
 {
     static struct proof damaged;
 
@@ -73,13 +80,13 @@ static bool agree_on_shapes(const struct proof *shapes, unsigned *seen)
     return true;
 }
 
-static bool agree_on_random(unsigned *seen, unsigned *repeats)
+static bool agree_on_random(struct seen *seen)
 {
     static struct proof proof;
 
     for (int i = 0; i < RANDOM; i++) {
         make_random_proof(&proof);
-        *repeats += proof.repeats > 0;
+        seen->repeats += proof.repeats > 0;
         if (i % 2 == 1)
             damage(&proof);
         if (!agree_on(&proof, seen)) {
@@ -92,17 +99,19 @@ static bool agree_on_random(unsigned *seen, unsigned *repeats)
 
 static bool agree(const struct proof *shapes)
 {
-    static const int refusals[] = {1, 2, 3, 4, 5, 6, 7, 8, NO_TERM, 13, 14, 15, 16, 17, 18, 19,
+    static const int refusals[] = {1, 2, 3, 4, 5, 6, 7, 8, BAD_ATOMS, NO_TERM, 13, 14, 15, 16, 17, 18, 19,
                                    20, 21, 22, 23, 24, ALL_CLOSED};
-    unsigned seen[256] = {0}, repeats = 0;
+    struct seen seen = {0};
 
-    if (!agree_on_shapes(shapes, seen) || !agree_on_random(seen, &repeats))
+    if (!agree_on_shapes(shapes, &seen) || !agree_on_random(&seen))
         return false;
     printf("The answers agree on %d scripts, %d damages of them and %d random ones, "
            "%u of these with repeated terms.\n",
-           SHAPES, SHAPES * DAMAGES, RANDOM, repeats);
-    printf("Accepted: %u;", seen[ACCEPTED]);
-    return print_refusals(PROGRAM, seen, refusals, sizeof refusals / sizeof *refusals);
+           SHAPES, SHAPES * DAMAGES, RANDOM, seen.repeats);
+    bool editions = print_editions(PROGRAM, &seen.editions);
+
+    printf("Accepted: %u;", seen.refused[ACCEPTED]);
+    return print_refusals(PROGRAM, seen.refused, refusals, sizeof refusals / sizeof *refusals) && editions;
 }
 
 /* --- time --- */

@@ -634,6 +634,7 @@ void make_random_proof(struct proof *proof)
         unsigned root = crowded ? put_crowd(&maker, value) : put_random_root(&maker, value);
 
         chain_statements(&proof->input);
+        choose_edition(&proof->input);
         if (column == 0)
             begin_script(&maker, root, 1);
         else
@@ -795,7 +796,7 @@ static void damage_length(struct proof *proof)
 
 static void damage_once(struct proof *proof)
 {
-    switch (below(12)) {
+    switch (below(13)) {
     case 0: damage_field(&proof->input); break;
     case 1: skip_statement(&proof->input); break;
     case 2: append_step(proof); break;
@@ -803,6 +804,7 @@ static void damage_once(struct proof *proof)
     case 4: repeat_record(&proof->input); break;
     case 5: damage_term(proof); break;
     case 6: case 7: case 8: damage_step(proof); break;
+    case 9: damage_edition(&proof->input); break;
     default: damage_word(proof);
     }
 }

@@ -29,7 +29,7 @@ void add(struct input *input, enum kind kind, unsigned a, unsigned b, unsigned n
     uint8_t *bytes = input->bytes + input->len;
 
     bytes[0] = (uint8_t)kind;
-    bytes[1] = kind == HEADER;
+    bytes[1] = kind == HEADER ? EDITION_1 : 0;
     write_u16(bytes + 2, a);
     write_u16(bytes + 4, b);
     write_u16(bytes + 6, next);
@@ -102,6 +102,40 @@ void link_at_random(struct input *input)
             next = i;
     }
     set_next(input, 0, next);
+}
+
+unsigned count_atoms(const struct input *input)
+{
+    unsigned atoms = 0;
+
+    for (size_t i = 1; i < count_of(input); i++)
+        atoms += is_atom((uint8_t)kind_of(input, i));
+    return atoms;
+}
+
+void set_edition(struct input *input, enum edition edition)
+{
+    input->bytes[1] = (uint8_t)edition;
+    write_u16(input->bytes + 6, edition == EDITION_2 ? count_atoms(input) : 0);
+}
+
+void choose_edition(struct input *input)
+{
+    set_edition(input, below(2) ? EDITION_1 : EDITION_2);
+}
+
+void damage_edition(struct input *input)
+{
+    unsigned atoms = count_atoms(input);
+
+    switch (below(6)) {
+    case 0: input->bytes[1] = (uint8_t)below(4); break;
+    case 1: write_u16(input->bytes + 6, atoms + 1); break;
+    case 2: write_u16(input->bytes + 6, atoms - 1); break;
+    case 3: write_u16(input->bytes + 6, atoms ^ 0x100); break; /* its low byte is right */
+    case 4: write_u16(input->bytes + 6, (unsigned)random_u64()); break;
+    default: write_u16(input->bytes + 6, 0);
+    }
 }
 
 void repeat_record(struct input *input)
@@ -209,6 +243,26 @@ bool is_expected(const char *program, const struct input *input, uint64_t answer
         return true;
     fprintf(stderr, "%s: on %s: %#" PRIx64 ", expected %#" PRIx64 "\n",
             program, input->name, answer, input->expected);
+    return false;
+}
+
+void note_edition(struct editions *editions, const uint8_t *header, uint64_t answer)
+{
+    unsigned refusal = answer & 0xff;
+
+    if (refusal == ACCEPTED)
+        ++*(header[1] == EDITION_2 ? &editions->second : &editions->first);
+    else if (refusal == BAD_HEADER && header[0] == HEADER && header[1] == EDITION_1)
+        editions->linked += read_u16(header + 4) <= MAX_ROLES;
+}
+
+bool print_editions(const char *program, const struct editions *editions)
+{
+    printf("Accepted of edition 1: %u, of edition 2: %u; refused for a next in edition 1: %u.\n",
+           editions->first, editions->second, editions->linked);
+    if (editions->first && editions->second && editions->linked)
+        return true;
+    fprintf(stderr, "%s: some of these did not come up\n", program);
     return false;
 }
 

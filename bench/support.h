@@ -38,6 +38,16 @@ unsigned some_term(const struct input *input);
 void chain_statements(struct input *input);
 void link_at_random(struct input *input);
 
+/* The number of atoms, k. */
+unsigned count_atoms(const struct input *input);
+
+/* Gives the header this edition; in the second it holds the k that the records have now. `choose_edition`: either. */
+void set_edition(struct input *input, enum edition edition);
+void choose_edition(struct input *input);
+
+/* Changes the header's second byte or next: often to a wrong k, or to a next in edition 1. */
+void damage_edition(struct input *input);
+
 /* Changes a field of some record, or puts one in the place of another. */
 void damage_field(struct input *input);
 void repeat_record(struct input *input);
@@ -57,6 +67,16 @@ void measure(run_function *run, const void *subject, const int *rounds, int vers
 
 /* Guards the inputs themselves: all versions may agree on one that was made wrongly. */
 bool is_expected(const char *program, const struct input *input, uint64_t answer);
+
+/* How many vocabularies of each edition were accepted, and of how many a next in edition 1 was the fault. */
+struct editions {
+    unsigned first, second, linked;
+};
+
+void note_edition(struct editions *editions, const uint8_t *header, uint64_t answer);
+
+/* Prints them. Agreement says little about what did not come up: false. */
+bool print_editions(const char *program, const struct editions *editions);
 
 /* Prints how often each refusal came up. Agreement says little about one that did not: false. */
 bool print_refusals(const char *program, const unsigned *seen, const int *refusals, size_t count);

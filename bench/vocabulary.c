@@ -1,8 +1,9 @@
 /* Benchmark of the vocabulary check: the library beside plain C.
  *
  *   vocabulary                            compare the answers, then print a table of times
- *   vocabulary --calls library|plain N INPUT    only call the check N times on the input of this number, for
- *                                               counting instructions
+ *   vocabulary --agree                    compare them only
+ *   vocabulary --calls VERSION N INPUT    only call this version N times on the input of this number, for counting
+ *                                         instructions: library, plain; header, pass: k of the vocabulary too
  *
  * Exit status: 0 done, 1 the answers differ, 2 bad usage. */
 #include "judge.h"
@@ -16,14 +17,38 @@
 enum { DAMAGES = 5000 }; /* for each input */
 static const char PROGRAM[] = "vocabulary";
 
+/* k of a filed vocabulary, as a catalogue shows it, or what the library refuses it for. Edition 2 has k in its header; in
+ * edition 1 it takes a pass over the records. */
+static uint64_t k_of_header(const uint8_t *vocabulary, size_t vocabulary_len)
+{
+    uint64_t answer = judge_check_vocabulary(vocabulary, vocabulary_len);
+
+    return (answer & 0xff) == ACCEPTED ? pack_answer(ACCEPTED, read_u16(vocabulary + 6)) : answer;
+}
+
+static uint64_t k_by_pass(const uint8_t *vocabulary, size_t vocabulary_len)
+{
+    const unsigned atom_kinds = 1u << NAME | 1u << SOME | 1u << ALL; /* no kind that passed is over 9 */
+    uint64_t answer = judge_check_vocabulary(vocabulary, vocabulary_len);
+    uint32_t atoms = 0;
+
+    if ((answer & 0xff) != ACCEPTED)
+        return answer;
+    for (size_t i = RECORD_BYTES; i < vocabulary_len; i += RECORD_BYTES)
+        atoms += atom_kinds >> vocabulary[i] & 1;
+    return pack_answer(ACCEPTED, atoms);
+}
+
 static const struct version {
     const char *name;
     uint64_t (*check)(const uint8_t *vocabulary, size_t vocabulary_len);
 } versions[] = {
     {"library", judge_check_vocabulary},
     {"plain", plain_check_vocabulary},
+    {"header", k_of_header},
+    {"pass", k_by_pass},
 };
-enum { LIBRARY, PLAIN, VERSIONS };
+enum { LIBRARY, PLAIN, VERSIONS, OF_HEADER = VERSIONS, BY_PASS, ALL_VERSIONS };
 
 /* --- inputs --- */
 
@@ -104,8 +129,48 @@ static void make_bad_kind(struct input *input)
     last_record(input)[0] = 0;
 }
 
+/* --- the same under a header of edition 2 --- */
+
+static void make_names_2(struct input *input)
+{
+    make_names(input);
+    input->name = "511 names, edition 2";
+    set_edition(input, EDITION_2);
+}
+
+static void make_mixed_2(struct input *input)
+{
+    make_mixed(input);
+    input->name = "mixed kinds, full, edition 2";
+    set_edition(input, EDITION_2);
+}
+
+static void make_small_2(struct input *input)
+{
+    make_small(input);
+    input->name = "12 records, edition 2";
+    set_edition(input, EDITION_2);
+}
+
+static void make_header_2(struct input *input)
+{
+    make_header(input);
+    input->name = "header alone, edition 2";
+    set_edition(input, EDITION_2);
+}
+
+static void make_wrong_k(struct input *input)
+{
+    make_names_2(input);
+    input->name = "511 names, edition 2, k refused (28)";
+    input->expected = pack_answer(BAD_ATOMS, MAX_RECORDS - 1);
+    write_u16(input->bytes + 6, MAX_RECORDS - 2);
+}
+
+/* vocabulary.sh counts the instructions of the first eight, by these numbers. */
 static void (*const makers[])(struct input *) = {
-    make_names, make_mixed, make_small, make_header, make_same_label, make_bad_kind,
+    make_names, make_names_2, make_mixed, make_mixed_2, make_small, make_small_2, make_header, make_header_2,
+    make_same_label, make_bad_kind, make_wrong_k,
 };
 enum { INPUTS = sizeof makers / sizeof *makers };
 
@@ -148,6 +213,10 @@ static void damage(struct input *input)
     for (size_t left = 1 + below(3); left > 0; left--)
         damage_bytes(input);
     damage_length(input);
+    if (below(2)) /* last, so that k is that of the records as they are now */
+        choose_edition(input);
+    if (below(4) == 0)
+        damage_edition(input);
 }
 
 static bool same_answer(const char *call, const char *name, uint64_t library, uint64_t plain)
@@ -170,7 +239,13 @@ static bool agree_on(const struct input *input, uint32_t number, uint64_t *answe
                        plain_record(bytes, len, number));
 }
 
-static bool agree_on_damages(const struct input *input, unsigned *seen)
+/* What came up among the damages. */
+struct seen {
+    unsigned refused[256];
+    struct editions editions;
+};
+
+static bool agree_on_damages(const struct input *input, struct seen *seen)
 {
     for (int i = 0; i < DAMAGES; i++) {
         struct input damaged = *input;
@@ -183,34 +258,35 @@ static bool agree_on_damages(const struct input *input, unsigned *seen)
             fprintf(stderr, "vocabulary: this was damage %d\n", i);
             return false;
         }
-        seen[answer & 0xff]++;
+        seen->refused[answer & 0xff]++;
+        note_edition(&seen->editions, damaged.bytes, answer);
     }
     return true;
 }
 
-static bool print_seen(const unsigned *seen)
+static bool print_seen(const struct seen *seen)
 {
-    static const int refusals[] = {1, 2, 3, 4, 5, 6, 7, 8};
+    static const int refusals[] = {1, 2, 3, 4, 5, 6, 7, 8, BAD_ATOMS};
+    bool editions = print_editions(PROGRAM, &seen->editions);
 
-    printf("Damages accepted: %u;", seen[ACCEPTED]);
-    return print_refusals(PROGRAM, seen, refusals, sizeof refusals / sizeof *refusals)
-        && seen[ACCEPTED] > 0;
+    printf("Damages accepted: %u;", seen->refused[ACCEPTED]);
+    return print_refusals(PROGRAM, seen->refused, refusals, sizeof refusals / sizeof *refusals) && editions;
 }
 
 static bool agree(const struct input *inputs)
 {
-    unsigned seen[256] = {0};
+    struct seen seen = {0};
 
     for (int i = 0; i < INPUTS; i++) {
         uint64_t answer;
 
         if (!agree_on(&inputs[i], (uint32_t)count_of(&inputs[i]) - 1, &answer)
             || !is_expected(PROGRAM, &inputs[i], answer)
-            || !agree_on_damages(&inputs[i], seen))
+            || !agree_on_damages(&inputs[i], &seen))
             return false;
     }
     printf("The answers agree on %d inputs and %d damages of them.\n", INPUTS, INPUTS * DAMAGES);
-    return print_seen(seen);
+    return print_seen(&seen);
 }
 
 /* --- time --- */
@@ -254,8 +330,12 @@ static int benchmark(const struct input *inputs)
 
 static int call_only(const struct input *input, int version, const char *calls)
 {
-    run(input, version, strtoull(calls, NULL, 10));
-    return is_expected(PROGRAM, input, sink) ? 0 : 1;
+    struct input asked = *input;
+
+    if (version >= OF_HEADER)
+        asked.expected = pack_answer(ACCEPTED, count_atoms(input));
+    run(&asked, version, strtoull(calls, NULL, 10));
+    return is_expected(PROGRAM, &asked, sink) ? 0 : 1;
 }
 
 int main(int argc, char **argv)
@@ -271,11 +351,11 @@ int main(int argc, char **argv)
     if (argc == 5 && strcmp(argv[1], "--calls") == 0) {
         unsigned long at = strtoul(argv[4], NULL, 10);
 
-        for (int v = 0; v < VERSIONS && at < INPUTS; v++) {
+        for (int v = 0; v < ALL_VERSIONS && at < INPUTS; v++) {
             if (strcmp(argv[2], versions[v].name) == 0)
                 return call_only(&inputs[at], v, argv[3]);
         }
     }
-    fprintf(stderr, "usage: vocabulary [--agree | --calls library|plain N INPUT]\n");
+    fprintf(stderr, "usage: vocabulary [--agree | --calls library|plain|header|pass N INPUT]\n");
     return 2;
 }

@@ -3,6 +3,7 @@
 #ifndef VOCABULARY_PLAIN_H
 #define VOCABULARY_PLAIN_H
 
+#include <stdbool.h>
 #include <stddef.h>
 #include <stdint.h>
 
@@ -13,6 +14,14 @@ enum kind {
     HEADER = 16
 };
 
+static inline bool is_atom(uint8_t kind)
+{
+    return kind == NAME || kind == SOME || kind == ALL;
+}
+
+/* The header's second byte. In the second edition its next is k, the number of atoms. */
+enum edition { EDITION_1 = 1, EDITION_2 };
+
 /* Refusals by their numbers (docs/FORMATS.md, section 6). */
 enum refusal {
     ACCEPTED = 0,
@@ -21,7 +30,7 @@ enum refusal {
     BAD_SCRIPT_LENGTH, BAD_SCRIPT_HEADER,
     BAD_SCRIPT_KIND, BAD_SCRIPT_UNUSED, BAD_SCRIPT_TERM, BAD_STEP, BAD_STEP_NEXT,
     NO_START, NO_COMPLEMENT, BAD_REDUCTION, MANY_FRAMES, FRAME_LEFT, ALL_CLOSED,
-    SHORT_TAXONOMY, NO_ROOM
+    SHORT_TAXONOMY, NO_ROOM, BAD_ATOMS
 };
 
 /* Bits 0-7 the refusal, bits 8-39 the place or, where accepted, the value. */
@@ -55,8 +64,10 @@ static inline struct record read_record(const uint8_t *vocabulary, size_t number
 
 uint64_t plain_check_vocabulary(const uint8_t *vocabulary, size_t vocabulary_len);
 
-/* Rows 3 to 7 at record `number` with these fields, which need not stand there yet; the records before it have passed. */
-enum refusal plain_check_fields(const uint8_t *vocabulary, struct record fields, size_t number, uint16_t roles);
+/* Rows 3 to 7 at record `number` with these fields, which need not stand there yet; the records before it have passed. An
+ * atom is added to `atoms`. */
+enum refusal plain_check_fields(const uint8_t *vocabulary, struct record fields, size_t number, uint16_t roles,
+                                unsigned *atoms);
 
 uint64_t plain_record(const uint8_t *vocabulary, size_t vocabulary_len, uint32_t number);
 

@@ -85,17 +85,23 @@ static bool same_bytes(const uint8_t *library, const uint8_t *other, const char 
 
 /* What came up. A new record is refused at its own number, which no record in use has. */
 struct seen {
-    unsigned calls, statements, made, in_use[256], added[256];
+    unsigned calls, statements, made, raised, in_use[256], added[256];
+    struct editions editions;
 };
 
-static void note(struct seen *seen, const struct addition *added, size_t used, uint64_t answer)
+/* `header`: an addition leaves all of it but A and k. */
+static void note(struct seen *seen, const struct addition *added, const uint8_t *header, size_t used, uint64_t answer)
 {
     unsigned refusal = answer & 0xff;
     bool is_new = refusal >= BAD_KIND && refusal <= BAD_LABEL && answer >> 8 == used / RECORD_BYTES;
+    bool is_term = refusal == ACCEPTED && added->call == ADD_TERM;
 
     seen->calls++;
     seen->statements += refusal == ACCEPTED && added->call == ADD_STATEMENT;
     seen->made += refusal == ACCEPTED && added->call == MAKE;
+    seen->raised += is_term && is_atom(added->kind) && header[1] == EDITION_2;
+    if (added->call != MAKE)
+        note_edition(&seen->editions, header, answer);
     (is_new ? seen->added : seen->in_use)[refusal]++;
 }
 
@@ -116,7 +122,7 @@ static bool agree_on(const struct writing *w, struct seen *seen, uint64_t *answe
         }
         if (!same_bytes(library, plain, "plain C", ROOM))
             return false;
-        note(seen, &w->added[i], used, *answer);
+        note(seen, &w->added[i], library, used, *answer);
         used = used_after(*answer, used);
     }
     return true;
@@ -157,14 +163,15 @@ static bool agree_on_random(struct seen *seen)
 
 static bool print_seen(const struct seen *seen)
 {
-    static const int of_use[] = {1, 2, 3, 4, 5, 6, 7, 8, NO_ROOM}, of_new[] = {3, 4, 5, 6, 7};
+    static const int of_use[] = {1, 2, 3, 4, 5, 6, 7, 8, NO_ROOM, BAD_ATOMS}, of_new[] = {3, 4, 5, 6, 7};
+    bool editions = print_editions(PROGRAM, &seen->editions);
 
-    printf("Accepted: %u calls, %u of them statements and %u empty vocabularies;", seen->in_use[ACCEPTED],
-           seen->statements, seen->made);
+    printf("Accepted: %u calls, %u of them statements, %u empty vocabularies and %u atoms of edition 2;",
+           seen->in_use[ACCEPTED], seen->statements, seen->made, seen->raised);
     bool all = print_refusals(PROGRAM, seen->in_use, of_use, sizeof of_use / sizeof *of_use);
 
     printf("New records");
-    return print_refusals(PROGRAM, seen->added, of_new, sizeof of_new / sizeof *of_new) && all;
+    return print_refusals(PROGRAM, seen->added, of_new, sizeof of_new / sizeof *of_new) && all && editions && seen->raised;
 }
 
 static bool agree(const struct writing *writings)
@@ -184,13 +191,16 @@ static bool agree(const struct writing *writings)
 static void copy_record(const struct writing *w, uint8_t *buffer, size_t used, size_t *link)
 {
     memcpy(buffer + used, w->after.bytes + used, RECORD_BYTES);
-    if (buffer[used] == HEADER)
+    if (buffer[used] == HEADER) {
         *link = 2;
-    else if (buffer[used] == STATEMENT) {
+        write_u16(buffer + 6, 0);
+    } else if (buffer[used] == STATEMENT) {
         write_u16(buffer + *link, (unsigned)(used / RECORD_BYTES));
         *link = used + 6;
-    } else
+    } else {
+        write_u16(buffer + 6, read_u16(buffer + 6) + is_atom(buffer[used]));
         return;
+    }
     write_u16(buffer + *link, 0);
 }
 
@@ -225,11 +235,11 @@ static uint8_t shared[ROOM];
 static void run(const void *subject, int version, uint64_t calls)
 {
     const struct writing *w = subject;
-    size_t end = RECORD_BYTES * w->end;
+    size_t changed = RECORD_BYTES * w->changed;
 
     for (uint64_t i = 0; i < calls; i++) {
         /* The one record in use that a call may have changed; behind them all is written again. */
-        memcpy(shared + end, w->before.bytes + end, RECORD_BYTES);
+        memcpy(shared + changed, w->before.bytes + changed, RECORD_BYTES);
         __asm__ volatile("" : : "r"(shared) : "memory");
         sink = write_all(w, version, shared);
     }

@@ -6,7 +6,7 @@ typedef struct record record_function(unsigned number);
 
 static struct record header(uint16_t roles)
 {
-    return (struct record){.kind = HEADER, .second = 1, .b = roles};
+    return (struct record){.kind = HEADER, .b = roles}; /* the edition comes last, with k */
 }
 
 static struct record about(enum kind kind, unsigned a, unsigned b)
@@ -66,6 +66,7 @@ static const struct plan {
     const char *name;
     record_function *record;
     unsigned count;     /* so many records are in use */
+    bool second;        /* these are of edition 2; a vocabulary that is made is so anyway */
     unsigned additions; /* so many follow of the same vocabulary; 0: this record */
     struct record added;
     enum refusal refusal; /* at the last call */
@@ -73,13 +74,19 @@ static const struct plan {
 } plans[WRITINGS] = {
     {.name = "an empty vocabulary made", .record = of_mixed, .additions = 1},
     {.name = "to a header: a name", .record = of_names, .count = 1, .additions = 1},
+    {.name = "to a header, edition 2: a name", .record = of_names, .count = 1, .second = true, .additions = 1},
     {.name = "to a header and top: the first statement", .record = of_statements, .count = 2, .additions = 1},
     {.name = "to 12 records: a name", .record = of_small, .count = 12, .added = {.kind = NAME, .a = 300}},
+    {.name = "to 12 records, edition 2: a name", .record = of_small, .count = 12, .second = true,
+     .added = {.kind = NAME, .a = 300}},
     {.name = "to 12 records: an and", .record = of_small, .count = 12, .added = {.kind = AND, .a = 8, .b = 9}},
+    {.name = "to 12 records, edition 2: an and", .record = of_small, .count = 12, .second = true,
+     .added = {.kind = AND, .a = 8, .b = 9}},
     {.name = "to 12 records: a statement", .record = of_small, .count = 12,
      .added = {.kind = STATEMENT, .a = 7, .b = 8}},
 
     {.name = "to 511, names: a name", .record = of_names, .count = NEARLY, .additions = 1},
+    {.name = "to 511, names, edition 2: a name", .record = of_names, .count = NEARLY, .second = true, .additions = 1},
     {.name = "to 511, names: a statement", .record = of_names, .count = NEARLY,
      .added = {.kind = STATEMENT, .a = 1, .b = 510}},
     {.name = "to 511, statements: a not", .record = of_statements, .count = NEARLY, .added = {.kind = NOT, .a = 1}},
@@ -127,6 +134,12 @@ static unsigned last_statement(const struct input *input)
     return last;
 }
 
+/* A statement changes the end of the chain, an atom the header's k, any other term nothing. */
+static unsigned changed_by(const struct writing *w)
+{
+    return w->added[0].call == ADD_STATEMENT ? last_statement(&w->before) : 0;
+}
+
 static uint64_t answer_expected(const struct plan *plan, const struct input *after)
 {
     switch (plan->refusal) {
@@ -138,6 +151,8 @@ static uint64_t answer_expected(const struct plan *plan, const struct input *aft
 
 static void make_writing(struct writing *w, const struct plan *plan)
 {
+    enum edition edition = plan->second || plan->count == 0 ? EDITION_2 : EDITION_1;
+
     w->before.name = plan->name;
     w->buffer_len = plan->lent ? plan->lent : ROOM;
     for (unsigned i = 0; i < plan->count; i++)
@@ -152,7 +167,9 @@ static void make_writing(struct writing *w, const struct plan *plan)
     }
     chain_statements(&w->before);
     chain_statements(&w->after);
-    w->end = last_statement(&w->before);
+    set_edition(&w->before, edition);
+    set_edition(&w->after, edition);
+    w->changed = changed_by(w);
     w->before.expected = answer_expected(plan, &w->after);
 }
 
@@ -189,6 +206,7 @@ static void make_random_vocabulary(struct input *input)
     while (count_of(input) < count)
         put_random(input, roles);
     link_at_random(input);
+    choose_edition(input);
 }
 
 /* A field of a new record behind so many: mostly a record's number, the first that is none included. */
@@ -224,9 +242,10 @@ static void damage(struct writing *w)
 {
     struct input *input = &w->before;
 
-    switch (below(4)) {
+    switch (below(5)) {
     case 0: repeat_record(input); break;
-    case 1:
+    case 1: damage_edition(input); break;
+    case 2:
         if (below(2))
             input->len = below(2) ? below(w->buffer_len + 20) : random_u64();
         break;

@@ -18,13 +18,13 @@ struct addition {
 struct writing {
     struct input before; /* the bytes in use, and the answer expected of the last call */
     struct input after;  /* the bytes in use expected then */
-    unsigned end;        /* the last statement before, all being on the chain; 0: none */
+    unsigned changed;    /* the one record in use that the first call may change */
     size_t buffer_len;
     unsigned additions;
     struct addition added[MAX_RECORDS];
 };
 
-enum { WRITINGS = 20 };
+enum { WRITINGS = 24 };
 
 void make_writings(struct writing *writings);
 

@@ -22,7 +22,7 @@ uint64_t plain_make_vocabulary(uint8_t *buffer, size_t buffer_len, uint32_t role
         return pack_answer(NO_ROOM, 0);
     if (roles > MAX_ROLES)
         return pack_answer(BAD_HEADER, 0);
-    write_record(buffer, (struct record){.kind = HEADER, .second = 1, .b = (uint16_t)roles});
+    write_record(buffer, (struct record){.kind = HEADER, .second = EDITION_2, .b = (uint16_t)roles});
     return pack_answer(ACCEPTED, RECORD_BYTES);
 }
 
@@ -63,10 +63,13 @@ uint64_t plain_add_term(uint8_t *buffer, size_t buffer_len, size_t used, uint8_t
         return pack_answer(BAD_KIND, (uint32_t)count);
 
     struct record added = {.kind = kind, .a = a, .b = b};
-    enum refusal refusal = plain_check_fields(buffer, added, count, read_u16(buffer + 4));
+    unsigned atoms = 0;
+    enum refusal refusal = plain_check_fields(buffer, added, count, read_u16(buffer + 4), &atoms);
     if (refusal != ACCEPTED)
         return pack_answer(refusal, (uint32_t)count);
 
+    if (buffer[1] == EDITION_2)
+        write_u16(buffer + 6, (uint16_t)(read_u16(buffer + 6) + atoms));
     write_record(buffer + used, added);
     return pack_answer(ACCEPTED, (uint32_t)(used + RECORD_BYTES));
 }
@@ -79,7 +82,8 @@ uint64_t plain_add_statement(uint8_t *buffer, size_t buffer_len, size_t used, ui
 
     size_t count = used / RECORD_BYTES;
     struct record added = {.kind = STATEMENT, .a = a, .b = b};
-    enum refusal refusal = plain_check_fields(buffer, added, count, read_u16(buffer + 4));
+    unsigned atoms = 0; /* a statement is none */
+    enum refusal refusal = plain_check_fields(buffer, added, count, read_u16(buffer + 4), &atoms);
     if (refusal != ACCEPTED)
         return pack_answer(refusal, (uint32_t)count);
 
