@@ -2,6 +2,7 @@
 
 use crate::script::call::{check_by, check_script};
 use crate::script::checks::{fault, keeps_form};
+use crate::script::editions::LATE;
 use crate::script::errors;
 use crate::script::merged::has_repeat;
 use crate::script::plan::{script_of, Planned};
@@ -9,11 +10,12 @@ use crate::script::records::{at, chain, decode, COLUMN, EXTENSION, KIND, MOST_RE
 use crate::script::sorts;
 use crate::table::Table;
 use crate::vocabulary::records::{at as vocabulary_record, records};
+use crate::vocabulary::told::{add_late, add_readers, rightly_counted};
 use crate::vocabulary::Refusal;
 use std::collections::BTreeSet;
 
 /// The refusals that cases have to meet, and how many cases have to.
-const REFUSALS: [(std::ops::RangeInclusive<u8>, usize); 3] = [(1..=8, 3), (10..=10, 30), (13..=25, 25)];
+const REFUSALS: [(std::ops::RangeInclusive<u8>, usize); 4] = [(1..=8, 3), (28..=28, 50), (10..=10, 30), (13..=25, 25)];
 /// How many cases have to tell each error.
 const TELLING: usize = 3;
 
@@ -121,6 +123,21 @@ pub fn table(cases: &[Planned]) -> Table {
         let told = pairs().filter(|(p, a)| check_by(*wrong, &p.case.vocabulary, &p.case.script) != **a);
         table.add(&format!("would change by: {name}"), told.count(), TELLING);
     }
+    add_readers(
+        &mut table,
+        cases.iter().map(|planned| planned.case.vocabulary.as_slice()),
+    );
+    add_late(&mut table, &LATE, &with_the_right_count(cases));
     table.object(cases, &answers, wrong);
     table
+}
+
+/// The refusals, 0 for none, that cases which 28 refuses meet with the right k.
+fn with_the_right_count(cases: &[Planned]) -> Vec<u8> {
+    let refusal = |planned: &Planned| {
+        let vocabulary = rightly_counted(&planned.case.vocabulary)?;
+        let answer = check_script(&vocabulary, &planned.case.script);
+        Some(answer.map_or_else(|refusal| refusal.number, |_| 0))
+    };
+    cases.iter().filter_map(refusal).collect()
 }
