@@ -9,6 +9,7 @@ use crate::classification::print::{run, Outcome};
 use crate::classification::taxonomy::{names, EQUAL, NEAREST};
 use crate::comparison::Types;
 use crate::table::Table;
+use crate::vocabulary::editions::is_second;
 use crate::vocabulary::records::records;
 use crate::vocabulary::told::{add_late, add_readers, rightly_counted};
 
@@ -158,6 +159,8 @@ pub fn table(cases: &[Planned]) -> Table {
         CALLS.map(|(name, _)| name),
         pairs().map(|(p, o)| told_by_call(p, o)),
     );
+    let second = pairs().filter(|(p, o)| o.answer.is_ok() && is_second(&p.case.vocabulary));
+    table.add("edition 2, classified", second.count(), 100);
     add_readers(
         &mut table,
         cases.iter().map(|planned| planned.case.vocabulary.as_slice()),

@@ -10,6 +10,7 @@ use crate::comparison::plan::Planned;
 use crate::comparison::print::{run, Outcome};
 use crate::comparison::types::Types;
 use crate::table::Table;
+use crate::vocabulary::editions::is_second;
 use crate::vocabulary::records::records;
 use crate::vocabulary::told::{add_late, add_readers, rightly_counted};
 
@@ -84,6 +85,8 @@ pub fn table(cases: &[Planned]) -> Table {
         let count = told.iter().filter(|error| **error == name).count();
         table.add(&format!("would change by: {name}"), count, 1);
     }
+    let second = pairs().filter(|(p, o)| o.answer.is_ok() && is_second(&p.case.vocabulary));
+    table.add("edition 2, compared", second.count(), 100);
     add_readers(
         &mut table,
         cases.iter().map(|planned| planned.case.vocabulary.as_slice()),

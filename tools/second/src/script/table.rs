@@ -9,6 +9,7 @@ use crate::script::plan::{script_of, Planned};
 use crate::script::records::{at, chain, decode, COLUMN, EXTENSION, KIND, MOST_RECORDS, OWNER, POSITION, RECORD_BYTES};
 use crate::script::sorts;
 use crate::table::Table;
+use crate::vocabulary::editions::is_second;
 use crate::vocabulary::records::{at as vocabulary_record, records};
 use crate::vocabulary::told::{add_late, add_readers, rightly_counted};
 use crate::vocabulary::Refusal;
@@ -123,6 +124,10 @@ pub fn table(cases: &[Planned]) -> Table {
         let told = pairs().filter(|(p, a)| check_by(*wrong, &p.case.vocabulary, &p.case.script) != **a);
         table.add(&format!("would change by: {name}"), told.count(), TELLING);
     }
+    let second = || pairs().filter(|(p, _)| is_second(&p.case.vocabulary));
+    table.add("edition 2, accepted", second().filter(|(_, a)| a.is_ok()).count(), 30);
+    let refused = second().filter(|(_, a)| a.is_err() && keeps_form(**a));
+    table.add("edition 2, refused along the chain", refused.count(), 40);
     add_readers(
         &mut table,
         cases.iter().map(|planned| planned.case.vocabulary.as_slice()),

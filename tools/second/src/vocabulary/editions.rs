@@ -1,7 +1,10 @@
 //! Vocabularies in either edition, and numbers that are not k.
 
 use crate::vocabulary::faults::with;
-use crate::vocabulary::records::{at, bytes, records, Record, EDITION_1, EDITION_2, NEXT, RECORD_BYTES};
+use crate::vocabulary::records::{bytes, records, Record, EDITION_1, EDITION_2, NEXT, RECORD_BYTES};
+
+/// Where a header's second byte stands.
+const SECOND: usize = 1;
 
 /// The number of atoms, k.
 pub fn count(records: &[Record]) -> usize {
@@ -33,12 +36,17 @@ pub fn holding(vocabulary: &[u8], held: u16) -> Vec<u8> {
     with_header(vocabulary, EDITION_2, held)
 }
 
+/// Whether a header is of edition 2.
+pub fn is_second(vocabulary: &[u8]) -> bool {
+    vocabulary.get(SECOND) == Some(&EDITION_2)
+}
+
 /// The vocabulary in the edition that it is not in.
 pub fn other(vocabulary: &[u8]) -> Vec<u8> {
-    if at(&records(vocabulary), 0).second == EDITION_1 {
-        second(vocabulary)
-    } else {
+    if is_second(vocabulary) {
         first(vocabulary)
+    } else {
+        second(vocabulary)
     }
 }
 

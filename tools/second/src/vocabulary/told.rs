@@ -5,7 +5,6 @@ use crate::vocabulary::call::check_vocabulary;
 use crate::vocabulary::editions::second;
 use crate::vocabulary::errors::{calls, ERRORS};
 use crate::vocabulary::file::Case;
-use crate::vocabulary::records::{at, records, EDITION_2};
 use crate::vocabulary::rules::{Paper, Rules};
 
 /// How many cases have to tell each error.
@@ -49,9 +48,8 @@ fn add_record_calls(table: &mut Table, cases: &[Case]) {
 
 /// The vocabulary with the right k, where row 28 refuses it.
 pub fn rightly_counted(vocabulary: &[u8]) -> Option<Vec<u8>> {
-    let is_second = at(&records(vocabulary), 0).second == EDITION_2;
     let refused = check_vocabulary(vocabulary).is_err_and(|refusal| refusal.number == 28);
-    (is_second && refused).then(|| second(vocabulary))
+    refused.then(|| second(vocabulary))
 }
 
 /// Adds how many cases tell calls that ask row 28 too late, by the refusals that those cases which 28 refuses meet with

@@ -6,7 +6,7 @@ use crate::writer::plan::{call_of, Plan, LONGEST};
 use crate::writer::sequences::Sequence;
 
 /// How many short sequences there are.
-const SHORT: usize = 6;
+const SHORT: usize = 5;
 /// The most additions of a short one.
 const ADDITIONS: usize = 13;
 

@@ -5,7 +5,7 @@ use crate::comparison::{sound, spoil_count};
 use crate::random::Random;
 use crate::vocabulary::editions::{holding, second, wrong_counts};
 use crate::vocabulary::faults::way;
-use crate::vocabulary::records::{records, Record};
+use crate::vocabulary::records::{bytes, records, Record};
 use crate::vocabulary::told::Late;
 use crate::vocabulary::{edition_samples, long_samples, Draft};
 use crate::writer::file::Call;
@@ -13,11 +13,17 @@ use crate::writer::own::can_be_asked;
 use crate::writer::plan::{call_of, length, refused, Plan};
 
 /// Numbers of records before the new one.
-const COUNTS: [usize; 6] = [1, 2, 3, 9, 20, 40];
+const COUNTS: [usize; 5] = [1, 2, 5, 12, 40];
 /// Numbers of atoms around those at which k takes another byte, or is as large as it can be.
 const ATOMS: [usize; 4] = [255, 255, 256, 509];
 /// The kinds of atoms, of other terms, and of statements.
 const KINDS: [u8; 5] = [3, 7, 8, 4, 9];
+/// All kinds, those of atoms more often.
+const ALL_KINDS: [u8; 13] = [3, 7, 8, 1, 2, 3, 4, 5, 6, 7, 8, 9, 9];
+/// Kinds of which a record is refused.
+const REFUSED: [u8; 8] = [3, 7, 8, 3, 7, 8, 5, 9];
+/// How many buffers have a longer vocabulary than is in use.
+const TAILS: usize = 6;
 /// The longest samples to which records of all kinds are added, in bytes.
 const LONGEST: usize = 400;
 
@@ -55,6 +61,7 @@ impl Plan {
         self.carried();
         self.own_rows_2();
         self.rooms_2();
+        self.tails_2();
         for atoms in [4, 12, 20] {
             for wrong in 0..4 {
                 self.mixture(28, &sound(atoms), wrong);
@@ -84,7 +91,7 @@ impl Plan {
     /// A record of each kind added to a vocabulary in edition 2, and in edition 1.
     fn added_to_both(&mut self) {
         for count in COUNTS {
-            for kind in 1..=9 {
+            for kind in ALL_KINDS {
                 let draft = self.vocabulary(count);
                 let Some(record) = draft.valid(kind, &mut self.random) else {
                     continue;
@@ -119,7 +126,7 @@ impl Plan {
     /// Rows 3 to 7 at the new record over edition 2, in each kind.
     fn own_rows_2(&mut self) {
         for count in [4, 20] {
-            for kind in 1..=9 {
+            for kind in REFUSED {
                 let draft = self.vocabulary(count);
                 let Some(record) = draft.valid(kind, &mut self.random) else {
                     continue;
@@ -132,7 +139,9 @@ impl Plan {
                 }
                 let [a, b, _] = record.fields;
                 let kind = self.random.pick(&[0, 9, 10, 16, 128 + kind]).unwrap_or(0);
-                self.add(&bytes_2(&draft), Call::Term { kind, a, b }, refused(3, count));
+                if self.random.chance(2) {
+                    self.add(&bytes_2(&draft), Call::Term { kind, a, b }, refused(3, count));
+                }
             }
         }
     }
@@ -148,6 +157,22 @@ impl Plan {
                 self.add_free(&bytes_2(&draft), free, call_of(record), refused(27, count));
                 if kind != 8 {
                     self.add_free(&holding(&draft.bytes(), held), free, call_of(record), refused(28, k));
+                }
+            }
+        }
+    }
+
+    /// Additions to the beginnings of longer vocabularies: atoms behind the bytes in use count for nothing.
+    fn tails_2(&mut self) {
+        for _ in 0..TAILS {
+            let mut draft = Draft::random(3, 24, &mut self.random);
+            let tail = draft.records.split_off(2 + self.random.below(15));
+            let vocabulary = bytes_2(&draft);
+            let content = [vocabulary.clone(), bytes(&tail)].concat();
+            for kind in [3, 4, 9] {
+                if let Some(record) = draft.valid(kind, &mut self.random) {
+                    let meant = length(vocabulary.len() + 8);
+                    self.push(&content, 0, vocabulary.len() as u64, call_of(record), meant);
                 }
             }
         }

@@ -1,6 +1,6 @@
 //! Writers that keep the header's k in a wrong way, or the edition.
 
-use crate::vocabulary::records::at;
+use crate::vocabulary::records::{at, records};
 use crate::vocabulary::{refuse_if, Refusal};
 use crate::writer::errors::records::on_own;
 use crate::writer::file::Call;
@@ -169,6 +169,13 @@ wrong! {
     "k made the new record's number" OfRecords {
         fn raised(&self, adding: &Adding) -> u16 {
             adding.number()
+        }
+    }
+    "k counted anew over the whole buffer" OfBuffer {
+        fn count(&self, buffer: &mut [u8], _: &Adding) {
+            let all = records(buffer);
+            let k = all.iter().filter(|record| record.is_atom()).count() as u16;
+            put(buffer, COUNT_PLACE, &k.to_le_bytes());
         }
     }
     "k cleared by a statement" ClearedByStatement {
