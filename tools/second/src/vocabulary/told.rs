@@ -14,7 +14,7 @@ const TELLING: usize = 5;
 pub type Late = (&'static str, &'static [u8]);
 
 /// Adds how many of the vocabularies that are read tell each wrong reader. Where its answer is another, so is that of
-/// the call that reads: no row of a call is among those of the vocabulary check.
+/// the call that reads: what a call refuses itself has another number, or a new record as its place.
 pub fn add_readers<'a>(table: &mut Table, read: impl Iterator<Item = &'a [u8]>) {
     let answers: Vec<_> = read.map(|bytes| (bytes, check_vocabulary(bytes))).collect();
     for (name, wrong) in ERRORS {

@@ -15,7 +15,7 @@ use crate::writer::plan::{call_of, length, refused, Plan};
 /// Numbers of records before the new one.
 const COUNTS: [usize; 5] = [1, 2, 5, 12, 40];
 /// Numbers of atoms around those at which k takes another byte, or is as large as it can be.
-const ATOMS: [usize; 4] = [255, 255, 256, 509];
+const ATOMS: [usize; 5] = [255, 255, 255, 256, 509];
 /// The kinds of atoms, of other terms, and of statements.
 const KINDS: [u8; 5] = [3, 7, 8, 4, 9];
 /// All kinds, those of atoms more often.

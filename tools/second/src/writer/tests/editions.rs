@@ -1,8 +1,12 @@
-//! The header's k under the writer, worked by hand.
+//! The header's k under the writer, worked by hand, and small additions to both editions.
 
 use super::{added, lent, made, statement, term};
 use crate::tests::paper::{names, refusal, vocabularies};
 use crate::vocabulary::editions::{holding, second};
+use crate::writer::call::run;
+use crate::writer::checks::fault;
+use crate::writer::plan::{anything, Planned};
+use crate::writer::Case;
 
 /// V in edition 2, which has three atoms: the header's next is byte 6. An atom raises it, as another term, a statement
 /// and a refused record do not; in edition 1 it stays 0.
@@ -55,4 +59,49 @@ fn wrong_count_in_use() {
         broken[2] = 4;
         assert_eq!(added(&broken, 8, term(1, 0, 0)), Err(refusal(8, 0)));
     }
+}
+
+/// Every addition of small numbers to sample 3, which has a name, a restriction, a statement and bottom: the reader says
+/// the same of what would be in use, and what is not refused is added as it has to be.
+#[test]
+fn small_additions() {
+    let [_, _, third, ..] = vocabularies();
+    for vocabulary in [second(&third), third] {
+        small_additions_to(&vocabulary);
+    }
+}
+
+/// Every addition of small numbers to a vocabulary of these records.
+fn small_additions_to(third: &[u8]) {
+    let mut answers = [0; 8];
+    for [call, a, b] in (0..12 * 7 * 7).map(|n| [n / 49, n / 7 % 7, n % 7]) {
+        let call = match call {
+            11 => statement(a, b),
+            kind => term(kind as u8, a, b),
+        };
+        let case = Case {
+            content: third.to_vec(),
+            behind: 9,
+            seed: 1,
+            call,
+            used: third.len() as u64,
+        };
+        let planned = Planned {
+            case,
+            meant: anything(),
+        };
+        let outcome = run(&planned.case);
+        assert_eq!(fault(&planned, &outcome), None, "{call:?}");
+        answers[outcome.answer.map_or_else(|refusal| usize::from(refusal.number), |_| 0)] += 1;
+    }
+    // Three terms stand there, 1, 2 and 4, and one role. Let in are top, bottom, the names 0 and 2 to 6, three
+    // complements, nine of both and of either, three of each restriction, nine statements.
+    assert_eq!(answers[0], 1 + 1 + 6 + 3 + 9 + 9 + 3 + 3 + 9);
+    // Kinds 0, 9 and 10; fields of top, bottom, names and complements; then operands of a complement, of both, of
+    // either, of statements and of restrictions; other roles of a term; the label 1.
+    assert_eq!(answers[3], 3 * 49);
+    assert_eq!(answers[4], 48 + 48 + 42 + 42);
+    assert_eq!(answers[5], 4 + 3 * 40 + 2 * 28);
+    assert_eq!(answers[6], 2 * 6 * 3);
+    assert_eq!(answers[7], 1);
 }
