@@ -38,7 +38,7 @@ fn bytes_2(draft: &Draft) -> Vec<u8> {
     second(&draft.bytes())
 }
 
-/// A vocabulary with so many atoms, and some statements and other terms.
+/// A vocabulary with so many atoms, and a few statements.
 fn with_atoms(atoms: usize, random: &mut Random) -> Draft {
     let mut draft = Draft::new(3);
     for _ in 0..atoms {
