@@ -59,11 +59,11 @@ writer length
 record 0
 record 1
 record 9"
-    seq -f "vocabulary %g" 0 8
-    { seq 1 8; seq 10 12; } | sed 's/^/comparison /'
-    { seq 1 8; echo 11; echo 12; echo 26; } | sed 's/^/classification /'
-    { seq 1 8; echo 10; seq 13 25; } | sed 's/^/script /'
-    { seq 1 8; echo 27; } | sed 's/^/writer /'
+    { seq 0 8; echo 28; } | sed 's/^/vocabulary /'
+    { seq 1 8; echo 28; seq 10 12; } | sed 's/^/comparison /'
+    { seq 1 8; echo 28; echo 11; echo 12; echo 26; } | sed 's/^/classification /'
+    { seq 1 8; echo 28; echo 10; seq 13 25; } | sed 's/^/script /'
+    { seq 1 8; echo 28; echo 27; } | sed 's/^/writer /'
 }
 
 cargo build --release --quiet -p second

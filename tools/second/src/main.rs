@@ -73,10 +73,15 @@ fn seeded(word: &str, make: fn(Seed) -> u8) -> u8 {
 /// Writes the file of vocabulary cases to standard output, and the table of refusals to standard error.
 fn make_vocabularies(seed: Seed) -> u8 {
     let planned = vocabulary::all(seed);
-    let faults = vocabulary::misses(&planned);
+    let mut faults = vocabulary::misses(&planned);
     let cases: Vec<vocabulary::Case> = planned.into_iter().map(|p| p.case).collect();
     let table = vocabulary::Table::of(&cases);
     eprint!("{}", table.text());
+    if seed.is_none() {
+        let told = vocabulary::told::table(&cases);
+        eprint!("{}", told.text());
+        faults.extend(told.faults());
+    }
     for fault in &faults {
         eprintln!("second: {fault}");
     }

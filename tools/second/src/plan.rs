@@ -1,6 +1,7 @@
 //! Cases in the making, each with what it is made for.
 
 use crate::random::Random;
+use std::collections::BTreeMap;
 
 /// A case, and what it is made for.
 pub struct Planned<Case, Meant> {
@@ -28,4 +29,25 @@ impl<Case, Meant> Plan<Case, Meant> {
         groups(&mut plan);
         plan.cases
     }
+}
+
+/// Up to so many items of each sort, chosen at random.
+pub fn some_of_each<T>(items: impl Iterator<Item = (String, T)>, most: usize, random: &mut Random) -> Vec<T> {
+    let mut sorts: BTreeMap<String, Vec<T>> = BTreeMap::new();
+    for (sort, item) in items {
+        sorts.entry(sort).or_default().push(item);
+    }
+    let mut chosen = Vec::new();
+    for mut items in sorts.into_values() {
+        random.shuffle(&mut items);
+        items.truncate(most);
+        chosen.extend(items);
+    }
+    chosen
+}
+
+/// The sort of a line: its first word, and which refusal it says.
+pub fn sort_of(line: &str) -> String {
+    let words = if line.starts_with("refused") { 2 } else { 1 };
+    line.split_whitespace().take(words).collect::<Vec<_>>().join(" ")
 }

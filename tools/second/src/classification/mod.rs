@@ -1,7 +1,8 @@
-//! The classification (rows 1 to 8, 11, 12 and 26), and the cases that try it.
+//! The classification (rows 1 to 8, 28, 11, 12 and 26), and the cases that try it.
 
 mod call;
 mod checks;
+mod editions;
 mod elimination;
 mod errors;
 mod file;

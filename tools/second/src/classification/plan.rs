@@ -28,7 +28,8 @@ pub type Planned = plan::Planned<Case, Meant>;
 /// The cases so far, and the source of random choices.
 pub type Plan = plan::Plan<Case, Meant>;
 
-/// All cases. With a seed of its own a run leaves out what is the same in every run.
+/// All cases. With a seed of its own a run leaves out what is the same in every run. What was made later follows what
+/// was stored before.
 pub fn all(seed: Seed) -> Vec<Planned> {
     Plan::made(seed.unwrap_or(SEED), |plan| {
         if seed.is_none() {
@@ -42,6 +43,7 @@ pub fn all(seed: Seed) -> Vec<Planned> {
         plan.large();
         plan.refusals(seed);
         plan.halves();
+        plan.editions();
     })
 }
 

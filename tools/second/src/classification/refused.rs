@@ -2,10 +2,11 @@
 
 use crate::cases::beginning;
 use crate::classification::plan::Plan;
-use crate::comparison::{sound, spoil, vocabulary, Terms};
+use crate::comparison::{sound, spoil, spoil_count, vocabulary, Terms};
 use crate::random::Seed;
 use crate::vocabulary;
-use crate::vocabulary::check_vocabulary;
+use crate::vocabulary::editions::second;
+use crate::vocabulary::{check_vocabulary, refused_before};
 
 /// One in so many refused cases of the vocabulary check is classified too: of short ones, and of long ones.
 const ONE_IN: [usize; 2] = [8, 12];
@@ -65,11 +66,7 @@ impl Plan {
 
     /// A vocabulary that a row refuses (none for 0), and, by the bits of `short`, too few bytes lent for either.
     fn mixture(&mut self, row: u8, atoms: usize, short: usize) {
-        let [few, too_few] = TOO_FEW.map(|lengths| self.random.pick(&lengths).unwrap_or(0));
-        let lent = [
-            if short & 1 == 1 { few } else { 520 },
-            if short & 2 == 2 { too_few } else { 150 },
-        ];
+        let lent = self.mixed_lent(short);
         let vocabulary = sound(atoms);
         let (bytes, meant) = match row {
             0 => (vocabulary, line_of(atoms, lent)),
@@ -81,22 +78,55 @@ impl Plan {
         self.add_lent(&bytes, lent, &meant);
     }
 
+    /// A vocabulary in edition 2 with the right k, or with a wrong one that a row refuses (28, or another that comes
+    /// before it), and too few bytes lent for either.
+    pub fn counted_mixture(&mut self, row: u8, atoms: usize, short: usize) {
+        let lent = self.mixed_lent(short);
+        let vocabulary = sound(atoms);
+        let (bytes, meant) = match row {
+            0 => (second(&vocabulary), line_of(atoms, lent)),
+            _ => {
+                let (spoiled, place) = spoil_count(row, &vocabulary, &mut self.random);
+                (spoiled, format!("refused {row} {place} "))
+            }
+        };
+        self.add_lent(&bytes, lent, &meant);
+    }
+
+    /// By the bits of `short` too few bytes lent for the survivors, and for the taxonomy.
+    fn mixed_lent(&mut self, short: usize) -> [u16; 2] {
+        let [few, too_few] = TOO_FEW.map(|lengths| self.random.pick(&lengths).unwrap_or(0));
+        [
+            if short & 1 == 1 { few } else { 520 },
+            if short & 2 == 2 { too_few } else { 150 },
+        ]
+    }
+
     /// Some of the vocabularies that the vocabulary check refuses.
     fn refused_vocabularies(&mut self, seed: Seed) {
-        for planned in vocabulary::all(seed) {
+        for planned in vocabulary::earlier(seed) {
             let bytes = planned.case.vocabulary;
-            let Err(refusal) = check_vocabulary(&bytes) else {
+            if refused_before(&bytes).is_none() {
                 continue;
-            };
+            }
             let [of_short, of_long] = ONE_IN;
             if self
                 .random
                 .chance(if bytes.len() <= SHORT { of_short } else { of_long })
             {
-                let lent = self.any_lent();
-                self.add_lent(&bytes, lent, &format!("refused {} {} ", refusal.number, refusal.place));
+                self.with_any_lent(&bytes);
             }
         }
+    }
+
+    /// A vocabulary, which may be refused, with any numbers of lent bytes.
+    pub fn with_any_lent(&mut self, bytes: &[u8]) {
+        let lent = self.any_lent();
+        let meant = match check_vocabulary(bytes) {
+            Err(refusal) => format!("refused {} {} ", refusal.number, refusal.place),
+            Ok(_) => String::new(),
+        };
+        self.add_lent(bytes, lent, &meant);
     }
 
     /// Random vocabularies with too many atoms or few enough, bytes enough or too few.

@@ -1,20 +1,24 @@
 //! How many cases of the classification there are of each sort, and how many tell each error.
 
 use crate::classification::checks::fault;
+use crate::classification::editions::LATE;
 use crate::classification::errors::{WrongTable, CALLS, TABLES, WIDE};
+use crate::classification::file::Case;
 use crate::classification::plan::Planned;
 use crate::classification::print::{run, Outcome};
 use crate::classification::taxonomy::{names, EQUAL, NEAREST};
 use crate::comparison::Types;
 use crate::table::Table;
+use crate::vocabulary::editions::is_second;
 use crate::vocabulary::records::records;
+use crate::vocabulary::told::{add_late, add_readers, rightly_counted};
 
 /// Tables that are wrong only where there are more than six atoms are tried where there are more types than these, so
 /// that no error from the ninth atom on is told by smaller vocabularies alone.
 const FEW_TYPES: usize = 256;
 
 /// The refusals that cases have to meet, and how many cases have to.
-const REFUSALS: [(u8, usize); 11] = [
+const REFUSALS: [(u8, usize); 12] = [
     (1, 20),
     (2, 20),
     (3, 20),
@@ -23,6 +27,7 @@ const REFUSALS: [(u8, usize); 11] = [
     (6, 20),
     (7, 20),
     (8, 20),
+    (28, 50),
     (11, 50),
     (12, 100),
     (26, 50),
@@ -154,8 +159,26 @@ pub fn table(cases: &[Planned]) -> Table {
         CALLS.map(|(name, _)| name),
         pairs().map(|(p, o)| told_by_call(p, o)),
     );
+    let second = pairs().filter(|(p, o)| o.answer.is_ok() && is_second(&p.case.vocabulary));
+    table.add("edition 2, classified", second.count(), 100);
+    add_readers(
+        &mut table,
+        cases.iter().map(|planned| planned.case.vocabulary.as_slice()),
+    );
+    add_late(&mut table, &LATE, &with_the_right_count(cases));
     table.object(cases, &outcomes, fault);
     table
+}
+
+/// The refusals, 0 for none, that cases which 28 refuses meet with the right k.
+fn with_the_right_count(cases: &[Planned]) -> Vec<u8> {
+    let refusal = |planned: &Planned| {
+        let vocabulary = rightly_counted(&planned.case.vocabulary)?;
+        let case = planned.case.clone();
+        let answer = run(&Case { vocabulary, ..case }).answer;
+        Some(answer.map_or_else(|refusal| refusal.number, |_| 0))
+    };
+    cases.iter().filter_map(refusal).collect()
 }
 
 /// Adds how many cases tell each error.

@@ -17,6 +17,7 @@ use crate::comparison::{Terms, WRITTEN};
 use crate::random::Random;
 use crate::tests::paper::{header, names, refusal, vocabularies};
 use crate::tests::stored;
+use crate::vocabulary::editions::{holding, second};
 use crate::vocabulary::records::records;
 use std::collections::BTreeSet;
 
@@ -113,6 +114,22 @@ fn names_among_restrictions() {
 }
 
 /// 13 atoms give 11, 511 bytes for the survivors 12, 143 for the taxonomy 26, in this order. What is lent stays as it
+/// Each sample has the same answer in edition 2; a wrong k is 28, before 11, 12 and 26, and nothing is written.
+#[test]
+fn editions() {
+    for vocabulary in vocabularies() {
+        assert_eq!(classified(&second(&vocabulary)), classified(&vocabulary));
+    }
+    for (count, held) in [(2, 1), (12, 0), (13, 12), (13, 269)] {
+        for lent in [[512, 144], [511, 144], [512, 143], [0, 0]] {
+            let [mut survivors, mut taxonomy] = lent.map(|length| vec![FILLING; length]);
+            let answer = classify(&holding(&names(count), held), &mut survivors, &mut taxonomy);
+            assert_eq!(answer, Err(refusal(28, count.into())));
+            assert_eq!([survivors, taxonomy], lent.map(|length| vec![FILLING; length]));
+        }
+    }
+}
+
 /// was.
 #[test]
 fn refusals() {

@@ -1,11 +1,15 @@
-//! What the cases have to show before they are used: the answers for which they were made, and
-//! interpretations that bear the answers out.
+//! What the cases have to show before they are used: the answers for which they were made,
+//! interpretations that bear the answers out, and the same in the other edition.
 
 use crate::comparison::call::{Compared, WRITTEN};
+use crate::comparison::editions::MOST_ATOMS;
+use crate::comparison::file::Case;
 use crate::comparison::meaning::{is_largest, objection};
 use crate::comparison::plan::Planned;
-use crate::comparison::print::{line, Outcome};
-use crate::comparison::types::Types;
+use crate::comparison::print::{line, run, Outcome};
+use crate::comparison::types::{atoms, Types};
+use crate::vocabulary::check_vocabulary;
+use crate::vocabulary::editions::other;
 use crate::vocabulary::records::records;
 
 /// Interpretations with more elements are not evaluated, for their time.
@@ -19,11 +23,27 @@ pub fn fault(planned: &Planned, outcome: &Outcome) -> Option<String> {
     if !line.starts_with(&planned.meant) {
         return Some(format!("is {}, meant {}", line.trim_end(), planned.meant));
     }
-    let compared = outcome.answer.as_ref().ok()?;
+    let Ok(compared) = &outcome.answer else {
+        return differs_by_edition(&planned.case, &line);
+    };
     let Some(written) = outcome.buffer.first_chunk::<WRITTEN>() else {
         return Some("is an answer with too few bytes lent".to_string());
     };
-    unsupported(planned, compared, written)
+    unsupported(planned, compared, written).or_else(|| differs_by_edition(&planned.case, &line))
+}
+
+/// What the other edition has against a line, where the vocabulary is accepted and has few atoms, or is refused later.
+fn differs_by_edition(case: &Case, line_of_case: &str) -> Option<String> {
+    let few = atoms(&records(&case.vocabulary)).len() <= MOST_ATOMS;
+    if check_vocabulary(&case.vocabulary).is_err() || !(few || line_of_case.starts_with("refused")) {
+        return None;
+    }
+    let vocabulary = other(&case.vocabulary);
+    let outcome = run(&Case {
+        vocabulary,
+        ..case.clone()
+    });
+    (line(&outcome) != *line_of_case).then(|| "is another answer in the other edition".to_string())
 }
 
 /// What the written interpretation, or the search for a larger set, has against an answer.

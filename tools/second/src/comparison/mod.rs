@@ -1,8 +1,9 @@
-//! The comparison (rows 1 to 8, 10, 11 and 12), and the cases that try it.
+//! The comparison (rows 1 to 8, 28, 10, 11 and 12), and the cases that try it.
 
 mod call;
 mod checks;
 mod counts;
+mod editions;
 mod errors;
 pub mod families;
 mod file;
@@ -25,7 +26,7 @@ pub use large::{padded, push_last, STORED, WALK_12};
 pub use plan::all;
 pub use print::lines;
 pub use random::vocabulary;
-pub use refused::{sound, spoil};
+pub use refused::{sound, spoil, spoil_count};
 pub use samples::{sample_4, v};
 pub use table::{seeded_table, table};
 pub use terms::Terms;

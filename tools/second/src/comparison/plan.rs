@@ -19,7 +19,8 @@ pub type Planned = plan::Planned<Case, String>;
 /// The cases so far, and the source of random choices.
 pub type Plan = plan::Plan<Case, String>;
 
-/// All cases. With a seed of its own a run leaves out what is the same in every run.
+/// All cases. With a seed of its own a run leaves out what is the same in every run. What was made later follows what
+/// was stored before.
 pub fn all(seed: Seed) -> Vec<Planned> {
     Plan::made(seed.unwrap_or(SEED), |plan| {
         if seed.is_none() {
@@ -32,6 +33,7 @@ pub fn all(seed: Seed) -> Vec<Planned> {
         }
         plan.large();
         plan.refusals(seed);
+        plan.editions();
     })
 }
 
@@ -51,6 +53,11 @@ impl Plan {
             lent,
             seed: self.random.byte(),
         };
+        self.push(case, meant);
+    }
+
+    /// Adds a case as it is.
+    pub fn push(&mut self, case: Case, meant: &str) {
         let meant = meant.to_string();
         self.cases.push(Planned { case, meant });
     }

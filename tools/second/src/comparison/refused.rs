@@ -5,11 +5,11 @@ use crate::cases::{beginning, with_byte};
 use crate::comparison::plan::Plan;
 use crate::comparison::random::vocabulary;
 use crate::comparison::terms::Terms;
-use crate::random::Seed;
+use crate::random::{Random, Seed};
 use crate::vocabulary;
-use crate::vocabulary::check_vocabulary;
+use crate::vocabulary::editions::{count, holding, wrong_counts};
 use crate::vocabulary::records::{records, Record, RECORD_BYTES};
-use crate::vocabulary::Draft;
+use crate::vocabulary::{check_vocabulary, refused_before, Draft};
 
 /// One in so many refused cases of the vocabulary check is compared too.
 const ONE_IN: usize = 9;
@@ -51,6 +51,18 @@ pub fn spoil(row: u8, vocabulary: &[u8]) -> (Vec<u8>, usize) {
         _ => (last, 6, 1),
     };
     (with_byte(vocabulary, RECORD_BYTES * place + byte, value), place)
+}
+
+/// A sound vocabulary in edition 2 that holds a wrong k and that a row refuses, which is 28, or spoiled as well; and the
+/// place of the refusal.
+pub fn spoil_count(row: u8, vocabulary: &[u8], random: &mut Random) -> (Vec<u8>, usize) {
+    let all = records(vocabulary);
+    let held = random.pick(&wrong_counts(&all)).unwrap_or(0);
+    let (bytes, place) = match row {
+        28 => (vocabulary.to_vec(), count(&all)),
+        _ => spoil(row, vocabulary),
+    };
+    (holding(&bytes, held), place)
 }
 
 /// Numbers that are no term of a vocabulary: header, statements, past the end, and numbers whose low
@@ -138,11 +150,16 @@ impl Plan {
     /// B, and too few bytes lent.
     fn mixture(&mut self, row: u8, atoms: usize, wrong: usize) {
         let vocabulary = sound(atoms);
-        let (bytes, place) = match row {
-            0 => (vocabulary.clone(), 0),
+        let spoiled = match row {
+            0 => (vocabulary, 0),
             _ => spoil(row, &vocabulary),
         };
-        let bad = no_terms(&records(&vocabulary));
+        self.query_mixture(spoiled, row, atoms, wrong);
+    }
+
+    /// The same with the vocabulary given, and the place of its refusal.
+    pub fn query_mixture(&mut self, (bytes, place): (Vec<u8>, usize), row: u8, atoms: usize, wrong: usize) {
+        let bad = no_terms(&records(&sound(atoms)));
         let mut pick = |bit: usize, good: u32| match wrong >> bit & 1 {
             1 => self.random.pick(&bad).unwrap_or(0),
             _ => good,
@@ -163,16 +180,23 @@ impl Plan {
 
     /// Some of the vocabularies that the vocabulary check refuses, with random queries.
     fn refused_vocabularies(&mut self, seed: Seed) {
-        for planned in vocabulary::all(seed) {
+        for planned in vocabulary::earlier(seed) {
             let vocabulary = planned.case.vocabulary;
-            let refusal = check_vocabulary(&vocabulary).err();
             let short = vocabulary.len() <= LONGEST;
-            if let (Some(refusal), true) = (refusal, short && self.random.chance(ONE_IN)) {
-                let [a, b] = [0, 1].map(|_| self.random.below(6) as u32);
-                let lent = self.random.pick(&[0, 511, 512, 600]).unwrap_or(0);
-                let meant = format!("refused {} {} ", refusal.number, refusal.place);
-                self.add_lent(&vocabulary, [a, b], lent, &meant);
+            if short && self.random.chance(ONE_IN) && refused_before(&vocabulary).is_some() {
+                self.any_query(&vocabulary);
             }
         }
+    }
+
+    /// A vocabulary, which may be refused, with a random query.
+    pub fn any_query(&mut self, vocabulary: &[u8]) {
+        let [a, b] = [0, 1].map(|_| self.random.below(6) as u32);
+        let lent = self.random.pick(&[0, 511, 512, 600]).unwrap_or(0);
+        let meant = match check_vocabulary(vocabulary) {
+            Err(refusal) => format!("refused {} {} ", refusal.number, refusal.place),
+            Ok(_) => String::new(),
+        };
+        self.add_lent(vocabulary, [a, b], lent, &meant);
     }
 }

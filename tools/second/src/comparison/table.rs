@@ -3,18 +3,22 @@
 use crate::comparison::call::Compared;
 use crate::comparison::checks::fault;
 use crate::comparison::counts::COUNTS;
+use crate::comparison::editions::LATE;
 use crate::comparison::errors::ERRORS;
+use crate::comparison::file::Case;
 use crate::comparison::plan::Planned;
 use crate::comparison::print::{run, Outcome};
 use crate::comparison::types::Types;
 use crate::table::Table;
+use crate::vocabulary::editions::is_second;
 use crate::vocabulary::records::records;
+use crate::vocabulary::told::{add_late, add_readers, rightly_counted};
 
 /// Vocabularies with more types do not have the errors tried on them, for their time.
 const MOST_TYPES: usize = 256;
 
 /// The refusals that cases have to meet.
-const REFUSALS: [u8; 11] = [1, 2, 3, 4, 5, 6, 7, 8, 10, 11, 12];
+const REFUSALS: [u8; 12] = [1, 2, 3, 4, 5, 6, 7, 8, 28, 10, 11, 12];
 
 /// A sort of answer: its name, and whether an answer is one.
 type Sort = (&'static str, fn(&Compared) -> bool);
@@ -81,6 +85,24 @@ pub fn table(cases: &[Planned]) -> Table {
         let count = told.iter().filter(|error| **error == name).count();
         table.add(&format!("would change by: {name}"), count, 1);
     }
+    let second = pairs().filter(|(p, o)| o.answer.is_ok() && is_second(&p.case.vocabulary));
+    table.add("edition 2, compared", second.count(), 100);
+    add_readers(
+        &mut table,
+        cases.iter().map(|planned| planned.case.vocabulary.as_slice()),
+    );
+    add_late(&mut table, &LATE, &with_the_right_count(cases));
     table.object(cases, &outcomes, fault);
     table
+}
+
+/// The refusals, 0 for none, that cases which 28 refuses meet with the right k.
+fn with_the_right_count(cases: &[Planned]) -> Vec<u8> {
+    let refusal = |planned: &Planned| {
+        let vocabulary = rightly_counted(&planned.case.vocabulary)?;
+        let case = planned.case.clone();
+        let answer = run(&Case { vocabulary, ..case }).answer;
+        Some(answer.map_or_else(|refusal| refusal.number, |_| 0))
+    };
+    cases.iter().filter_map(refusal).collect()
 }

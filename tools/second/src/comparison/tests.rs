@@ -11,6 +11,7 @@ use crate::comparison::print::run;
 use crate::comparison::{decode, encode, lines, Case, Types};
 use crate::tests::paper::{header, names, refusal, vocabularies};
 use crate::tests::stored;
+use crate::vocabulary::editions::{holding, second};
 use crate::vocabulary::records::records;
 
 /// What the lent bytes hold before a call.
@@ -67,6 +68,30 @@ fn sample_10() {
     assert_eq!(refused(&names(13), 1, 14, 511), refusal(10, 14));
 }
 
+/// Each sample has the same answer and the same bytes in edition 2; a wrong k is 28, before 10, 11 and 12.
+#[test]
+fn editions() {
+    for vocabulary in vocabularies() {
+        assert_eq!(compared(&second(&vocabulary), 1, 2), compared(&vocabulary, 1, 2));
+    }
+    let refused = |vocabulary: &[u8], a, lent| {
+        let mut buffer = vec![FILLING; lent];
+        let answer = compare(vocabulary, a, 1, &mut buffer).unwrap_err();
+        assert_eq!(buffer, vec![FILLING; lent]);
+        answer
+    };
+    assert_eq!(refused(&second(&names(13)), 1, 512), refusal(11, 13));
+    assert_eq!(refused(&second(&names(12)), 0, 512), refusal(10, 0));
+    for (count, held) in [(12, 11), (12, 0), (13, 12), (13, 269)] {
+        for (a, lent) in [(1, 512), (0, 512), (1, 511), (99, 0)] {
+            assert_eq!(
+                refused(&holding(&names(count), held), a, lent),
+                refusal(28, count.into())
+            );
+        }
+    }
+}
+
 /// The cases made of the samples: the six with three numbers of lent bytes, and those of sample 10. Each is made for an
 /// answer, but for 15 where enough bytes are lent to samples that have theirs already; each gets it.
 #[test]
@@ -93,6 +118,11 @@ fn faults_are_found() {
     assert_eq!(fault(&first, &outcome), Some(other.to_string()));
     first.meant = "equal".to_string();
     assert!(fault(&first, &run(&first.case)).is_some_and(|text| text.contains("meant equal")));
+    first.meant = String::new();
+    let mut refused = run(&first.case);
+    refused.answer = Err(refusal(12, 0));
+    let other = "is another answer in the other edition";
+    assert_eq!(fault(&first, &refused), Some(other.to_string()));
 }
 
 /// The cases of the samples and the families that are answered, of up to 6 atoms: types, terms and answer.

@@ -4,8 +4,6 @@
 use crate::vocabulary::chain;
 use crate::vocabulary::records::{at, Record, A, B};
 
-/// The kind of a name.
-const NAME: u8 = 3;
 /// The kind of "some role A to B".
 pub const SOME: u8 = 7;
 /// The kind of "all role A to B".
@@ -39,8 +37,11 @@ pub type Set = Vec<usize>;
 
 /// The numbers of the atoms, in record order.
 pub fn atoms(records: &[Record]) -> Vec<usize> {
-    let is_atom = |record: &Record| [NAME, SOME, ALL].contains(&record.kind);
-    let all = records.iter().enumerate().skip(1).filter(|(_, record)| is_atom(record));
+    let all = records
+        .iter()
+        .enumerate()
+        .skip(1)
+        .filter(|(_, record)| record.is_atom());
     all.map(|(number, _)| number).collect()
 }
 

@@ -9,7 +9,7 @@ use crate::script::records::{
     is_step, replace, set, with, Script, Words, FIRST, KIND, NEXT, QUERY_A, QUERY_B, RECORD_BYTES, REDUCTION, TERM,
 };
 use crate::vocabulary;
-use crate::vocabulary::{check_vocabulary, Refusal};
+use crate::vocabulary::{check_vocabulary, refused_before, Refusal};
 
 /// The longest vocabularies, in bytes, that are taken from those that the vocabulary check refuses.
 const SHORT: usize = 200;
@@ -270,22 +270,33 @@ impl Plan {
     /// Some of the short vocabularies that each row of the vocabulary check refuses, with the
     /// beginnings of scripts.
     fn refused_vocabularies(&mut self, bases: &[Base], seed: Seed) {
-        let all = vocabulary::all(seed).into_iter().map(|planned| planned.case.vocabulary);
+        let all = vocabulary::earlier(seed)
+            .into_iter()
+            .map(|planned| planned.case.vocabulary);
         let short = all.filter(|vocabulary| vocabulary.len() <= SHORT);
-        let answered = short.map(|v| (check_vocabulary(&v).err(), v));
+        let answered = short.map(|v| (refused_before(&v), v));
         let refused_ones: Vec<(Refusal, Vec<u8>)> = answered.filter_map(|(refusal, v)| Some((refusal?, v))).collect();
         for row in 1..=8 {
             let of_row = refused_ones.iter().filter(|(refusal, _)| refusal.number == row);
             let of_row: Vec<_> = of_row.collect();
             for _ in 0..OF_EACH_ROW {
-                let vocabulary = self.random.pick(&of_row);
-                let base = bases.get(self.random.below(bases.len()));
-                let length = self.random.pick(&BEGINNINGS).unwrap_or(0);
-                if let (Some((refusal, vocabulary)), Some(base)) = (vocabulary, base) {
-                    let bytes = beginning(&base.writer.bytes(), length);
-                    self.add(vocabulary, bytes, &refused(refusal.number, refusal.place));
+                if let Some((_, vocabulary)) = self.random.pick(&of_row) {
+                    self.with_a_beginning(vocabulary, bases);
                 }
             }
+        }
+    }
+
+    /// A vocabulary, which may be refused, with the beginning of a script.
+    pub fn with_a_beginning(&mut self, vocabulary: &[u8], bases: &[Base]) {
+        let base = bases.get(self.random.below(bases.len()));
+        let length = self.random.pick(&BEGINNINGS).unwrap_or(0);
+        let meant = match check_vocabulary(vocabulary) {
+            Err(refusal) => refused(refusal.number, refusal.place),
+            Ok(_) => String::new(),
+        };
+        if let Some(base) = base {
+            self.add(vocabulary, beginning(&base.writer.bytes(), length), &meant);
         }
     }
 }

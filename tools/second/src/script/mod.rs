@@ -1,10 +1,11 @@
-//! The script check (rows 1 to 8, 10 and 13 to 25), and the cases that try it.
+//! The script check (rows 1 to 8, 28, 13, 14, 10 and 15 to 25), and the cases that try it.
 
 mod call;
 mod chain;
 mod checks;
 mod columns;
 mod damage;
+mod editions;
 mod errors;
 mod families;
 mod faults;

@@ -69,6 +69,7 @@ pub fn all(seed: Seed) -> Vec<Planned> {
     }
     plan.reduced_repeats();
     plan.rewritten_reductions();
+    plan.editions();
     plan.cases
 }
 

@@ -2,18 +2,21 @@
 
 use crate::script::call::{check_by, check_script};
 use crate::script::checks::{fault, keeps_form};
+use crate::script::editions::LATE;
 use crate::script::errors;
 use crate::script::merged::has_repeat;
 use crate::script::plan::{script_of, Planned};
 use crate::script::records::{at, chain, decode, COLUMN, EXTENSION, KIND, MOST_RECORDS, OWNER, POSITION, RECORD_BYTES};
 use crate::script::sorts;
 use crate::table::Table;
+use crate::vocabulary::editions::is_second;
 use crate::vocabulary::records::{at as vocabulary_record, records};
+use crate::vocabulary::told::{add_late, add_readers, rightly_counted};
 use crate::vocabulary::Refusal;
 use std::collections::BTreeSet;
 
 /// The refusals that cases have to meet, and how many cases have to.
-const REFUSALS: [(std::ops::RangeInclusive<u8>, usize); 3] = [(1..=8, 3), (10..=10, 30), (13..=25, 25)];
+const REFUSALS: [(std::ops::RangeInclusive<u8>, usize); 4] = [(1..=8, 3), (28..=28, 50), (10..=10, 30), (13..=25, 25)];
 /// How many cases have to tell each error.
 const TELLING: usize = 3;
 
@@ -121,6 +124,25 @@ pub fn table(cases: &[Planned]) -> Table {
         let told = pairs().filter(|(p, a)| check_by(*wrong, &p.case.vocabulary, &p.case.script) != **a);
         table.add(&format!("would change by: {name}"), told.count(), TELLING);
     }
+    let second = || pairs().filter(|(p, _)| is_second(&p.case.vocabulary));
+    table.add("edition 2, accepted", second().filter(|(_, a)| a.is_ok()).count(), 30);
+    let refused = second().filter(|(_, a)| a.is_err() && keeps_form(**a));
+    table.add("edition 2, refused along the chain", refused.count(), 40);
+    add_readers(
+        &mut table,
+        cases.iter().map(|planned| planned.case.vocabulary.as_slice()),
+    );
+    add_late(&mut table, &LATE, &with_the_right_count(cases));
     table.object(cases, &answers, wrong);
     table
+}
+
+/// The refusals, 0 for none, that cases which 28 refuses meet with the right k.
+fn with_the_right_count(cases: &[Planned]) -> Vec<u8> {
+    let refusal = |planned: &Planned| {
+        let vocabulary = rightly_counted(&planned.case.vocabulary)?;
+        let answer = check_script(&vocabulary, &planned.case.script);
+        Some(answer.map_or_else(|refusal| refusal.number, |_| 0))
+    };
+    cases.iter().filter_map(refusal).collect()
 }

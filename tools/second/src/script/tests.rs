@@ -12,6 +12,7 @@ use crate::script::sorts::SORTS;
 use crate::script::{decode, encode, lines, Case};
 use crate::tests::paper::{complements, header, levels, nested, refusal, script, scripts};
 use crate::tests::stored;
+use crate::vocabulary::editions::{holding, second};
 
 /// The cases of some groups.
 fn planned(groups: impl Fn(&mut Plan)) -> Vec<Planned> {
@@ -34,6 +35,20 @@ fn answer(case: &Case) -> Result<usize, crate::vocabulary::Refusal> {
 fn samples_7_to_9() {
     for (vocabulary, script, answer) in scripts() {
         assert_eq!(check_script(&vocabulary, &script), answer);
+    }
+}
+
+/// Samples 7 to 9 in edition 2 have the same answers; a wrong k is 28, before 13 and all that follows.
+#[test]
+fn editions() {
+    for (vocabulary, script, answer) in scripts() {
+        let counted = second(&vocabulary);
+        assert_eq!(check_script(&counted, &script), answer);
+        assert_eq!(check_script(&counted, &script[1..]), Err(refusal(13, 0)));
+        let k = usize::from(counted[6]);
+        for script in [&script[..], &script[1..], &script[..16], &[0; 32], &[]] {
+            assert_eq!(check_script(&holding(&vocabulary, 9), script), Err(refusal(28, k)));
+        }
     }
 }
 
@@ -136,7 +151,7 @@ fn faults_are_found() {
     );
 }
 
-/// An answer that another way to tell equal terms does not bear out is found out.
+/// An answer that another way to tell equal terms, or the other edition, does not bear out is found out.
 #[test]
 fn other_terms_are_found() {
     let planned = Planned {
@@ -150,6 +165,10 @@ fn other_terms_are_found() {
     assert_eq!(
         fault(&planned, Err(refusal(21, 9))),
         Some("is refused 21 9, but accepted 4 by the first records of its terms".to_string())
+    );
+    assert_eq!(
+        fault(&planned, Err(refusal(13, 0))),
+        Some("is refused 13 0, but accepted 4 in the other edition".to_string())
     );
 }
 

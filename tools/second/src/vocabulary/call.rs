@@ -1,6 +1,7 @@
-//! The vocabulary check (rows 1 to 8 of the table) and the record call (rows 1 and 9).
+//! The vocabulary check (rows 1 to 8 of the table, then 28) and the record call (rows 1 and 9).
 
-use crate::vocabulary::records::{at, records, uses, Record, Use, A, B, NEXT, RECORD_BYTES};
+use crate::vocabulary::records::{at, uses, Record, Use, A, B, NEXT, RECORD_BYTES};
+use crate::vocabulary::rules::{Paper, Rules};
 
 /// The most records of a vocabulary, header included.
 pub const MOST_RECORDS: usize = 512;
@@ -27,45 +28,35 @@ pub fn refuse_if(applies: bool, number: u8, place: usize) -> Result<(), Refusal>
 
 /// The vocabulary check: the number of records, header included, or the first refusal.
 pub fn check_vocabulary(bytes: &[u8]) -> Result<usize, Refusal> {
-    check_length(bytes)?;
-    let records = records(bytes);
-    check_header(&records)?;
-    for place in 1..records.len() {
-        for number in 3..=7 {
-            refuse_if(applies(number, &records, place), number, place)?;
-        }
-    }
-    check_chains(&records)?;
-    Ok(records.len())
+    Paper.check(bytes)
 }
 
 /// The record call: the byte offset of a record, or the first refusal.
 pub fn find_record(bytes: &[u8], number: u32) -> Result<usize, Refusal> {
-    check_length(bytes)?;
-    let number = number as usize;
-    let count = bytes.len() / RECORD_BYTES;
-    refuse_if(number >= count, 9, number)?;
-    Ok(RECORD_BYTES * number)
+    Paper.find(bytes, number)
 }
 
 /// Row 1: the length of the vocabulary.
-fn check_length(bytes: &[u8]) -> Result<(), Refusal> {
+pub fn check_length(bytes: &[u8]) -> Result<(), Refusal> {
     let length = bytes.len();
     let fits = (RECORD_BYTES..=MOST_RECORDS * RECORD_BYTES).contains(&length);
     refuse_if(!fits || !length.is_multiple_of(RECORD_BYTES), 1, 0)
 }
 
-/// Row 2: the header, apart from its A.
-fn check_header(records: &[Record]) -> Result<(), Refusal> {
-    let header = at(records, 0);
-    let wrong = header.kind != 16 || header.second != 1 || header.fields[B] > MOST_ROLES || header.fields[NEXT] != 0;
-    refuse_if(wrong, 2, 0)
+/// Rows 3 to 7, tried at each record in turn.
+pub fn check_records(records: &[Record]) -> Result<(), Refusal> {
+    for place in 1..records.len() {
+        for number in 3..=7 {
+            refuse_if(applies(number, records, place), number, place)?;
+        }
+    }
+    Ok(())
 }
 
 /// Rows 3 to 7: whether a row's condition applies to the record at a place.
 pub fn applies(row: u8, records: &[Record], place: usize) -> bool {
     let record = at(records, place);
-    let any = |purpose: Use, wrong: &dyn Fn(u16) -> bool| record.used_for(purpose).into_iter().any(wrong);
+    let any = |purpose: Use, wrong: &dyn Fn(u16) -> bool| record.fields_for(purpose).any(wrong);
     match row {
         3 => uses(record.kind).is_none() || record.second != 0,
         4 => any(Use::Unused, &|field| field != 0),
@@ -89,7 +80,7 @@ fn is_label_before(records: &[Record], label: u16, place: usize) -> bool {
 }
 
 /// Row 8: the header's A, then every statement's next, in record order.
-fn check_chains(records: &[Record]) -> Result<(), Refusal> {
+pub fn check_chains(records: &[Record]) -> Result<(), Refusal> {
     for (place, record) in records.iter().enumerate() {
         let next = match place {
             0 => record.fields[A],

@@ -5,7 +5,8 @@ use crate::vocabulary::call::{is_term_before, may_follow};
 use crate::vocabulary::draft::Draft;
 use crate::vocabulary::records::{uses, Record, Use, A, B, NEXT};
 
-/// Headers that meet refusal 2.
+/// Headers that meet refusal 2, but for the one of edition 2: it was refused when there was no such edition, and the
+/// cases that are drawn from this list are to stay.
 pub fn wrong_headers(roles: u16) -> Vec<Record> {
     let good = Record::header(roles);
     let mut wrong = Vec::new();
@@ -49,6 +50,21 @@ pub fn ways(number: u8, record: Record, draft: &Draft, count: usize) -> Vec<Reco
 /// One such way at random, or nothing where there is none.
 pub fn way(number: u8, record: Record, draft: &Draft, count: usize, random: &mut Random) -> Option<Record> {
     random.pick(&ways(number, record, draft, count))
+}
+
+/// Pushes a record that meets one of the refusals 3 to 7.
+pub fn push_fault(number: u8, draft: &mut Draft, count: usize, random: &mut Random) {
+    let kinds: &[u8] = match number {
+        4 => &[1, 2, 3, 4, 5, 6, 7, 8],
+        5 => &[4, 5, 6, 7, 8, 9],
+        6 => &[7, 8],
+        7 => &[3],
+        _ => &[1, 2, 3, 4, 5, 6, 7, 8, 9],
+    };
+    let kind = random.pick(kinds).unwrap_or(1);
+    let record = draft.valid(kind, random);
+    let wrong = record.and_then(|r| way(number, r, draft, count, random));
+    draft.records.extend(wrong);
 }
 
 /// The record with each field of a purpose changed to each value in turn.

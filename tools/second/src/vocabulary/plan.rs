@@ -5,9 +5,10 @@ use crate::cases::{beginning, with_byte};
 use crate::random::{Random, Seed};
 use crate::vocabulary::call::{check_vocabulary, Refusal};
 use crate::vocabulary::draft::Draft;
-use crate::vocabulary::faults::{near_labels, right_nexts, way, ways, with, wrong_headers, wrong_nexts};
+use crate::vocabulary::editions::other;
+use crate::vocabulary::faults::{near_labels, push_fault, right_nexts, way, ways, with, wrong_headers, wrong_nexts};
 use crate::vocabulary::file::Case;
-use crate::vocabulary::records::{at, Record, A, RECORD_BYTES};
+use crate::vocabulary::records::{at, Record, A, EDITION_2, RECORD_BYTES};
 
 /// The seed of all random choices in the stored cases.
 const SEED: u64 = 20_240_601;
@@ -29,7 +30,7 @@ const SPOTS: [(usize, usize); 9] = [
 const FULL_SPOTS: [(usize, usize); 4] = [(512, 1), (512, 256), (512, 300), (512, 511)];
 
 /// The answer of the vocabulary check for which a case is made.
-type Meant = Option<Result<usize, Refusal>>;
+pub type Meant = Option<Result<usize, Refusal>>;
 
 /// A case, and the answer for which it is made.
 pub struct Planned {
@@ -40,15 +41,27 @@ pub struct Planned {
 }
 
 /// The cases so far, and the source of random choices.
-struct Plan {
+pub struct Plan {
     /// The cases.
     cases: Vec<Planned>,
     /// The source.
-    random: Random,
+    pub random: Random,
 }
 
-/// All cases.
+/// All cases. What was made later follows what was stored before.
 pub fn all(seed: Seed) -> Vec<Planned> {
+    let mut plan = before_editions(seed);
+    plan.editions();
+    plan.cases
+}
+
+/// The cases from before edition 2, from which other subjects draw.
+pub fn earlier(seed: Seed) -> Vec<Planned> {
+    before_editions(seed).cases
+}
+
+/// The groups from before edition 2.
+fn before_editions(seed: Seed) -> Plan {
     let mut plan = Plan {
         cases: Vec::new(),
         random: Random::new(seed.unwrap_or(SEED)),
@@ -70,23 +83,38 @@ pub fn all(seed: Seed) -> Vec<Planned> {
     plan.full();
     plan.damaged();
     plan.record_calls();
-    plan.cases
+    plan
 }
 
-/// The cases that the vocabulary check answers otherwise than meant, a line for each.
+/// What is wrong with the cases, a line for each: the vocabulary check answers otherwise than meant, or the other
+/// edition of an accepted vocabulary otherwise.
 pub fn misses(planned: &[Planned]) -> Vec<String> {
-    let answers = planned.iter().map(|p| (check_vocabulary(&p.case.vocabulary), p.meant));
-    let missed = answers
-        .enumerate()
-        .filter(|(_, (is, meant))| meant.is_some_and(|m| m != *is));
-    missed
-        .map(|(i, (is, meant))| format!("case {i} is {is:?}, meant {meant:?}"))
+    let fault = |planned: &Planned| {
+        let answer = check_vocabulary(&planned.case.vocabulary);
+        let other = answer.map(|_| check_vocabulary(&other(&planned.case.vocabulary)));
+        match (planned.meant, other) {
+            (Some(meant), _) if meant != answer => Some(format!("is {answer:?}, meant {meant:?}")),
+            (_, Ok(other)) if other != answer => Some(format!("is {answer:?}, but {other:?} in the other edition")),
+            _ => None,
+        }
+    };
+    let faults = planned.iter().map(fault).enumerate();
+    faults
+        .filter_map(|(i, fault)| Some(format!("case {i} {}", fault?)))
         .collect()
 }
 
 /// The answer that is a refusal.
-fn refused(number: u8, place: usize) -> Meant {
+pub fn refused(number: u8, place: usize) -> Meant {
     Some(Err(Refusal { number, place }))
+}
+
+/// The answer to a wrong header: of edition 2 any, since what follows it decides.
+fn refused_header(header: Record) -> Meant {
+    if header.second == EDITION_2 {
+        return None;
+    }
+    refused(2, 0)
 }
 
 /// Record numbers around the ends of a vocabulary and of the number formats.
@@ -97,7 +125,7 @@ fn edge_numbers(vocabulary: &[u8]) -> [u32; 7] {
 
 impl Plan {
     /// Adds a case with a record number: mostly one of a record, else an edge.
-    fn add(&mut self, vocabulary: Vec<u8>, meant: Meant) {
+    pub fn add(&mut self, vocabulary: Vec<u8>, meant: Meant) {
         let count = vocabulary.len() / RECORD_BYTES;
         let number = if self.random.chance(3) {
             self.random.pick(&edge_numbers(&vocabulary)).unwrap_or(0)
@@ -116,7 +144,7 @@ impl Plan {
     }
 
     /// A valid vocabulary of `count` records, with a random chain.
-    fn vocabulary(&mut self, count: usize) -> Draft {
+    pub fn vocabulary(&mut self, count: usize) -> Draft {
         let roles = self.random.pick(&[1, 2, 5, 64]).unwrap_or(1);
         let mut draft = Draft::random(roles, count, &mut self.random);
         draft.chain_random(&mut self.random);
@@ -159,7 +187,7 @@ impl Plan {
     }
 
     /// Changes a byte at random.
-    fn damage(&mut self, bytes: &mut [u8]) {
+    pub fn damage(&mut self, bytes: &mut [u8]) {
         let at = self.random.below(bytes.len());
         let small = self.random.below(18) as u8;
         let values = [self.random.byte(), small, small, 0, 255];
@@ -175,7 +203,7 @@ impl Plan {
             for header in wrong_headers(5) {
                 let mut draft = self.vocabulary(count);
                 draft.set(0, header);
-                self.add(draft.bytes(), refused(2, 0));
+                self.add(draft.bytes(), refused_header(header));
             }
             for roles in [0, 1, 63, 64] {
                 let draft = Draft::random(roles, count, &mut self.random);
@@ -347,26 +375,11 @@ impl Plan {
     /// A vocabulary of 14 records with a fault at each of two places.
     fn two_faults(&mut self, first: (usize, u8), second: (usize, u8)) {
         let mut draft = Draft::random(5, first.0, &mut self.random);
-        self.push_fault(&mut draft, first.1, 14);
+        push_fault(first.1, &mut draft, 14, &mut self.random);
         draft.grow(second.0, &mut self.random);
-        self.push_fault(&mut draft, second.1, 14);
+        push_fault(second.1, &mut draft, 14, &mut self.random);
         draft.grow(14, &mut self.random);
         self.add(draft.bytes(), refused(first.1, first.0));
-    }
-
-    /// Pushes a record that meets a refusal.
-    fn push_fault(&mut self, draft: &mut Draft, number: u8, count: usize) {
-        let kinds: &[u8] = match number {
-            4 => &[1, 2, 3, 4, 5, 6, 7, 8],
-            5 => &[4, 5, 6, 7, 8, 9],
-            6 => &[7, 8],
-            7 => &[3],
-            _ => &[1, 2, 3, 4, 5, 6, 7, 8, 9],
-        };
-        let kind = self.random.pick(kinds).unwrap_or(1);
-        let record = draft.valid(kind, &mut self.random);
-        let wrong = record.and_then(|r| way(number, r, draft, count, &mut self.random));
-        draft.records.extend(wrong);
     }
 
     /// Two faults of rows 3 to 7 in one record: the smaller number decides.
@@ -401,7 +414,7 @@ impl Plan {
         for number in 3..=7 {
             for place in [3, 6, 13] {
                 let mut draft = Draft::random(5, place, &mut self.random);
-                self.push_fault(&mut draft, number, 14);
+                push_fault(number, &mut draft, 14, &mut self.random);
                 draft.grow(14, &mut self.random);
                 self.spoil_chain(&draft, refused(number, place));
                 self.spoil_header(&draft);
@@ -432,7 +445,7 @@ impl Plan {
         let mut wrong = draft.clone();
         wrong.set(0, with(header, A, self.random.number()));
         let mut bytes = wrong.bytes();
-        self.add(bytes.clone(), refused(2, 0));
+        self.add(bytes.clone(), refused_header(header));
         bytes.push(0);
         self.add(bytes, refused(1, 0));
     }
@@ -517,7 +530,7 @@ impl Plan {
         }
         for number in 3..=7 {
             let mut draft = Draft::random(5, 6, &mut self.random);
-            self.push_fault(&mut draft, number, 9);
+            push_fault(number, &mut draft, 9, &mut self.random);
             draft.grow(9, &mut self.random);
             self.add_edges(draft.bytes());
         }
@@ -535,7 +548,7 @@ impl Plan {
     }
 
     /// A vocabulary with each of the edge numbers, and some numbers of its records.
-    fn add_edges(&mut self, vocabulary: Vec<u8>) {
+    pub fn add_edges(&mut self, vocabulary: Vec<u8>) {
         let count = vocabulary.len() / RECORD_BYTES;
         let mut numbers = edge_numbers(&vocabulary).to_vec();
         numbers.extend((0..2).map(|_| self.random.below(count) as u32));

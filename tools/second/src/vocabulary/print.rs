@@ -39,7 +39,7 @@ pub struct Table {
 }
 
 /// The refusals that the cases have to meet.
-const ROWS: std::ops::RangeInclusive<u8> = 1..=9;
+const ROWS: [u8; 10] = [1, 2, 3, 4, 5, 6, 7, 8, 9, 28];
 
 /// How many of the answers are a refusal of this number, or accept, for number 0.
 fn count(answers: &[Result<usize, Refusal>], number: u8) -> usize {
@@ -73,7 +73,9 @@ impl Table {
 
     /// The refusals that no case meets.
     pub fn never_met(&self) -> Vec<u8> {
-        ROWS.filter(|number| self.places(*number).is_empty()).collect()
+        ROWS.into_iter()
+            .filter(|number| self.places(*number).is_empty())
+            .collect()
     }
 
     /// The table as text. Row 0 counts the cases that are accepted.

@@ -28,6 +28,11 @@ pub const B: usize = 1;
 /// The place of next among a record's fields.
 pub const NEXT: usize = 2;
 
+/// The second byte of a header whose next is 0.
+pub const EDITION_1: u8 = 1;
+/// The second byte of a header whose next is k, the number of atoms.
+pub const EDITION_2: u8 = 2;
+
 /// What a kind of record uses a field for.
 #[derive(Clone, Copy, PartialEq, Eq)]
 pub enum Use {
@@ -53,12 +58,20 @@ impl Record {
         }
     }
 
-    /// The header of a vocabulary with `roles` roles and no statement on its chain.
+    /// The header, of edition 1, of a vocabulary with `roles` roles and no statement on its chain.
     pub fn header(roles: u16) -> Record {
         Record {
             kind: 16,
-            second: 1,
+            second: EDITION_1,
             fields: [0, roles, 0],
+        }
+    }
+
+    /// The same of edition 2, with no atom.
+    pub fn header_2(roles: u16) -> Record {
+        Record {
+            second: EDITION_2,
+            ..Record::header(roles)
         }
     }
 
@@ -81,11 +94,15 @@ impl Record {
 
     /// The fields that the record's kind uses so.
     pub fn used_for(&self, purpose: Use) -> Vec<u16> {
+        self.fields_for(purpose).collect()
+    }
+
+    /// The same, one after the other.
+    pub fn fields_for(&self, purpose: Use) -> impl Iterator<Item = u16> {
         let uses = uses(self.kind).into_iter().flatten();
         uses.zip(self.fields)
-            .filter(|(u, _)| *u == purpose)
-            .map(|(_, f)| f)
-            .collect()
+            .filter(move |(used, _)| *used == purpose)
+            .map(|(_, field)| field)
     }
 
     /// A and B, as the numbers of records.
@@ -107,6 +124,11 @@ impl Record {
     /// Whether the record is a name.
     pub fn is_name(&self) -> bool {
         self.kind == 3
+    }
+
+    /// Whether the record is an atom: a name, or a restriction of either kind.
+    pub fn is_atom(&self) -> bool {
+        matches!(self.kind, 3 | 7 | 8)
     }
 }
 

@@ -1,9 +1,10 @@
 //! What the cases have to show before they are used: the lines for which they were made, buffers that change in nothing
 //! but what the answer allows, and additions that can be read from them.
 
-use crate::vocabulary::records::{at, bytes, records, Record, RECORD_BYTES};
+use crate::vocabulary::editions::{other, second};
+use crate::vocabulary::records::{at, bytes, records, Record, EDITION_2, RECORD_BYTES};
 use crate::vocabulary::{chain, check_vocabulary, Refusal};
-use crate::writer::call::Outcome;
+use crate::writer::call::{write, Outcome};
 use crate::writer::file::{Call, Case};
 use crate::writer::plan::{call_of, Meant, Planned, Shown};
 use crate::writer::print::line;
@@ -22,8 +23,8 @@ pub fn fault(planned: &Planned, outcome: &Outcome) -> Option<String> {
     }
 }
 
-/// What reading the buffer shows, where the call is not refused and the vocabulary is accepted: the roles, then each
-/// record. Every statement has to be on the chain.
+/// What reading the buffer shows, where the call is not refused and the vocabulary is accepted: the edition, the roles,
+/// then each record. Every statement has to be on the chain.
 pub fn shown(outcome: &Outcome) -> Option<Shown> {
     let vocabulary = outcome.buffer.get(..outcome.answer.ok()?)?;
     check_vocabulary(vocabulary).ok()?;
@@ -31,6 +32,7 @@ pub fn shown(outcome: &Outcome) -> Option<Shown> {
     let numbers = (0..).zip(&all).filter(|(_, record)| record.is_statement());
     let statements: Vec<u16> = numbers.map(|(number, _)| number).collect();
     (chain(&all) == statements).then(|| Shown {
+        edition: at(&all, 0).second,
         roles: at(&all, 0).fields[1],
         additions: all.iter().skip(1).map(|record| call_of(*record)).collect(),
     })
@@ -43,7 +45,9 @@ fn unsupported(case: &Case, outcome: &Outcome) -> Option<String> {
         (Err(_), _) if outcome.buffer != before => Some("a refusal leaves other bytes"),
         (Err(refusal), Call::Make { roles }) => (!is_refused(&before, roles, refusal)).then_some("nothing is wrong"),
         (Ok(_), Call::Make { roles }) => unmade(&before, outcome, roles),
-        (answer, _) => other_than_read(case, &before, answer).or_else(|| badly_added(case, &before, outcome)),
+        (answer, _) => other_than_read(case, &before, answer)
+            .or_else(|| badly_added(case, &before, outcome))
+            .or_else(|| differs_by_edition(case, &before, outcome)),
     };
     problem.map(str::to_string)
 }
@@ -56,16 +60,18 @@ fn is_refused(before: &[u8], roles: u32, refusal: Refusal) -> bool {
 
 /// What is wrong with a vocabulary that was made.
 fn unmade(before: &[u8], outcome: &Outcome, roles: u32) -> Option<&'static str> {
-    let shows = shown(outcome).is_some_and(|shown| u32::from(shown.roles) == roles && shown.additions.is_empty());
+    let shows = shown(outcome).is_some_and(|shown| {
+        shown.edition == EDITION_2 && u32::from(shown.roles) == roles && shown.additions.is_empty()
+    });
     let behind = |buffer: &[u8]| buffer.get(RECORD_BYTES..).map(<[u8]>::to_vec);
     match outcome.answer {
         Ok(RECORD_BYTES) if shows && behind(&outcome.buffer) == behind(before) => None,
-        _ => Some("what was made is no empty vocabulary, or something behind it changed"),
+        _ => Some("what was made is no empty vocabulary of edition 2, or something behind it changed"),
     }
 }
 
 /// The vocabulary as it would be with the new record, where the bytes in use are accepted and there is room for it: as
-/// many bytes as will be in use. A statement is reached by the first 0 along the chain.
+/// many bytes as will be in use. A statement is reached by the first 0 along the chain; k is counted anew.
 fn would_be(case: &Case, before: &[u8]) -> Option<Vec<u8>> {
     let used = usize::try_from(case.used).ok()?;
     let mut all = records(before.get(..used)?);
@@ -77,6 +83,9 @@ fn would_be(case: &Case, before: &[u8]) -> Option<Vec<u8>> {
     };
     all.push(Record::new(kind, a, b, 0));
     let mut changed = bytes(&all);
+    if at(&all, 0).second == EDITION_2 {
+        changed = second(&changed);
+    }
     if let Call::Statement { .. } = case.call {
         let mut place = link_place(0);
         while let Some([low, high]) = changed.get(place..place + 2) {
@@ -134,4 +143,17 @@ fn badly_added(case: &Case, before: &[u8], outcome: &Outcome) -> Option<&'static
         return Some("the buffer is not that with the new record");
     }
     None
+}
+
+/// What the other edition of accepted bytes in use has against an outcome: the answer is the same, and so is what was
+/// written but for the edition.
+fn differs_by_edition(case: &Case, before: &[u8], outcome: &Outcome) -> Option<&'static str> {
+    let (in_use, behind) = before.split_at_checked(usize::try_from(case.used).ok()?)?;
+    check_vocabulary(in_use).ok()?;
+    let mut buffer = [&other(in_use), behind].concat();
+    let answer = write(&mut buffer, case.used, case.call);
+    let length = outcome.answer.unwrap_or(in_use.len());
+    let (written, rest) = outcome.buffer.split_at_checked(length)?;
+    let same = answer == outcome.answer && buffer == [&other(written), rest].concat();
+    (!same).then_some("the other edition is written otherwise")
 }

@@ -1,9 +1,11 @@
-//! The writer (making: rows 27 and 2; additions: rows 1 to 8, 27, and 3 to 7 at the new record), and the cases that
+//! The writer (making: rows 27 and 2; additions: rows 1 to 8, 28, 27, and 3 to 7 at the new record), and the cases that
 //! try it.
 
 mod call;
 mod chains;
 mod checks;
+mod counted;
+mod editions;
 mod errors;
 mod file;
 mod lengths;

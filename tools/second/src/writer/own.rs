@@ -24,7 +24,7 @@ const OTHER_KINDS: [u8; 20] = [
 ];
 
 /// Whether a call can ask for a record: it has no next and no second byte.
-fn can_be_asked(record: &Record) -> bool {
+pub fn can_be_asked(record: &Record) -> bool {
     record.second == 0 && record.fields[2] == 0
 }
 

@@ -20,9 +20,11 @@ const LONGER: usize = 110;
 /// The bytes of the longest vocabulary.
 pub const LONGEST: usize = 4096;
 
-/// What is read from a buffer: the roles, and the additions in their order.
+/// What is read from a buffer: the edition, the roles, and the additions in their order.
 #[derive(Clone, Debug, PartialEq, Eq)]
 pub struct Shown {
+    /// The header's second byte.
+    pub edition: u8,
     /// The role count.
     pub roles: u16,
     /// The additions.
@@ -42,7 +44,8 @@ pub type Planned = plan::Planned<Case, Meant>;
 /// The cases so far, and the source of random choices.
 pub type Plan = plan::Plan<Case, Meant>;
 
-/// All cases. With a seed of its own a run leaves out what is the same in every run, and has more random cases.
+/// All cases. With a seed of its own a run leaves out what is the same in every run, and has more random cases. What was
+/// made later follows what was stored before.
 pub fn all(seed: Seed) -> Vec<Planned> {
     Plan::made(seed.unwrap_or(SEED), |plan| {
         if seed.is_none() {
@@ -65,6 +68,8 @@ pub fn all(seed: Seed) -> Vec<Planned> {
         plan.mixtures();
         plan.refused_vocabularies(seed);
         plan.random_additions(seed);
+        plan.editions();
+        plan.edition_sequences();
     })
 }
 

@@ -1,12 +1,12 @@
 //! Vocabularies that rows 1 to 8 refuse, and mixtures of refusals, of which the first in order is given.
 
 use crate::cases::with_byte;
-use crate::comparison::{sound, spoil};
+use crate::comparison::{sound, spoil, spoil_count};
 use crate::random::Seed;
 use crate::vocabulary;
 use crate::vocabulary::records::{records, Record};
-use crate::vocabulary::{check_vocabulary, Draft};
-use crate::writer::plan::{call_of, length, refused, Meant, Plan};
+use crate::vocabulary::{check_vocabulary, refused_before, Draft};
+use crate::writer::plan::{anything, call_of, length, refused, Meant, Plan};
 
 /// One in so many refused cases of the vocabulary check is added to: of short ones, and of long ones.
 const ONE_IN: [usize; 2] = [7, 16];
@@ -34,7 +34,7 @@ impl Plan {
     }
 
     /// A mixture, by the row (0 for none) and by the bits of `wrong`.
-    fn mixture(&mut self, row: u8, vocabulary: &[u8], wrong: usize) {
+    pub fn mixture(&mut self, row: u8, vocabulary: &[u8], wrong: usize) {
         let draft = Draft {
             records: records(vocabulary),
         };
@@ -54,6 +54,7 @@ impl Plan {
         for record in [other, statement] {
             let (bytes, place) = match row {
                 0 => (vocabulary.to_vec(), 0),
+                28 => spoil_count(row, vocabulary, &mut self.random),
                 _ => spoil(row, vocabulary),
             };
             let meant = match row {
@@ -68,21 +69,30 @@ impl Plan {
 
     /// Some of the vocabularies that the vocabulary check refuses.
     pub fn refused_vocabularies(&mut self, seed: Seed) {
-        for planned in vocabulary::all(seed) {
+        for planned in vocabulary::earlier(seed) {
             let bytes = planned.case.vocabulary;
-            let Err(refusal) = check_vocabulary(&bytes) else {
+            if refused_before(&bytes).is_none() {
                 continue;
-            };
+            }
             let [of_short, of_long] = ONE_IN;
             let one_in = if bytes.len() <= SHORT { of_short } else { of_long };
             if bytes.len() + 64 <= MOST_LENT && self.random.chance(one_in) {
-                let draft = Draft {
-                    records: records(&bytes),
-                };
-                let call = self.any_call(&draft);
-                let free = self.random.pick(&[0, 7, 8, 16, 64]).unwrap_or(8);
-                self.add_free(&bytes, free, call, refused(refusal.number, refusal.place));
+                self.any_addition(&bytes);
             }
         }
+    }
+
+    /// An addition to a vocabulary, which may be refused, with room or without.
+    pub fn any_addition(&mut self, bytes: &[u8]) {
+        let draft = Draft {
+            records: records(bytes),
+        };
+        let call = self.any_call(&draft);
+        let free = self.random.pick(&[0, 7, 8, 16, 64]).unwrap_or(8);
+        let meant = match check_vocabulary(bytes) {
+            Err(refusal) => refused(refusal.number, refusal.place),
+            Ok(_) => anything(),
+        };
+        self.add_free(bytes, free, call, meant);
     }
 }

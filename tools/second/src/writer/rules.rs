@@ -1,6 +1,6 @@
 //! The points of the writer in which a wrong one (`errors/`) may differ. Each default is the paper's.
 
-use crate::vocabulary::records::{bytes, records, Record, RECORD_BYTES};
+use crate::vocabulary::records::{at, bytes, records, Record, EDITION_2, NEXT, RECORD_BYTES};
 use crate::vocabulary::{applies, chain, check_vocabulary, refuse_if, Refusal, MOST_RECORDS, MOST_ROLES};
 use crate::writer::file::Call;
 
@@ -13,7 +13,7 @@ pub type Answer = Result<usize, Refusal>;
 /// What is asked before a record is added.
 #[derive(Clone, Copy, PartialEq, Eq)]
 pub enum Check {
-    /// Rows 1 to 8 of the bytes in use.
+    /// Rows 1 to 8 and 28 of the bytes in use.
     InUse,
     /// Row 27.
     Room,
@@ -52,6 +52,16 @@ impl Adding {
     pub fn number(&self) -> u16 {
         self.count() as u16
     }
+
+    /// Whether the header is of edition 2, which holds k.
+    pub fn holds_count(&self) -> bool {
+        at(&self.records, 0).second == EDITION_2
+    }
+
+    /// The k that the header holds.
+    pub fn held(&self) -> u16 {
+        at(&self.records, 0).fields[NEXT]
+    }
 }
 
 /// Puts bytes into a buffer from a place on, as far as it has room for them.
@@ -64,6 +74,9 @@ pub fn put(buffer: &mut [u8], at: usize, bytes: &[u8]) {
 pub fn link_place(holder: usize) -> usize {
     RECORD_BYTES * holder + if holder == 0 { 2 } else { 6 }
 }
+
+/// Where the header's k lies.
+pub const COUNT_PLACE: usize = 6;
 
 /// A writer.
 pub trait Rules {
@@ -95,9 +108,9 @@ pub trait Rules {
         roles > u32::from(MOST_ROLES)
     }
 
-    /// The header's bytes.
+    /// The header's bytes: edition 2, with no atom.
     fn header(&self, roles: u32) -> Vec<u8> {
-        bytes(&[Record::header(roles as u16)])
+        bytes(&[Record::header_2(roles as u16)])
     }
 
     /// What is left to be done once the header stands, and the new length.
@@ -131,7 +144,7 @@ pub trait Rules {
         [Check::InUse, Check::Room, Check::Own]
     }
 
-    /// Rows 1 to 8 of the bytes in use.
+    /// Rows 1 to 8 and 28 of the bytes in use.
     fn read(&self, buffer: &[u8], used: usize) -> Result<(), Refusal> {
         check_vocabulary(buffer.get(..used).unwrap_or_default()).map(|_| ())
     }
@@ -188,11 +201,14 @@ pub trait Rules {
         adding.count()
     }
 
-    /// Writes the new record, and the link that reaches it.
+    /// Writes the new record, the link that reaches it, and the header's k.
     fn write(&self, buffer: &mut [u8], adding: &Adding) {
         put(buffer, adding.used, &self.record(adding));
         if self.is_linked(adding) {
             self.link(buffer, adding);
+        }
+        if self.is_counted(adding) {
+            self.count(buffer, adding);
         }
     }
 
@@ -215,6 +231,22 @@ pub trait Rules {
     /// The record from which the new statement is linked: the last on the chain, or the header.
     fn holder(&self, records: &[Record]) -> usize {
         chain(records).last().map_or(0, |last| usize::from(*last))
+    }
+
+    /// Whether the header's k changes: that of edition 2 does, by an atom.
+    fn is_counted(&self, adding: &Adding) -> bool {
+        adding.holds_count() && adding.new.is_atom()
+    }
+
+    /// Writes the header's k.
+    fn count(&self, buffer: &mut [u8], adding: &Adding) {
+        put(buffer, COUNT_PLACE, &self.raised(adding).to_le_bytes());
+    }
+
+    /// The header's k with the new atom.
+    fn raised(&self, adding: &Adding) -> u16 {
+        // A wrong writer may find any number there.
+        adding.held().wrapping_add(1)
     }
 
     /// The new length.

@@ -3,11 +3,12 @@
 
 use crate::comparison::{sample_4, v};
 use crate::vocabulary::faults::way;
-use crate::vocabulary::records::{records, Record};
+use crate::vocabulary::records::{bytes, records, Record, EDITION_1, EDITION_2};
 use crate::vocabulary::Draft;
 use crate::writer::call::write;
 use crate::writer::file::{Call, Case};
 use crate::writer::plan::{call_of, refused, Meant, Plan, Planned, Shown, LONGEST};
+use crate::writer::rules::put;
 
 /// How many short sequences there are.
 const SHORT: usize = 40;
@@ -21,23 +22,33 @@ const EVERY: usize = 45;
 const LAST: usize = 4;
 
 /// A buffer in which additions are made.
-struct Sequence {
+pub struct Sequence {
     /// The buffer.
     buffer: Vec<u8>,
     /// What its bytes were before, and are behind those in use.
     seed: u8,
     /// The length in use.
-    used: usize,
+    pub used: usize,
     /// What is to be read from it.
     shown: Shown,
     /// The cases so far.
-    cases: Vec<Planned>,
+    pub cases: Vec<Planned>,
 }
 
 impl Sequence {
-    /// A buffer of so many bytes, in which an empty vocabulary is made.
+    /// A buffer of so many bytes, in which an empty vocabulary is made, and put into edition 1: the making is one case,
+    /// and what follows is added to a vocabulary as it was made before there was edition 2.
     fn new(lent: usize, seed: u8, roles: u16) -> Sequence {
+        let mut sequence = Sequence::new_2(lent, seed, roles);
+        put(&mut sequence.buffer, 0, &bytes(&[Record::header(roles)]));
+        sequence.shown.edition = EDITION_1;
+        sequence
+    }
+
+    /// A buffer of so many bytes, in which an empty vocabulary is made.
+    pub fn new_2(lent: usize, seed: u8, roles: u16) -> Sequence {
         let shown = Shown {
+            edition: EDITION_2,
             roles,
             additions: Vec::new(),
         };
@@ -54,7 +65,7 @@ impl Sequence {
     }
 
     /// Makes a call, which is to be refused so, or not to be refused.
-    fn next(&mut self, call: Call, refusal: Option<Meant>) {
+    pub fn next(&mut self, call: Call, refusal: Option<Meant>) {
         if refusal.is_none() && !matches!(call, Call::Make { .. }) {
             self.shown.additions.push(call);
         }
@@ -72,7 +83,7 @@ impl Sequence {
     }
 
     /// The records in use.
-    fn draft(&self) -> Draft {
+    pub fn draft(&self) -> Draft {
         let in_use = self.buffer.get(..self.used);
         Draft {
             records: records(in_use.unwrap_or_default()),
@@ -108,7 +119,7 @@ impl Plan {
     }
 
     /// Makes the next call of a sequence: a record that may be added, or a wrong one; refused where there is no room.
-    fn next_of(&mut self, sequence: &mut Sequence) {
+    pub fn next_of(&mut self, sequence: &mut Sequence) {
         let draft = sequence.draft();
         let count = draft.records.len();
         let record = self.valid_record(&draft);
@@ -138,11 +149,16 @@ impl Plan {
                 sequence.next(call_of(record), None);
             }
             self.next_of(&mut sequence);
-            let last = sequence.cases.len() - LAST;
-            let first = self.random.below(EVERY);
-            let kept = sequence.cases.into_iter().enumerate();
-            let kept = kept.filter(|(at, _)| at % EVERY == first || *at >= last);
-            self.cases.extend(kept.map(|(_, planned)| planned));
+            self.keep_some(sequence);
         }
+    }
+
+    /// Keeps few of the cases of a long sequence.
+    pub fn keep_some(&mut self, sequence: Sequence) {
+        let last = sequence.cases.len() - LAST;
+        let first = self.random.below(EVERY);
+        let kept = sequence.cases.into_iter().enumerate();
+        let kept = kept.filter(|(at, _)| at % EVERY == first || *at >= last);
+        self.cases.extend(kept.map(|(_, planned)| planned));
     }
 }

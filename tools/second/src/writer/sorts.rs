@@ -1,6 +1,6 @@
 //! The sorts of writer cases.
 
-use crate::vocabulary::records::{records, Record};
+use crate::vocabulary::records::{at, records, Record, EDITION_1, EDITION_2};
 use crate::vocabulary::{applies, chain, check_vocabulary};
 use crate::writer::call::Outcome;
 use crate::writer::file::{Call, Case};
@@ -126,6 +126,27 @@ impl<'a> Seen<'a> {
         self.refusal == 1 && (self.case.used > self.lent) == past
     }
 
+    /// Whether the bytes in use are accepted, and of this edition.
+    fn is_of(&self, edition: u8) -> bool {
+        self.records.first().is_some_and(|header| header.second == edition)
+    }
+
+    /// Whether an atom was added to edition 2, where k was in this range.
+    fn raised(&self, held: std::ops::Range<u16>) -> bool {
+        self.added() && self.is_of(EDITION_2) && self.is_atom() && held.contains(&at(&self.records, 0).fields[2])
+    }
+
+    /// Whether the new record is to be an atom.
+    fn is_atom(&self) -> bool {
+        matches!(self.case.call, Call::Term { kind: 3 | 7 | 8, .. })
+    }
+
+    /// Whether a vocabulary was made over an accepted one of this edition.
+    fn made_over(&self, edition: u8) -> bool {
+        let stood = self.case.content.get(1) == Some(&edition) && check_vocabulary(&self.case.content).is_ok();
+        self.sort == Sort::Make && self.refusal == 0 && stood
+    }
+
     /// How many additions are to be read from the buffer.
     fn shown(&self) -> Option<usize> {
         match self.meant {
@@ -208,6 +229,40 @@ pub const SORTS: &[Named] = &[
     }),
     ("added by a sequence, 511 additions", 3, |seen| {
         seen.shown() == Some(511)
+    }),
+    ("made over a vocabulary of edition 1", 5, |seen| {
+        seen.made_over(EDITION_1)
+    }),
+    ("made over a vocabulary of edition 2", 5, |seen| {
+        seen.made_over(EDITION_2)
+    }),
+    ("an atom added to edition 1", 100, |seen| {
+        seen.added() && seen.is_of(EDITION_1) && seen.is_atom()
+    }),
+    ("an atom added to edition 2, k under 255", 80, |seen| {
+        seen.raised(0..255)
+    }),
+    ("an atom added to edition 2, k 255", 5, |seen| seen.raised(255..256)),
+    ("an atom added to edition 2, k over 255", 10, |seen| {
+        seen.raised(256..512)
+    }),
+    ("another term added to edition 2", 30, |seen| {
+        seen.added() && seen.is_of(EDITION_2) && !seen.is_atom() && seen.sort == Sort::Term
+    }),
+    ("a statement added to edition 2", 30, |seen| {
+        seen.stated() && seen.is_of(EDITION_2)
+    }),
+    ("an atom refused at the new record, over edition 2", 20, |seen| {
+        (3..8).contains(&seen.refusal) && seen.is_of(EDITION_2) && seen.is_atom()
+    }),
+    ("no room for an atom, over edition 2", 8, |seen| {
+        seen.lacks_room() && seen.is_of(EDITION_2) && seen.is_atom()
+    }),
+    ("added by a sequence over edition 2", 50, |seen| {
+        seen.shown().is_some() && seen.is_of(EDITION_2)
+    }),
+    ("added by a sequence over edition 2, 511 additions", 3, |seen| {
+        seen.shown() == Some(511) && seen.is_of(EDITION_2)
     }),
     ("the first statement", 10, |seen| seen.stated() && seen.last().is_none()),
     ("a statement, the chain empty, others off it", 30, |seen| {

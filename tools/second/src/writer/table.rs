@@ -1,11 +1,14 @@
 //! How many cases of the writer there are of each sort, and how many tell each error.
 
 use crate::table::Table;
-use crate::writer::call::{run, run_by, Outcome};
+use crate::vocabulary::told::{add_late, add_readers, rightly_counted};
+use crate::writer::call::{run, run_by, write, Outcome};
 use crate::writer::checks::fault;
+use crate::writer::editions::LATE;
 use crate::writer::errors;
-use crate::writer::file::Call;
+use crate::writer::file::{Call, Case};
 use crate::writer::plan::Planned;
+use crate::writer::rules::put;
 use crate::writer::sorts::{Seen, Sort, SORTS};
 
 /// Rows that refuse a call, each with how many cases have to meet it.
@@ -18,13 +21,33 @@ const CALLS: [(&str, Sort, Rows, Rows); 3] = [
     (
         "term",
         Sort::Term,
-        &[(1, 50), (2, 10), (3, 50), (4, 50), (5, 50), (6, 10), (7, 10), (8, 20)],
+        &[
+            (1, 50),
+            (2, 10),
+            (3, 50),
+            (4, 50),
+            (5, 50),
+            (6, 10),
+            (7, 10),
+            (8, 20),
+            (28, 50),
+        ],
         &[(27, 100), (3, 100), (4, 100), (5, 100), (6, 30), (7, 10)],
     ),
     (
         "statement",
         Sort::Statement,
-        &[(1, 10), (2, 3), (3, 10), (4, 10), (5, 10), (6, 3), (7, 3), (8, 3)],
+        &[
+            (1, 10),
+            (2, 3),
+            (3, 10),
+            (4, 10),
+            (5, 10),
+            (6, 3),
+            (7, 3),
+            (8, 3),
+            (28, 20),
+        ],
         &[(27, 50), (5, 50)],
     ),
 ];
@@ -53,8 +76,33 @@ pub fn table(cases: &[Planned]) -> Table {
         let told = pairs().filter(|(planned, outcome)| run_by(*wrong, &planned.case) != **outcome);
         table.add(&format!("would change by: {name}"), told.count(), TELLING);
     }
+    let buffers: Vec<(&Case, Vec<u8>)> = cases.iter().map(|p| (&p.case, p.case.buffer())).collect();
+    add_readers(
+        &mut table,
+        buffers.iter().filter_map(|(case, buffer)| in_use(case, buffer)),
+    );
+    add_late(&mut table, &LATE, &with_the_right_count(&buffers));
     table.object(cases, &outcomes, fault);
     table
+}
+
+/// The bytes in use that an addition reads.
+fn in_use<'a>(case: &Case, buffer: &'a [u8]) -> Option<&'a [u8]> {
+    let used = usize::try_from(case.used).ok()?;
+    let reads = !matches!(case.call, Call::Make { .. });
+    buffer.get(..used).filter(|_| reads)
+}
+
+/// The refusals, 0 for none, that cases which 28 refuses meet with the right k.
+fn with_the_right_count(buffers: &[(&Case, Vec<u8>)]) -> Vec<u8> {
+    let refusal = |(case, buffer): &(&Case, Vec<u8>)| {
+        let counted = rightly_counted(in_use(case, buffer)?)?;
+        let mut buffer = buffer.clone();
+        put(&mut buffer, 0, &counted);
+        let answer = write(&mut buffer, case.used, case.call);
+        Some(answer.map_or_else(|refusal| refusal.number, |_| 0))
+    };
+    buffers.iter().filter_map(refusal).collect()
 }
 
 /// Adds how many cases there are of each call, by what they are answered.

@@ -2,9 +2,12 @@
 
 #![allow(clippy::unwrap_used, clippy::indexing_slicing)]
 
+mod editions;
+
 use crate::tests::paper::{header, names, refusal, vocabularies};
 use crate::tests::stored;
 use crate::vocabulary::check_vocabulary;
+use crate::vocabulary::editions::{holding, second};
 use crate::vocabulary::records::records;
 use crate::writer::call::{run, run_by, write, Outcome};
 use crate::writer::checks::{fault, shown};
@@ -47,12 +50,12 @@ fn added(vocabulary: &[u8], free: usize, call: Call) -> Answer {
     made(&mut lent(vocabulary, free), vocabulary.len() as u64, call)
 }
 
-/// Making writes eight bytes; 27 comes before 2, and both have place 0.
+/// Making writes eight bytes, a header of edition 2 with k 0; 27 comes before 2, and both have place 0.
 #[test]
 fn making() {
     let mut buffer = [FILLING; 20];
     assert_eq!(made(&mut buffer, 0, Call::Make { roles: 5 }), Ok(8));
-    assert_eq!(buffer[..8], [16, 1, 0, 0, 5, 0, 0, 0]);
+    assert_eq!(buffer[..8], [16, 2, 0, 0, 5, 0, 0, 0]);
     assert_eq!(buffer[8..], [FILLING; 12]);
     let make = |length, roles| made(&mut vec![FILLING; length], 0, Call::Make { roles });
     assert_eq!(make(8, 0), Ok(8));
@@ -65,8 +68,8 @@ fn making() {
     assert_eq!(make(0, 1), Err(refusal(27, 0)));
 }
 
-/// The samples, record by record from an empty vocabulary: byte for byte those of the paper, since all their statements
-/// are on the chain.
+/// The samples, record by record from an empty vocabulary: byte for byte those of the paper in edition 2, since all their
+/// statements are on the chain.
 #[test]
 fn samples_by_additions() {
     for sample in vocabularies() {
@@ -79,7 +82,7 @@ fn samples_by_additions() {
             assert_eq!(longer, Ok(used + 8));
             used += 8;
         }
-        assert_eq!(buffer[..used], sample);
+        assert_eq!(buffer[..used], second(&sample));
         assert_eq!(buffer[used..], [FILLING; 3]);
     }
 }
@@ -229,6 +232,7 @@ fn faults_are_found() {
     let shows = case_of(
         term(1, 0, 0),
         Meant::Shows(Shown {
+            edition: 1,
             roles: 0,
             additions: Vec::new(),
         }),
@@ -236,8 +240,10 @@ fn faults_are_found() {
     assert!(found(&shows, &|_| ()).is_some_and(|text| text.contains("other additions")));
     let mut make = case_of(Call::Make { roles: 7 }, anything());
     assert_eq!(found(&make, &|_| ()), None);
-    let unmade = "what was made is no empty vocabulary, or something behind it changed";
+    let unmade = "what was made is no empty vocabulary of edition 2, or something behind it changed";
+    assert_eq!(found(&make, &|outcome| outcome.buffer[1] = 1), is(unmade));
     assert_eq!(found(&make, &|outcome| outcome.buffer[4] = 8), is(unmade));
+    assert_eq!(found(&make, &|outcome| outcome.buffer[6] = 1), is(unmade));
     assert_eq!(found(&make, &|outcome| outcome.buffer[9] ^= 1), is(unmade));
     make.case.call = Call::Make { roles: 65 };
     assert_eq!(found(&make, &|_| ()), None);
@@ -250,7 +256,7 @@ fn faults_are_found() {
 /// Reading a buffer shows its additions in their order; a statement off the chain would not be shown.
 #[test]
 fn additions_are_shown() {
-    let [_, second, ..] = vocabularies();
+    let [_, sample, ..] = vocabularies();
     let read = |buffer: &[u8]| {
         let answer = Ok(buffer.len());
         shown(&Outcome {
@@ -260,12 +266,19 @@ fn additions_are_shown() {
     };
     let names = [1, 2, 3].map(|label| term(3, label, 0));
     let additions = [&names[..], &[term(5, 1, 2), statement(4, 3), statement(3, 4)]].concat();
-    assert_eq!(read(&second), Some(Shown { roles: 0, additions }));
-    let mut cut = second.clone();
+    let shown = |edition| Shown {
+        edition,
+        roles: 0,
+        additions: additions.clone(),
+    };
+    assert_eq!(read(&sample), Some(shown(1)));
+    assert_eq!(read(&second(&sample)), Some(shown(2)));
+    assert_eq!(read(&holding(&sample, 4)), None);
+    let mut cut = sample.clone();
     cut[8 * 5 + 6] = 0;
     assert_eq!(check_vocabulary(&cut), Ok(7));
     assert_eq!(read(&cut), None);
-    assert_eq!(read(&second[..48]), None);
+    assert_eq!(read(&sample[..48]), None);
 }
 
 /// The cases of all groups get what they were made for, and bear it out, whatever the seed. The last case of a sequence
@@ -292,44 +305,6 @@ fn planned_cases() {
     assert_eq!(statements.count(), 1 + 2 + 6 + 24 + 120);
 }
 
-/// Every addition of small numbers to sample 3, which has a name, a restriction, a statement and bottom: the reader says
-/// the same of what would be in use, and what is not refused is added as it has to be.
-#[test]
-fn small_additions() {
-    let [_, _, third, ..] = vocabularies();
-    let mut answers = [0; 8];
-    for [call, a, b] in (0..12 * 7 * 7).map(|n| [n / 49, n / 7 % 7, n % 7]) {
-        let call = match call {
-            11 => statement(a, b),
-            kind => term(kind as u8, a, b),
-        };
-        let case = Case {
-            content: third.clone(),
-            behind: 9,
-            seed: 1,
-            call,
-            used: third.len() as u64,
-        };
-        let planned = Planned {
-            case,
-            meant: anything(),
-        };
-        let outcome = run(&planned.case);
-        assert_eq!(fault(&planned, &outcome), None, "{call:?}");
-        answers[outcome.answer.map_or_else(|refusal| usize::from(refusal.number), |_| 0)] += 1;
-    }
-    // Three terms stand there, 1, 2 and 4, and one role. Let in are top, bottom, the names 0 and 2 to 6, three
-    // complements, nine of both and of either, three of each restriction, nine statements.
-    assert_eq!(answers[0], 1 + 1 + 6 + 3 + 9 + 9 + 3 + 3 + 9);
-    // Kinds 0, 9 and 10; fields of top, bottom, names and complements; then operands of a complement, of both, of
-    // either, of statements and of restrictions; other roles of a term; the label 1.
-    assert_eq!(answers[3], 3 * 49);
-    assert_eq!(answers[4], 48 + 48 + 42 + 42);
-    assert_eq!(answers[5], 4 + 3 * 40 + 2 * 28);
-    assert_eq!(answers[6], 2 * 6 * 3);
-    assert_eq!(answers[7], 1);
-}
-
 /// Each wrong writer does otherwise with some case of a smaller set than the stored one.
 #[test]
 fn errors_are_told() {
@@ -346,6 +321,7 @@ fn errors_are_told() {
         plan.long_chains();
         plan.tails();
         plan.mixtures();
+        plan.editions();
     });
     let outcomes: Vec<_> = cases.iter().map(|planned| run(&planned.case)).collect();
     for (name, wrong) in errors::all() {
@@ -406,7 +382,10 @@ fn written_cases() {
         lines(&[case(term(1, 0, 0), 8)]),
         "length 16 8:0100000000000000 239 668\n"
     );
-    assert_eq!(lines(&[case(Call::Make { roles: 3 }, 0)]), "length 8 4:03 835 4252\n");
-    assert_eq!(lines(&[case(Call::Make { roles: 2 }, 0)]), "length 8 - 834 4238\n");
+    assert_eq!(
+        lines(&[case(Call::Make { roles: 3 }, 0)]),
+        "length 8 1:02 4:03 836 4269\n"
+    );
+    assert_eq!(lines(&[case(Call::Make { roles: 2 }, 0)]), "length 8 1:02 835 4255\n");
     assert_eq!(lines(&[case(statement(1, 1), 8)]), "refused 5 1 - 834 4238\n");
 }

@@ -1,4 +1,4 @@
-//! Writers that are wrong in rows 1 to 8 of the bytes in use, in row 27, or in their order.
+//! Writers that are wrong in rows 1 to 8 and 28 of the bytes in use, in row 27, or in their order.
 
 use crate::vocabulary::records::{at, records, Record, RECORD_BYTES};
 use crate::vocabulary::{chain, check_vocabulary, refuse_if, Refusal};
@@ -110,6 +110,11 @@ wrong! {
         }
         fn holder(&self, records: &[Record]) -> usize {
             last_reached(records)
+        }
+    }
+    "row 28 not asked" NoCount {
+        fn read(&self, buffer: &[u8], used: usize) -> Result<(), Refusal> {
+            read_but(buffer, used, |refusal| refusal.number == 28)
         }
     }
     "row 8 not asked" NoChain {

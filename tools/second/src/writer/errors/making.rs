@@ -6,7 +6,7 @@ use crate::writer::rules::{put, Answer, Paper, Rules};
 
 /// The header of so many roles, changed.
 fn header_with(roles: u32, change: impl Fn(&mut Record)) -> Vec<u8> {
-    let mut header = Record::header(roles as u16);
+    let mut header = Record::header_2(roles as u16);
     change(&mut header);
     bytes(&[header])
 }
@@ -171,9 +171,31 @@ wrong! {
             header_with(roles, |header| header.second = 0)
         }
     }
-    "making: second byte 2" MakeEdition {
+    "making: edition 1" MakeEdition {
         fn header(&self, roles: u32) -> Vec<u8> {
-            header_with(roles, |header| header.second = 2)
+            header_with(roles, |header| header.second = 1)
+        }
+    }
+    "making: second byte 3" MakeThird {
+        fn header(&self, roles: u32) -> Vec<u8> {
+            header_with(roles, |header| header.second = 3)
+        }
+    }
+    "making: edition 2 with k 1" MakeOne {
+        fn header(&self, roles: u32) -> Vec<u8> {
+            header_with(roles, |header| header.fields[2] = 1)
+        }
+    }
+    "making: the edition of what stood there kept" MakeKeepsEdition {
+        fn make(&self, buffer: &mut [u8], roles: u32) -> Answer {
+            let is_header = records(buffer).first().is_some_and(|record| record.kind == 16 && record.second == 1);
+            if is_header { keeping(buffer, roles, 1..2) } else { Paper.make(buffer, roles) }
+        }
+    }
+    "making: the k of what stood there kept" MakeKeepsCount {
+        fn make(&self, buffer: &mut [u8], roles: u32) -> Answer {
+            let is_header = records(buffer).first().is_some_and(|record| record.kind == 16 && record.second == 2);
+            if is_header { keeping(buffer, roles, 6..8) } else { Paper.make(buffer, roles) }
         }
     }
     "making: roles in A" MakeRolesInA {

@@ -2,6 +2,7 @@
 
 use crate::writer::rules::Rules;
 
+mod counts;
 mod lengths;
 mod links;
 mod making;
@@ -19,6 +20,7 @@ pub fn all() -> impl Iterator<Item = &'static Error> {
         own::ERRORS,
         records::ERRORS,
         links::ERRORS,
+        counts::ERRORS,
     ]
     .into_iter()
     .flatten()

@@ -151,6 +151,9 @@ wrong! {
             if self.is_linked(adding) {
                 self.link(buffer, adding);
             }
+            if self.is_counted(adding) {
+                self.count(buffer, adding);
+            }
         }
     }
     "nothing written" WritesNothing {
@@ -221,7 +224,7 @@ wrong! {
 }
 
 /// Adds as the paper says, and does something more where the new record's own rows refuse it.
-fn on_own(buffer: &mut [u8], used: u64, call: Call, more: impl Fn(&mut [u8], &Adding)) -> Answer {
+pub fn on_own(buffer: &mut [u8], used: u64, call: Call, more: impl Fn(&mut [u8], &Adding)) -> Answer {
     let answer = Paper.add(buffer, used, call);
     let adding = adding(buffer, usize::try_from(used).unwrap_or(0), call);
     let accepted = Paper.read(buffer, adding.used).is_ok() && Paper.room(&adding).is_ok();

@@ -1,0 +1,62 @@
+//! How many cases tell wrong readers, and calls that ask row 28 after rows of their own.
+
+use crate::table::Table;
+use crate::vocabulary::call::check_vocabulary;
+use crate::vocabulary::editions::second;
+use crate::vocabulary::errors::{calls, ERRORS};
+use crate::vocabulary::file::Case;
+use crate::vocabulary::rules::{Paper, Rules};
+
+/// How many cases have to tell each error.
+const TELLING: usize = 5;
+
+/// A call that asks row 28 too late: its name, and the rows that it asks before.
+pub type Late = (&'static str, &'static [u8]);
+
+/// Adds how many of the vocabularies that are read tell each wrong reader. Where its answer is another, so is that of
+/// the call that reads: what a call refuses itself has another number, or a new record as its place.
+pub fn add_readers<'a>(table: &mut Table, read: impl Iterator<Item = &'a [u8]>) {
+    let answers: Vec<_> = read.map(|bytes| (bytes, check_vocabulary(bytes))).collect();
+    for (name, wrong) in ERRORS {
+        let told = answers.iter().filter(|(bytes, right)| wrong.check(bytes) != *right);
+        table.add(&format!("would change by: {name}"), told.count(), TELLING);
+    }
+}
+
+/// How many vocabularies tell each wrong reader and each wrong record call.
+pub fn table(cases: &[Case]) -> Table {
+    let mut table = Table::default();
+    add_readers(&mut table, cases.iter().map(|case| case.vocabulary.as_slice()));
+    add_record_calls(&mut table, cases);
+    table
+}
+
+/// Adds how many vocabularies tell each wrong record call.
+fn add_record_calls(table: &mut Table, cases: &[Case]) {
+    for (name, wrong) in calls::ERRORS {
+        let differs = |case: &&Case| {
+            let find = |rules: &dyn Rules| rules.find(&case.vocabulary, case.number);
+            find(*wrong) != find(&Paper)
+        };
+        table.add(
+            &format!("would change by: {name}"),
+            cases.iter().filter(differs).count(),
+            TELLING,
+        );
+    }
+}
+
+/// The vocabulary with the right k, where row 28 refuses it.
+pub fn rightly_counted(vocabulary: &[u8]) -> Option<Vec<u8>> {
+    let refused = check_vocabulary(vocabulary).is_err_and(|refusal| refusal.number == 28);
+    refused.then(|| second(vocabulary))
+}
+
+/// Adds how many cases tell calls that ask row 28 too late, by the refusals that those cases which 28 refuses meet with
+/// the right k (0 for none).
+pub fn add_late(table: &mut Table, late: &[Late], refusals: &[u8]) {
+    for (name, rows) in late {
+        let told = refusals.iter().filter(|number| rows.contains(number));
+        table.add(&format!("would change by: {name}"), told.count(), TELLING);
+    }
+}
