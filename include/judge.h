@@ -36,8 +36,8 @@
  * an addition that succeeds changes its eight bytes, the link that reaches them and, in a header of edition 2, the
  * number of atoms, which stays true, and no other byte. Of accepted vocabularies that differ in edition alone,
  * comparison, classification and script check answer and write the same. The packing of the answers is proved too. In
- * crates/demands/specs, Demands.antt states the demands, and Promises.antt what is promised of names and of what is
- * written.
+ * crates/demands/specs, Demands.antt states the demands, and Promises.antt what is promised of names, of what is
+ * written and of editions.
  *
  * TRUSTED: the Rattle kit (its logic and its prover), and that its back end and the linker make of the source what it
  * says; this header, which is tested; the caller:
