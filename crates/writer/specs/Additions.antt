@@ -36,8 +36,8 @@ relinked (statement a b) v = put v (linkPlace v) (wordBytes (count v))
 abbrev pub linked : List ℕ → Addition → List ℕ
 linked v x = relinked x v ++ recordBytes (newRecord x)
 
--- Slip 5: "The writer makes edition 2, and an addition there may also change the header's k.": an atom does. "additions to
--- [edition 1] keep it edition 1".
+-- Slip 5: "The writer makes edition 2, and an addition there may also change the header's k.": an atom does. "Edition 1 is still
+-- read, and additions to it keep it edition 1."
 abbrev pub recounted : Addition → List ℕ → List ℕ
 recounted (term kind a b) w = cond (eqb (edition w) 2 && isAtom kind) (put w placeOfNext (wordBytes (atoms w))) w
 recounted (statement a b) w = w

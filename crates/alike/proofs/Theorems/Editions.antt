@@ -1,6 +1,6 @@
 -- Vocabularies that differ in edition look alike.
 --   kind-alike, a-alike, b-alike   kind, A and B of each record
---   next-alike                     where it leads, but of the header
+--   record-alike                   a record behind the header
 --   chain-alike                    the chain
 --   editions-alike                 the theorem; the vocabularies need not be accepted
 -- Assumes nothing.
@@ -12,7 +12,8 @@ use mathlib.Core.Logic.{inl, inr}
 use Rattle.records.specs.Format.{recordSize, wordAt, recordAt, count, firstStatement}
 use Rattle.records.specs.Finite.{occurs}
 use Rattle.records.specs.Chain.{nextStatement, follow, chain}
-use Rattle.records.proofs.Laws.Parts.{record-bytes}
+use Rattle.records.specs.declared.fields.Record.{Record}
+use Rattle.records.proofs.Laws.Parts.{record-bytes, record-same}
 use Rattle.records.proofs.Theorems.Constructs.{construct-same}
 use Rattle.records.proofs.Theorems.Following.{follow-same}
 use Rattle.alike.specs.Alike.{Alike}
@@ -36,25 +37,27 @@ module _ (v w : List ℕ) (differ : DifferInEdition v w) where
       word-alike n (off-fields i n (omega arith) (λ e. omega arith) (omega arith))
       (off-fields i (n + 1) (omega arith) (λ e. omega arith) (omega arith))
 
-  kind-alike : (i : ℕ) → recordAt v i .kind ≡ recordAt w i .kind
+  pub kind-alike : (i : ℕ) → recordAt v i .kind ≡ recordAt w i .kind
   kind-alike i =
       rw (record-bytes v i, record-bytes w i) (differ .same (recordSize * i)
       (off-fields i (recordSize * i) (omega arith) (λ e. omega arith) (omega arith)))
 
-  a-alike : (i : ℕ) → recordAt v i .a ≡ recordAt w i .a
+  pub a-alike : (i : ℕ) → recordAt v i .a ≡ recordAt w i .a
   a-alike i =
       rw (record-bytes v i, record-bytes w i) (operand-alike i (recordSize * i + 2) (omega arith) (omega arith))
 
-  b-alike : (i : ℕ) → recordAt v i .b ≡ recordAt w i .b
+  pub b-alike : (i : ℕ) → recordAt v i .b ≡ recordAt w i .b
   b-alike i =
       rw (record-bytes v i, record-bytes w i) (operand-alike i (recordSize * i + 4) (omega arith) (omega arith))
 
-  next-alike : (i : ℕ) → recordAt v (suc i) .next ≡ recordAt w (suc i) .next
-  next-alike i =
-      rw (record-bytes v (suc i), record-bytes w (suc i)) (word-alike (recordSize * suc i + 6)
-      (off-header (recordSize * suc i + 6) (omega arith)) (off-header (recordSize * suc i + 6 + 1) (omega arith)))
+  -- a record behind the header
+  pub record-alike : (i : ℕ) → 0 < i → recordAt v i ≡ recordAt w i
+  record-alike i p = record-same v w i (λ n l h. differ .same n (off-header n (omega arith)))
 
-  count-alike : count v ≡ count w
+  next-alike : (i : ℕ) → recordAt v (suc i) .next ≡ recordAt w (suc i) .next
+  next-alike i = ap (λ (r : Record). r .next) (record-alike (suc i) (omega arith))
+
+  pub count-alike : count v ≡ count w
   count-alike = ap (λ (n : ℕ). n / recordSize) (differ .size)
 
   chain-alike : chain v ≡ chain w

@@ -15,7 +15,7 @@ use lib.ListN.{length, getD, take, drop, length-append, length-drop, List·getD-
 use lib.Seq.{length-take-le, take-at, drop-append-le, getD-take, getD-drop, getD-append-add}
 use borrow.Author.Tests.{lt-ltb, le-leb}
 use Rattle.records.specs.Outcome.{accepted, pass, require}
-use Rattle.records.specs.Format.{recordSize, recordLimit, wordAt, recordBytes, recordAt, count, roleCount, edition, atomsHeld}
+use Rattle.records.specs.Format.{recordSize, recordLimit, wordAt, recordBytes, recordAt, count, roleCount, edition}
 use Rattle.records.specs.Atoms.{atoms}
 use Rattle.records.specs.Check.{fieldsCheck, vocabularyRows, vocabularyCheck}
 use Rattle.records.specs.declared.fields.Record.{Record}
@@ -30,8 +30,8 @@ use Rattle.writer.specs.Calls.{emptyHeader, making, roomCheck, isAddable, addin
 use Rattle.writer.proofs.Theorems.Grown as bytes
 use Rattle.writer.proofs.Theorems.Outcomes.{Succeeded, adding-succeeded, adding-reader, rows-own, making-succeeded}
 use Rattle.writer.proofs.Theorems.Reading as reading
-use Rattle.demands.specs.Table.{vocabularyTable, AcceptedVocabulary, Refuses, Follows}
-use Rattle.demands.specs.Promises.{Reached, OffLink, OffCount, AtChainEnd, OnlyNew, Roomy, AsReader, Succeed, Built, Shows}
+use Rattle.demands.specs.Table.{vocabularyTable, AcceptedVocabulary, Refuses}
+use Rattle.demands.specs.Promises.{Reached, OffLink, OffCount, AtChainEnd, OnlyNew, Roomy, AsReader, Succeed, Shows}
 use Rattle.demands.specs.Promises.{WritesVocabularies}
 use Rattle.demands.proofs.Laws.Rows.{follows, refuses-first}
 use Rattle.demands.proofs.Theorems.Tables.{tries-vocabulary, vocabulary-follows}

@@ -10,34 +10,34 @@
 -- Assumes nothing.
 use Prim.Native.Nat.{ℕ, zero, suc, _+_, _-_, _*_, _%_, _≤_, _<_}
 use native.Mathlib.Omega.{arith}
-use native.Mathlib.Decide.{ℕ-discrete, decLt}
+use native.Mathlib.Decide.{decLt}
 use mathlib.Core.Path.{_≡_, refl, sym, ap, subst, _∙_}
 use mathlib.Core.Bool.{Bool, true, false, cond, not, _&&_, _||_}
 use mathlib.Core.List.{List, [], _∷_, _++_}
 use mathlib.Core.Logic.{_⊎_, inl, inr}
 use lib.ListN.{length}
-use lib.Dec.{ltb, leb, eqb}
+use lib.Dec.{eqb}
 use borrow.Author.Tests.{lt-ltb, le-ltb, le-leb, eq-eqb, ne-eqb, eqb-true}
-use Rattle.records.specs.Outcome.{Check, accepted, pass, _then_, require, inTurn}
-use Rattle.records.specs.Finite.{digit, anyBelow, lastOr}
-use Rattle.records.specs.Format.{recordSize, recordLimit, recordAt, count, firstStatement, roleCount, edition, atomsHeld}
-use Rattle.records.specs.Kinds.{Sorts, kindOf, isTerm, isAtom, isStatement, sortsOf}
+use Rattle.records.specs.Outcome.{accepted, pass, _then_, inTurn}
+use Rattle.records.specs.Finite.{digit, lastOr}
+use Rattle.records.specs.Format.{recordSize, recordLimit, recordAt, count, firstStatement, edition, atomsHeld}
+use Rattle.records.specs.Kinds.{Sorts, kindOf, isAtom, isStatement, sortsOf}
 use Rattle.records.specs.Atoms.{rank, atoms}
 use Rattle.records.specs.Chain.{nextStatement, follow, chain, chainEnd}
-use Rattle.records.specs.Check.{lengthFits, lengthCheck, headerFits, headerCheck, named, labelled, termFits, linkFits}
+use Rattle.records.specs.Check.{lengthCheck, headerFits, headerCheck, named, labelled, termFits, linkFits}
 use Rattle.records.specs.Check.{kindFits, kindCheck, clear, rowFits, rowCheck, rowsCheck, fieldsCheck, recordCheck}
-use Rattle.records.specs.Check.{firstStatementCheck, nextFits, linkCheck, linksCheck, recordsCheck, IsWellFormed}
+use Rattle.records.specs.Check.{firstStatementCheck, linkCheck, linksCheck, recordsCheck, IsWellFormed}
 use Rattle.records.specs.Check.{heldFits, heldCheck, vocabularyRows, vocabularyCheck}
 use Rattle.records.specs.declared.fields.Record.{Record}
 use Rattle.records.specs.declared.kinds.Sort.{Sort}
 use Rattle.records.specs.declared.kinds.Sort.the-variants.{Spare, Term, Role, Label, Link}
-use Rattle.records.proofs.Laws.Tests.{clash, both-left, both-right, implies-true}
+use Rattle.records.proofs.Laws.Tests.{implies-true}
 use Rattle.records.proofs.Laws.Checks.{then-pass, RefusesAt, require-at, then-at, turns-pass, turns-last}
 use Rattle.records.proofs.Laws.Search.{any-cong}
 use Rattle.records.proofs.Laws.Ranges.{statement-range, statement-kind}
-use Rattle.records.proofs.Theorems.Accepted.{AcceptedFacts, IsStatement, Later, Linked, RowsPassed}
+use Rattle.records.proofs.Theorems.Accepted.{AcceptedFacts, IsStatement, Linked, RowsPassed}
 use Rattle.records.proofs.Theorems.Accepted.{well-formed-rows, well-formed-vocabulary}
-use Rattle.records.proofs.Theorems.Following.{Ahead, Onward, Carried, follow-nil, follow-ends, follow-cong}
+use Rattle.records.proofs.Theorems.Following.{Carried, follow-nil, follow-ends, follow-cong}
 use Rattle.records.proofs.Theorems.Following.{follow-linked, last-above}
 use Rattle.records.proofs.Theorems.Chains.{end-statement}
 use Rattle.records.proofs.Theorems.Ranks.{rank-cong}

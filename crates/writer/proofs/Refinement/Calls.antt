@@ -8,11 +8,11 @@
 use Prim.Native.Nat.{ℕ, _+_, _/_, _≤_}
 use native.Mathlib.Omega.{arith}
 use mathlib.Core.Path.{_≡_, refl, sym, ap, _∙_}
-use mathlib.Core.List.{List, _++_}
+use mathlib.Core.List.{List}
 use lib.ListN.{length, take}
 use lib.Dec.{leb}
 use borrow.Author.Tests.{leb-true}
-use Rattle.records.specs.Outcome.{Outcome, Check, accepted, refused, pass, _then_, require}
+use Rattle.records.specs.Outcome.{Outcome, Check, accepted, refused, _then_, require}
 use Rattle.records.specs.Answers.{checked}
 use Rattle.records.specs.Finite.{put}
 use Rattle.records.specs.Format.{recordSize, roleLimit, wordBytes, recordBytes, count}
@@ -21,7 +21,7 @@ use Rattle.records.specs.declared.answers.Checked.the-variants.{Fine, Refused}
 use Rattle.records.proofs.Laws.Checks.{checked-fine, require-passed}
 use Rattle.records.proofs.Laws.Parts.{put-length}
 use Rattle.records.proofs.Theorems.Accepted.{AcceptedFacts, rows-vocabulary}
-use Rattle.writer.specs.Additions.{Addition, term, statement, newRecord, linkPlace, relinked, grown}
+use Rattle.writer.specs.Additions.{Addition, term, statement, newRecord, linkPlace, grown}
 use Rattle.writer.specs.Calls.{emptyHeader, making, adding, newLength, bufferAfter}
 use Rattle.writer.specs.Code.Counting.{raised}
 use Rattle.writer.proofs.Refinement.Buffer.{use-length, use-count, link-behind}

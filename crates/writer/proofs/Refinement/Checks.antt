@@ -9,7 +9,7 @@ use mathlib.Core.List.{List}
 use lib.ListN.{length}
 use lib.Dec.{ltb, leb}
 use Rattle.records.specs.Answers.{counted}
-use Rattle.records.specs.Outcome.{Outcome, Check, pass, _then_, require}
+use Rattle.records.specs.Outcome.{Check, pass, _then_, require}
 use Rattle.records.specs.Format.{recordSize, recordLimit, count}
 use Rattle.records.specs.Check.{fieldsCheck, vocabularyRows, vocabularyCheck}
 use Rattle.records.specs.declared.answers.Counted.{Counted}

@@ -7,12 +7,12 @@ use Prim.Native.Nat.{ℕ, _+_, _≤_}
 use native.Mathlib.Omega.{arith}
 use mathlib.Core.Path.{_≡_, refl, sym, ap, subst, _∙_}
 use mathlib.Core.Bool.{Bool, true, false, cond, _&&_}
-use mathlib.Core.List.{List, _++_}
+use mathlib.Core.List.{List}
 use lib.ListN.{length, take}
 use lib.Dec.{eqb}
 use borrow.Author.Tests.{eqb-true}
 use Rattle.records.specs.Outcome.{accepted}
-use Rattle.records.specs.Finite.{digit, put}
+use Rattle.records.specs.Finite.{put}
 use Rattle.records.specs.Format.{recordSize, recordLimit, placeOfNext, wordBytes, recordBytes, recordAt, edition, atomsHeld}
 use Rattle.records.specs.Kinds.{isAtom}
 use Rattle.records.specs.Atoms.{atoms}

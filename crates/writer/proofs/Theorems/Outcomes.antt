@@ -23,7 +23,6 @@ use Rattle.records.specs.Format.{recordSize, recordLimit, roleLimit, recordByte
 use Rattle.records.specs.Check.{fieldsCheck, recordCheck, vocabularyRows, vocabularyCheck, IsWellFormed}
 use Rattle.records.specs.declared.answers.Checked.{Checked}
 use Rattle.records.specs.declared.answers.Checked.the-variants.{Fine, Refused}
-use Rattle.records.specs.declared.fields.Record.{Record}
 use Rattle.records.proofs.Laws.Tests.{clash, both-left, both-right}
 use Rattle.records.proofs.Laws.Checks.{refusal-same, then-assoc, then-same, require-passed, then-passed, checked-fine}
 use Rattle.records.proofs.Theorems.Accepted.{RowsAccepted, rows-accepted, rows-vocabulary, vocabulary-then}

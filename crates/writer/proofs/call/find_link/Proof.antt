@@ -1,7 +1,6 @@
 -- `writer::call::find_link` meets its contract. The link stands in the header, or in the record that ends the chain.
 -- Assumes nothing.
 use native.Mathlib.Omega.{arith}
-use mathlib.Core.Path.{_≡_, sym, _∙_}
 use denote.Ref.{now}
 use borrow.Author.Needs.{needs}
 use Rattle.records.proofs.Theorems.Accepted.{well-formed-vocabulary}

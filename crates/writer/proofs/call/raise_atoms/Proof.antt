@@ -1,18 +1,17 @@
 -- `writer::call::raise_atoms` meets its contract. Where the header is of edition 1, or the kind is no atom's, nothing is written;
 -- else the next of the header comes back as one more.
 -- Assumes nothing.
-use Prim.Native.Nat.{ℕ, _+_, _≤_}
+use Prim.Native.Nat.{ℕ, _+_}
 use native.Mathlib.Omega.{arith}
 use mathlib.Core.Path.{_≡_, refl, sym, ap, _∙_}
 use mathlib.Core.Bool.{Bool, true, false, not}
 use mathlib.Core.List.{List}
-use lib.ListN.{length, length-take, length-drop}
 use lib.Dec.{eqb}
 use denote.Ref.{now}
 use borrow.Author.Needs.{needs}
 use borrow.Author.Tests.{eq-eqb, ne-eqb, not-true, not-false}
 use Rattle.records.specs.Finite.{put}
-use Rattle.records.specs.Format.{recordSize, recordLimit, placeOfNext, wordBytes, recordAt, edition, atomsHeld}
+use Rattle.records.specs.Format.{placeOfNext, wordBytes, recordAt, edition, atomsHeld}
 use Rattle.records.specs.Kinds.{isAtom}
 use Rattle.records.specs.declared.fields.Record.{Record}
 use Rattle.writer.specs.Code.Counting.{raised}
