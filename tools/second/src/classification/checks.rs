@@ -3,15 +3,13 @@
 
 use crate::classification::call::Classified;
 use crate::classification::editions::MOST_ATOMS;
-use crate::classification::file::Case;
 use crate::classification::plan::{Meant, Planned};
-use crate::classification::print::{line, run, Outcome};
+use crate::classification::print::{line as line_of, run, Outcome};
 use crate::classification::small::all_within;
 use crate::classification::taxonomy::{names, Order, EQUAL, NEAREST};
 use crate::comparison::meaning::{is_largest, read_back};
-use crate::comparison::{atoms, Types, WRITTEN};
-use crate::vocabulary::check_vocabulary;
-use crate::vocabulary::editions::other;
+use crate::comparison::{Types, WRITTEN};
+use crate::vocabulary::editions::differs_by_edition;
 use crate::vocabulary::records::records;
 
 /// Interpretations with more elements are not evaluated, for their time.
@@ -21,28 +19,20 @@ const MOST_TYPES: usize = 8;
 
 /// What is wrong with a case and its outcome, or nothing.
 pub fn fault(planned: &Planned, outcome: &Outcome) -> Option<String> {
-    let line = line(outcome);
+    let line = line_of(outcome);
+    let by_edition = || {
+        let case = &planned.case;
+        differs_by_edition(&case.vocabulary, &line, MOST_ATOMS, |other| {
+            line_of(&run(&case.over(other)))
+        })
+    };
     match &planned.meant {
         Meant::Line(meant) if !line.starts_with(meant) => Some(format!("is {}, meant {meant}", line.trim_end())),
         Meant::Table(meant) if outcome.answer.as_ref().map(|classified| classified.table) != Ok(*meant) => {
             Some(format!("is {}, meant with another table", line.trim_end()))
         }
-        _ => unsupported(planned, outcome).or_else(|| differs_by_edition(&planned.case, &line)),
+        _ => unsupported(planned, outcome).or_else(by_edition),
     }
-}
-
-/// What the other edition has against a line, where the vocabulary is accepted and has few atoms, or is refused later.
-fn differs_by_edition(case: &Case, line_of_case: &str) -> Option<String> {
-    let few = atoms(&records(&case.vocabulary)).len() <= MOST_ATOMS;
-    if check_vocabulary(&case.vocabulary).is_err() || !(few || line_of_case.starts_with("refused")) {
-        return None;
-    }
-    let vocabulary = other(&case.vocabulary);
-    let outcome = run(&Case {
-        vocabulary,
-        ..case.clone()
-    });
-    (line(&outcome) != *line_of_case).then(|| "is another answer in the other edition".to_string())
 }
 
 /// What the table itself, the written interpretation, those of one or two elements, or the search for a larger set have

@@ -21,6 +21,12 @@ pub struct Case {
 const HEAD_BYTES: usize = 7;
 
 impl Case {
+    /// The same case with another vocabulary.
+    pub fn over(&self, vocabulary: Vec<u8>) -> Case {
+        let case = self.clone();
+        Case { vocabulary, ..case }
+    }
+
     /// The lent bytes before the call.
     pub fn buffers(&self) -> [Vec<u8>; 2] {
         let [survivors, taxonomy] = self.lent;

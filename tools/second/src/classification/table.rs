@@ -3,7 +3,6 @@
 use crate::classification::checks::fault;
 use crate::classification::editions::LATE;
 use crate::classification::errors::{WrongTable, CALLS, TABLES, WIDE};
-use crate::classification::file::Case;
 use crate::classification::plan::Planned;
 use crate::classification::print::{run, Outcome};
 use crate::classification::taxonomy::{names, EQUAL, NEAREST};
@@ -11,7 +10,7 @@ use crate::comparison::Types;
 use crate::table::Table;
 use crate::vocabulary::editions::is_second;
 use crate::vocabulary::records::records;
-use crate::vocabulary::told::{add_late, add_readers, rightly_counted};
+use crate::vocabulary::told::{add_late, add_readers, with_the_right_count};
 
 /// Tables that are wrong only where there are more than six atoms are tried where there are more types than these, so
 /// that no error from the ninth atom on is told by smaller vocabularies alone.
@@ -165,20 +164,12 @@ pub fn table(cases: &[Planned]) -> Table {
         &mut table,
         cases.iter().map(|planned| planned.case.vocabulary.as_slice()),
     );
-    add_late(&mut table, &LATE, &with_the_right_count(cases));
+    let counted = |Planned { case, .. }: &Planned| {
+        with_the_right_count(&case.vocabulary, |vocabulary| run(&case.over(vocabulary)).answer)
+    };
+    add_late(&mut table, &LATE, cases.iter().filter_map(counted));
     table.object(cases, &outcomes, fault);
     table
-}
-
-/// The refusals, 0 for none, that cases which 28 refuses meet with the right k.
-fn with_the_right_count(cases: &[Planned]) -> Vec<u8> {
-    let refusal = |planned: &Planned| {
-        let vocabulary = rightly_counted(&planned.case.vocabulary)?;
-        let case = planned.case.clone();
-        let answer = run(&Case { vocabulary, ..case }).answer;
-        Some(answer.map_or_else(|refusal| refusal.number, |_| 0))
-    };
-    cases.iter().filter_map(refusal).collect()
 }
 
 /// Adds how many cases tell each error.

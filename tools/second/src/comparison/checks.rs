@@ -3,13 +3,11 @@
 
 use crate::comparison::call::{Compared, WRITTEN};
 use crate::comparison::editions::MOST_ATOMS;
-use crate::comparison::file::Case;
 use crate::comparison::meaning::{is_largest, objection};
 use crate::comparison::plan::Planned;
-use crate::comparison::print::{line, run, Outcome};
-use crate::comparison::types::{atoms, Types};
-use crate::vocabulary::check_vocabulary;
-use crate::vocabulary::editions::other;
+use crate::comparison::print::{line as line_of, run, Outcome};
+use crate::comparison::types::Types;
+use crate::vocabulary::editions::differs_by_edition;
 use crate::vocabulary::records::records;
 
 /// Interpretations with more elements are not evaluated, for their time.
@@ -19,31 +17,23 @@ const MOST_TYPES: usize = 8;
 
 /// What is wrong with a case and its outcome, or nothing.
 pub fn fault(planned: &Planned, outcome: &Outcome) -> Option<String> {
-    let line = line(outcome);
+    let line = line_of(outcome);
     if !line.starts_with(&planned.meant) {
         return Some(format!("is {}, meant {}", line.trim_end(), planned.meant));
     }
+    let by_edition = || {
+        let case = &planned.case;
+        differs_by_edition(&case.vocabulary, &line, MOST_ATOMS, |other| {
+            line_of(&run(&case.over(other)))
+        })
+    };
     let Ok(compared) = &outcome.answer else {
-        return differs_by_edition(&planned.case, &line);
+        return by_edition();
     };
     let Some(written) = outcome.buffer.first_chunk::<WRITTEN>() else {
         return Some("is an answer with too few bytes lent".to_string());
     };
-    unsupported(planned, compared, written).or_else(|| differs_by_edition(&planned.case, &line))
-}
-
-/// What the other edition has against a line, where the vocabulary is accepted and has few atoms, or is refused later.
-fn differs_by_edition(case: &Case, line_of_case: &str) -> Option<String> {
-    let few = atoms(&records(&case.vocabulary)).len() <= MOST_ATOMS;
-    if check_vocabulary(&case.vocabulary).is_err() || !(few || line_of_case.starts_with("refused")) {
-        return None;
-    }
-    let vocabulary = other(&case.vocabulary);
-    let outcome = run(&Case {
-        vocabulary,
-        ..case.clone()
-    });
-    (line(&outcome) != *line_of_case).then(|| "is another answer in the other edition".to_string())
+    unsupported(planned, compared, written).or_else(by_edition)
 }
 
 /// What the written interpretation, or the search for a larger set, has against an answer.

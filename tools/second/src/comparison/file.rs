@@ -24,6 +24,12 @@ pub struct Case {
 const HEAD_BYTES: usize = 13;
 
 impl Case {
+    /// The same case with another vocabulary.
+    pub fn over(&self, vocabulary: Vec<u8>) -> Case {
+        let case = self.clone();
+        Case { vocabulary, ..case }
+    }
+
     /// The lent bytes before the call.
     pub fn buffer(&self) -> Vec<u8> {
         filled(self.lent, self.seed)

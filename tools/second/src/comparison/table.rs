@@ -5,14 +5,13 @@ use crate::comparison::checks::fault;
 use crate::comparison::counts::COUNTS;
 use crate::comparison::editions::LATE;
 use crate::comparison::errors::ERRORS;
-use crate::comparison::file::Case;
 use crate::comparison::plan::Planned;
 use crate::comparison::print::{run, Outcome};
 use crate::comparison::types::Types;
 use crate::table::Table;
 use crate::vocabulary::editions::is_second;
 use crate::vocabulary::records::records;
-use crate::vocabulary::told::{add_late, add_readers, rightly_counted};
+use crate::vocabulary::told::{add_late, add_readers, with_the_right_count};
 
 /// Vocabularies with more types do not have the errors tried on them, for their time.
 const MOST_TYPES: usize = 256;
@@ -91,18 +90,10 @@ pub fn table(cases: &[Planned]) -> Table {
         &mut table,
         cases.iter().map(|planned| planned.case.vocabulary.as_slice()),
     );
-    add_late(&mut table, &LATE, &with_the_right_count(cases));
+    let counted = |Planned { case, .. }: &Planned| {
+        with_the_right_count(&case.vocabulary, |vocabulary| run(&case.over(vocabulary)).answer)
+    };
+    add_late(&mut table, &LATE, cases.iter().filter_map(counted));
     table.object(cases, &outcomes, fault);
     table
-}
-
-/// The refusals, 0 for none, that cases which 28 refuses meet with the right k.
-fn with_the_right_count(cases: &[Planned]) -> Vec<u8> {
-    let refusal = |planned: &Planned| {
-        let vocabulary = rightly_counted(&planned.case.vocabulary)?;
-        let case = planned.case.clone();
-        let answer = run(&Case { vocabulary, ..case }).answer;
-        Some(answer.map_or_else(|refusal| refusal.number, |_| 0))
-    };
-    cases.iter().filter_map(refusal).collect()
 }

@@ -11,7 +11,7 @@ use crate::script::sorts;
 use crate::table::Table;
 use crate::vocabulary::editions::is_second;
 use crate::vocabulary::records::{at as vocabulary_record, records};
-use crate::vocabulary::told::{add_late, add_readers, rightly_counted};
+use crate::vocabulary::told::{add_late, add_readers, with_the_right_count};
 use crate::vocabulary::Refusal;
 use std::collections::BTreeSet;
 
@@ -132,17 +132,10 @@ pub fn table(cases: &[Planned]) -> Table {
         &mut table,
         cases.iter().map(|planned| planned.case.vocabulary.as_slice()),
     );
-    add_late(&mut table, &LATE, &with_the_right_count(cases));
+    let counted = |Planned { case, .. }: &Planned| {
+        with_the_right_count(&case.vocabulary, |vocabulary| check_script(&vocabulary, &case.script))
+    };
+    add_late(&mut table, &LATE, cases.iter().filter_map(counted));
     table.object(cases, &answers, wrong);
     table
-}
-
-/// The refusals, 0 for none, that cases which 28 refuses meet with the right k.
-fn with_the_right_count(cases: &[Planned]) -> Vec<u8> {
-    let refusal = |planned: &Planned| {
-        let vocabulary = rightly_counted(&planned.case.vocabulary)?;
-        let answer = check_script(&vocabulary, &planned.case.script);
-        Some(answer.map_or_else(|refusal| refusal.number, |_| 0))
-    };
-    cases.iter().filter_map(refusal).collect()
 }

@@ -1,5 +1,6 @@
 //! Vocabularies in either edition, and numbers that are not k.
 
+use crate::vocabulary::call::check_vocabulary;
 use crate::vocabulary::faults::with;
 use crate::vocabulary::records::{bytes, records, Record, EDITION_1, EDITION_2, NEXT, RECORD_BYTES};
 
@@ -48,6 +49,22 @@ pub fn other(vocabulary: &[u8]) -> Vec<u8> {
     } else {
         second(vocabulary)
     }
+}
+
+/// What the other edition has against the line of a case, where the vocabulary is accepted and has at most so many atoms, or
+/// the line is a refusal. `line_with` is the line of the case with another vocabulary.
+pub fn differs_by_edition(
+    vocabulary: &[u8],
+    line: &str,
+    most_atoms: usize,
+    line_with: impl FnOnce(Vec<u8>) -> String,
+) -> Option<String> {
+    let few = count(&records(vocabulary)) <= most_atoms;
+    if check_vocabulary(vocabulary).is_err() || !(few || line.starts_with("refused")) {
+        return None;
+    }
+    let same = line_with(other(vocabulary)) == line;
+    (!same).then(|| "is another answer in the other edition".to_string())
 }
 
 /// Numbers that a header may hold and that are not k: next to it, with another byte or both bytes exchanged, counts of

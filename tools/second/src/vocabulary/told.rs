@@ -6,6 +6,7 @@ use crate::vocabulary::editions::second;
 use crate::vocabulary::errors::{calls, ERRORS};
 use crate::vocabulary::file::Case;
 use crate::vocabulary::rules::{Paper, Rules};
+use crate::vocabulary::Refusal;
 
 /// How many cases have to tell each error.
 const TELLING: usize = 5;
@@ -46,15 +47,18 @@ fn add_record_calls(table: &mut Table, cases: &[Case]) {
     }
 }
 
-/// The vocabulary with the right k, where row 28 refuses it.
-pub fn rightly_counted(vocabulary: &[u8]) -> Option<Vec<u8>> {
+/// The refusal, 0 for none, that a case which 28 refuses meets with the right k. `ask` answers the case with another
+/// vocabulary.
+pub fn with_the_right_count<A>(vocabulary: &[u8], ask: impl FnOnce(Vec<u8>) -> Result<A, Refusal>) -> Option<u8> {
     let refused = check_vocabulary(vocabulary).is_err_and(|refusal| refusal.number == 28);
-    refused.then(|| second(vocabulary))
+    let answer = refused.then(|| ask(second(vocabulary)))?;
+    Some(answer.map_or_else(|refusal| refusal.number, |_| 0))
 }
 
 /// Adds how many cases tell calls that ask row 28 too late, by the refusals that those cases which 28 refuses meet with
 /// the right k (0 for none).
-pub fn add_late(table: &mut Table, late: &[Late], refusals: &[u8]) {
+pub fn add_late(table: &mut Table, late: &[Late], refusals: impl Iterator<Item = u8>) {
+    let refusals: Vec<_> = refusals.collect();
     for (name, rows) in late {
         let told = refusals.iter().filter(|number| rows.contains(number));
         table.add(&format!("would change by: {name}"), told.count(), TELLING);

@@ -1,7 +1,7 @@
 //! How many cases of the writer there are of each sort, and how many tell each error.
 
 use crate::table::Table;
-use crate::vocabulary::told::{add_late, add_readers, rightly_counted};
+use crate::vocabulary::told::{add_late, add_readers, with_the_right_count};
 use crate::writer::call::{run, run_by, write, Outcome};
 use crate::writer::checks::fault;
 use crate::writer::editions::LATE;
@@ -81,7 +81,10 @@ pub fn table(cases: &[Planned]) -> Table {
         &mut table,
         buffers.iter().filter_map(|(case, buffer)| in_use(case, buffer)),
     );
-    add_late(&mut table, &LATE, &with_the_right_count(&buffers));
+    let counted = buffers
+        .iter()
+        .filter_map(|(case, buffer)| rightly_counted(case, buffer));
+    add_late(&mut table, &LATE, counted);
     table.object(cases, &outcomes, fault);
     table
 }
@@ -93,16 +96,13 @@ fn in_use<'a>(case: &Case, buffer: &'a [u8]) -> Option<&'a [u8]> {
     buffer.get(..used).filter(|_| reads)
 }
 
-/// The refusals, 0 for none, that cases which 28 refuses meet with the right k.
-fn with_the_right_count(buffers: &[(&Case, Vec<u8>)]) -> Vec<u8> {
-    let refusal = |(case, buffer): &(&Case, Vec<u8>)| {
-        let counted = rightly_counted(in_use(case, buffer)?)?;
-        let mut buffer = buffer.clone();
+/// The refusal, 0 for none, that an addition which 28 refuses meets with the right k.
+fn rightly_counted(case: &Case, buffer: &[u8]) -> Option<u8> {
+    with_the_right_count(in_use(case, buffer)?, |counted| {
+        let mut buffer = buffer.to_vec();
         put(&mut buffer, 0, &counted);
-        let answer = write(&mut buffer, case.used, case.call);
-        Some(answer.map_or_else(|refusal| refusal.number, |_| 0))
-    };
-    buffers.iter().filter_map(refusal).collect()
+        write(&mut buffer, case.used, case.call)
+    })
 }
 
 /// Adds how many cases there are of each call, by what they are answered.
