@@ -8,6 +8,6 @@ use Rattle.records.specs.Format.{placeOfNext, wordBytes, edition, atomsHeld}
 use Rattle.records.specs.Kinds.{isAtom}
 
 -- One more than an edition 2 header holds, if a record of this kind is an atom: the k of the bytes with that record
--- (proofs/Theorems/Grown.antt).
+-- (proofs/Refinement/Counting.antt).
 abbrev pub raised : ℕ → List ℕ → List ℕ
 raised kind v = cond (eqb (edition v) 2 && isAtom kind) (put v placeOfNext (wordBytes (atomsHeld v + 1))) v

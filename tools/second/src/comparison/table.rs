@@ -11,7 +11,7 @@ use crate::comparison::types::Types;
 use crate::table::Table;
 use crate::vocabulary::editions::is_second;
 use crate::vocabulary::records::records;
-use crate::vocabulary::told::{add_late, add_readers, with_the_right_count};
+use crate::vocabulary::told::add_editions;
 
 /// Vocabularies with more types do not have the errors tried on them, for their time.
 const MOST_TYPES: usize = 256;
@@ -86,14 +86,13 @@ pub fn table(cases: &[Planned]) -> Table {
     }
     let second = pairs().filter(|(p, o)| o.answer.is_ok() && is_second(&p.case.vocabulary));
     table.add("edition 2, compared", second.count(), 100);
-    add_readers(
+    add_editions(
         &mut table,
-        cases.iter().map(|planned| planned.case.vocabulary.as_slice()),
+        &LATE,
+        cases,
+        |planned| &planned.case.vocabulary,
+        |planned, vocabulary| run(&planned.case.over(vocabulary)).answer,
     );
-    let counted = |Planned { case, .. }: &Planned| {
-        with_the_right_count(&case.vocabulary, |vocabulary| run(&case.over(vocabulary)).answer)
-    };
-    add_late(&mut table, &LATE, cases.iter().filter_map(counted));
     table.object(cases, &outcomes, fault);
     table
 }

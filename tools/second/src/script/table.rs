@@ -11,7 +11,7 @@ use crate::script::sorts;
 use crate::table::Table;
 use crate::vocabulary::editions::is_second;
 use crate::vocabulary::records::{at as vocabulary_record, records};
-use crate::vocabulary::told::{add_late, add_readers, with_the_right_count};
+use crate::vocabulary::told::add_editions;
 use crate::vocabulary::Refusal;
 use std::collections::BTreeSet;
 
@@ -128,14 +128,13 @@ pub fn table(cases: &[Planned]) -> Table {
     table.add("edition 2, accepted", second().filter(|(_, a)| a.is_ok()).count(), 30);
     let refused = second().filter(|(_, a)| a.is_err() && keeps_form(**a));
     table.add("edition 2, refused along the chain", refused.count(), 40);
-    add_readers(
+    add_editions(
         &mut table,
-        cases.iter().map(|planned| planned.case.vocabulary.as_slice()),
+        &LATE,
+        cases,
+        |planned| &planned.case.vocabulary,
+        |planned, vocabulary| check_script(&vocabulary, &planned.case.script),
     );
-    let counted = |Planned { case, .. }: &Planned| {
-        with_the_right_count(&case.vocabulary, |vocabulary| check_script(&vocabulary, &case.script))
-    };
-    add_late(&mut table, &LATE, cases.iter().filter_map(counted));
     table.object(cases, &answers, wrong);
     table
 }

@@ -64,3 +64,17 @@ pub fn add_late(table: &mut Table, late: &[Late], refusals: impl Iterator<Item =
         table.add(&format!("would change by: {name}"), told.count(), TELLING);
     }
 }
+
+/// Adds how many cases tell wrong readers, and calls that ask row 28 too late. `ask` answers a case with another
+/// vocabulary.
+pub fn add_editions<C, A>(
+    table: &mut Table,
+    late: &[Late],
+    cases: &[C],
+    vocabulary: impl Fn(&C) -> &[u8],
+    ask: impl Fn(&C, Vec<u8>) -> Result<A, Refusal>,
+) {
+    add_readers(table, cases.iter().map(&vocabulary));
+    let counted = |case: &C| with_the_right_count(vocabulary(case), |other| ask(case, other));
+    add_late(table, late, cases.iter().filter_map(counted));
+}
