@@ -3,6 +3,7 @@
 pub mod arguments;
 pub mod chain;
 pub mod failure;
+pub mod sha256;
 pub mod spelling;
 pub mod vocabulary;
 

@@ -5,6 +5,7 @@ use crate::files::{self, Access, FileId, Length, Name, Opened, Source};
 use crate::json::Json;
 use crate::report::{Report, Stop, Style};
 use crate::text::cursor::Fault;
+use crate::text::names::Names;
 use crate::text::{self, Assembled, Kind, Line, TEXT_BYTES};
 use base::spelling::nearest;
 use base::vocabulary::HEADER_KIND;
@@ -23,6 +24,9 @@ pub struct Input {
     pub bytes: Vec<u8>,
     /// Which file it is, if it is a regular one.
     pub id: Option<FileId>,
+    /// What people call its names and roles.
+    #[allow(dead_code)] // until it is used
+    pub names: Names,
     length: Length,
     /// Of a text, the line of each record.
     lines: Option<Vec<Line>>,
@@ -36,6 +40,7 @@ impl Input {
             length: Length::of(&assembled.bytes),
             bytes: assembled.bytes,
             id,
+            names: assembled.names,
             lines: Some(assembled.lines),
         }
     }
@@ -46,6 +51,7 @@ impl Input {
             name,
             bytes: Vec::new(),
             id: None,
+            names: Names::default(),
             length: Length::of(&[]),
             lines: None,
         }
@@ -184,6 +190,7 @@ fn of_bytes(source: Source) -> Input {
         name: source.name,
         bytes: source.bytes,
         id: source.id,
+        names: Names::default(),
         length: source.length,
         lines: None,
     }

@@ -2,6 +2,7 @@
 
 #![deny(unsafe_code)]
 
+mod cause;
 mod columns;
 mod commands;
 mod console;
@@ -20,9 +21,9 @@ mod signals;
 mod stored;
 mod streams;
 mod taxonomy;
+mod term;
 mod text;
 mod trace;
-mod why;
 
 use crate::commands::COMMON;
 use crate::console::{complain, Colour, Console};

@@ -1,9 +1,9 @@
 //! Refusals of inputs, with what is known of the input.
 
+use crate::cause;
 use crate::input::Input;
 use crate::json::Json;
 use crate::report::{refusal_json, refusal_status, Report, Style};
-use crate::why;
 use judge::{Refusal, Rule};
 
 /// A refusal in words, with what is known of the input that it is about, and a reason in detail where there is one.
@@ -19,9 +19,9 @@ fn in_detail(input: &Input, refusal: Refusal, detail: Option<&str>) -> Option<St
     match (detail, refusal.rule) {
         _ if !input.hint(refusal).is_empty() => None,
         (Some(detail), _) => Some(detail.to_string()),
-        (None, Rule::ScriptHeader) => why::detail(&[], &input.bytes, refusal),
+        (None, Rule::ScriptHeader) => cause::detail(&[], &input.bytes, refusal),
         (None, rule) if rule.is_of_vocabulary() || rule == Rule::RecordNumber => {
-            why::vocabulary_detail(&input.bytes, refusal)
+            cause::vocabulary_detail(&input.bytes, refusal)
         }
         _ => None,
     }
@@ -39,7 +39,7 @@ pub fn report(style: Style, input: &Input, refusal: Refusal, detail: Option<&str
 
 /// The refusal of a vocabulary, or of a number that was asked about in it (10).
 pub fn of_vocabulary(style: Style, input: &Input, refusal: Refusal) -> Report {
-    let detail = why::vocabulary_detail(&input.bytes, refusal);
+    let detail = cause::vocabulary_detail(&input.bytes, refusal);
     report(style, input, refusal, detail.as_deref())
 }
 

@@ -1,8 +1,9 @@
-//! The command as people call it. tests/desk.expected is a transcript: each line that begins with '$ ' is run by a shell in
-//! one new directory, in order, and what it prints (both streams) and its exit status have to be what stands below it. The
-//! examples of docs/DESK.md and docs/FORMATS.md are run in the same way, over copies of examples/.
+//! The command as people call it. tests/desk.expected is a transcript, and so is each file of tests/desk: each line that
+//! begins with '$ ' is run by a shell in one new directory for each file, in order, and what it prints (both streams) and its
+//! exit status have to be what stands below it. The examples of docs/DESK.md and docs/FORMATS.md are run in the same way, over
+//! copies of examples/.
 //!
-//! `DESK_WRITE=1 cargo test --release -p desk --test transcript` makes the transcript again; read the difference before you
+//! `DESK_WRITE=1 cargo test --release -p desk --test transcript` makes the transcripts again; read the difference before you
 //! keep it.
 
 #![allow(clippy::unwrap_used, clippy::indexing_slicing, clippy::panic)]
@@ -10,6 +11,7 @@
 mod support;
 
 use std::fs;
+use std::path::Path;
 use support::{root, Place};
 
 /// The first line in which two texts differ, for a message.
@@ -42,18 +44,33 @@ fn run(place: &Place, transcript: &str) -> String {
     made
 }
 
-#[test]
-fn desk_says_what_the_transcript_has() {
-    let path = root().join("tests/desk.expected");
-    let transcript = fs::read_to_string(&path).unwrap();
-    let made = run(&Place::new("transcript"), &transcript);
+/// Runs a transcript of at least so many commands.
+fn check_transcript(place: &Place, path: &Path, least: usize) {
+    let transcript = fs::read_to_string(path).unwrap();
+    let made = run(place, &transcript);
     if std::env::var_os("DESK_WRITE").is_some() {
-        fs::write(&path, &made).unwrap();
+        fs::write(path, &made).unwrap();
     } else {
-        assert!(made == transcript, "{}", difference(&transcript, &made));
+        let name = path.display();
+        assert!(made == transcript, "{name}: {}", difference(&transcript, &made));
     }
     let commands = made.matches("\n$ ").count();
-    assert!(commands >= 300, "{commands} commands are too few");
+    assert!(commands >= least, "{commands} commands are too few");
+}
+
+#[test]
+fn desk_says_what_the_transcript_has() {
+    check_transcript(&Place::new("transcript"), &root().join("tests/desk.expected"), 300);
+}
+
+/// Each of these has copies of the examples.
+#[test]
+fn desk_says_what_the_transcripts_of_each_subject_have() {
+    for entry in fs::read_dir(root().join("tests/desk")).unwrap() {
+        let path = entry.unwrap().path();
+        let name = path.file_stem().unwrap().to_string_lossy().into_owned();
+        check_transcript(&with_examples(&name), &path, 4);
+    }
 }
 
 /// A place with copies of the examples.

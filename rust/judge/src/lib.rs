@@ -26,6 +26,8 @@ pub use builder::Builder;
 pub use edition::{atoms, edition, set_edition, Edition};
 pub use refusal::{Place, Refusal, Rule};
 
+/// The version of the library that this wraps, as `JUDGE_VERSION` of include/judge.h has it.
+pub const VERSION: &str = env!("CARGO_PKG_VERSION");
 /// The most bytes that a vocabulary may have.
 pub const VOCABULARY_BYTES: usize = 4096;
 /// The most bytes that a script may have.

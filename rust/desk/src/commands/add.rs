@@ -1,5 +1,6 @@
 //! `desk add`.
 
+use crate::cause;
 use crate::console::Console;
 use crate::display::{counted, did_you_mean};
 use crate::files;
@@ -10,7 +11,6 @@ use crate::report::{Report, Stop, Style};
 use crate::text::addition::{self, Addition, Unfit};
 use crate::text::cursor::{quoted, Fault};
 use crate::text::vocabulary::Written;
-use crate::why;
 use base::arguments::Arguments;
 use base::vocabulary::{Record, Vocabulary, STATEMENT_KIND};
 use base::{Failure, Status};
@@ -117,7 +117,7 @@ fn refused_addition(style: Style, input: &Input, addition: Addition, refusal: Re
         b,
         ..Record::default()
     };
-    let detail = why::addition_detail(&input.bytes, record, refusal);
+    let detail = cause::addition_detail(&input.bytes, record, refusal);
     refused::report(style, input, refusal, detail.as_deref())
 }
 

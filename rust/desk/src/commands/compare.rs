@@ -7,7 +7,8 @@ use crate::files;
 use crate::question::Questions;
 use crate::refused;
 use crate::report::Stop;
-use base::arguments::{number, Arguments, Flag};
+use crate::term;
+use base::arguments::{Arguments, Flag};
 use base::{Failure, Status};
 
 /// The options.
@@ -20,12 +21,12 @@ const WORDING: Wording = Wording {
 
 pub fn run(arguments: &Arguments, console: &mut Console) -> Result<Status, Stop> {
     let [path, a, b] = arguments.words(["VOCABULARY", "A", "B"])?;
-    let pair = [number(a, "A")?, number(b, "B")?];
     if arguments.value("--survivors").is_some_and(|path| path == "-") {
         return Err(Failure::usage("--survivors takes a file, and '-' is none").into());
     }
-    let input = read_vocabulary(path, console.style)?;
+    let mut input = read_vocabulary(path, console.style)?;
     let words = read_words(arguments, console.style)?;
+    let pair = term::pair(&mut input, [a, b])?;
     let mut survivors = [0; judge::SURVIVOR_BYTES];
     let [a, b] = pair;
     let refused = |refusal| Stop::from(refused::of_vocabulary(console.style, &input, refusal));

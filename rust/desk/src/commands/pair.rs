@@ -6,12 +6,10 @@ use crate::input::Input;
 use crate::json::Json;
 use crate::question::Questions;
 use crate::report::{Report, Style};
+use crate::term::Pair;
 use crate::text::vocabulary::Written;
 use base::{Failure, Status};
 use judge::{Comparison, Refusal, Verdict};
-
-/// The terms that are asked about, A and B.
-pub type Pair = [u32; 2];
 
 /// How an answer is worded, for people and for programs.
 pub struct Wording {

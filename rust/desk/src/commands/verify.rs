@@ -1,6 +1,7 @@
 //! `desk verify`.
 
 use super::{read_script, read_vocabulary, read_words, written, WORDS};
+use crate::cause;
 use crate::console::Console;
 use crate::display::counted;
 use crate::input::Input;
@@ -10,7 +11,6 @@ use crate::report::{Report, Stop, Style};
 use crate::script;
 use crate::text::vocabulary::Written;
 use crate::trace;
-use crate::why;
 use base::arguments::{Arguments, Flag};
 use base::Status;
 use judge::{Place, Refusal};
@@ -49,8 +49,8 @@ fn refused_script(style: Style, vocabulary: &Input, script: &Input, refusal: Ref
         Place::Asked => script.line_of(0),
         _ => script.place_of(refusal),
     };
-    let detail = why::detail(&vocabulary.bytes, &script.bytes, refusal);
-    let is_foreign = why::is_foreign(&vocabulary.bytes, &script.bytes, refusal);
+    let detail = cause::detail(&vocabulary.bytes, &script.bytes, refusal);
+    let is_foreign = cause::is_foreign(&vocabulary.bytes, &script.bytes, refusal);
     let question = is_foreign.then_some("is it a script for this vocabulary?");
     let whole = match (&detail, question) {
         (Some(detail), Some(question)) => Some(format!("{detail}; {question}")),

@@ -1,6 +1,6 @@
 //! `desk within`.
 
-use super::pair::{Answered, Emptiness, Pair, Wording};
+use super::pair::{Answered, Emptiness, Wording};
 use super::{read_vocabulary, read_words, written, WORDS};
 use crate::console::Console;
 use crate::display::grouped;
@@ -8,7 +8,8 @@ use crate::input::Input;
 use crate::question::{Questions, Within};
 use crate::refused;
 use crate::report::Stop;
-use base::arguments::{number, Arguments, Flag};
+use crate::term::{self, Pair};
+use base::arguments::{Arguments, Flag};
 use base::{Failure, Status};
 
 /// The options.
@@ -21,9 +22,9 @@ const WORDING: Wording = Wording {
 
 pub fn run(arguments: &Arguments, console: &mut Console) -> Result<Status, Stop> {
     let [path, a, b] = arguments.words(["VOCABULARY", "A", "B"])?;
-    let pair = [number(a, "A")?, number(b, "B")?];
-    let input = read_vocabulary(path, console.style)?;
+    let mut input = read_vocabulary(path, console.style)?;
     let words = read_words(arguments, console.style)?;
+    let pair = term::pair(&mut input, [a, b])?;
     let refused = |refusal| Stop::from(refused::of_vocabulary(console.style, &input, refusal));
     let mut questions = Questions::new(&input.bytes);
     let [a, b] = pair;

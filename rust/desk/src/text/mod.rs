@@ -3,6 +3,7 @@
 
 pub mod addition;
 pub mod cursor;
+pub mod names;
 mod records;
 mod said;
 pub mod script;
@@ -11,6 +12,7 @@ mod tests;
 pub mod vocabulary;
 
 use cursor::{Cursor, Fault};
+use names::Names;
 
 /// The most bytes of a text; no vocabulary or script needs as many.
 pub const TEXT_BYTES: usize = 1 << 20;
@@ -45,6 +47,8 @@ pub struct Assembled {
     pub bytes: Vec<u8>,
     /// The line of each record.
     pub lines: Vec<Line>,
+    /// What people call its names and roles.
+    pub names: Names,
 }
 
 /// The line of a record.
@@ -74,6 +78,7 @@ pub fn assemble(text: &str) -> Result<Assembled, Vec<Fault>> {
         kind,
         bytes,
         lines: lines(text).map(|line| line.place()).collect(),
+        names: Names::default(),
     })
 }
 

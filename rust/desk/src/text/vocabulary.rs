@@ -74,7 +74,12 @@ impl Written {
         }
     }
 
-    /// The same with its number.
+    /// A role, and what people call it.
+    pub fn role(&self, role: u16) -> String {
+        format!("r{role}")
+    }
+
+    /// A term with its number.
     pub fn term(&self, number: u16) -> String {
         format!("term {number}, {}", self.called(number))
     }
@@ -107,8 +112,8 @@ impl Written {
             Saying::Not(a) => format!("ObjectComplementOf({})", operand(a)),
             Saying::And(a, b) => format!("ObjectIntersectionOf({} {})", operand(a), operand(b)),
             Saying::Or(a, b) => format!("ObjectUnionOf({} {})", operand(a), operand(b)),
-            Saying::Some(role, b) => format!("ObjectSomeValuesFrom(r{role} {})", operand(b)),
-            Saying::All(role, b) => format!("ObjectAllValuesFrom(r{role} {})", operand(b)),
+            Saying::Some(role, b) => format!("ObjectSomeValuesFrom({} {})", self.role(role), operand(b)),
+            Saying::All(role, b) => format!("ObjectAllValuesFrom({} {})", self.role(role), operand(b)),
             Saying::Within(a, b) => format!("SubClassOf({} {})", operand(a), operand(b)),
         })
     }

@@ -3,6 +3,7 @@
 use super::kept::{Files, Kept, Known, Trouble};
 use super::line::{repeated, Claim, Field, Row, Text};
 use super::table::Line;
+use crate::cause;
 use crate::commands::within::room_words;
 use crate::explain::Explained;
 use crate::input::Input;
@@ -11,7 +12,6 @@ use crate::question::Within;
 use crate::refused;
 use crate::report::refusal_status;
 use crate::script;
-use crate::why;
 use base::Status;
 use judge::{Comparison, Refusal, Verdict};
 
@@ -283,7 +283,7 @@ fn proved(known: &mut Known, pair: [u32; 2], script: &Input, explain: bool) -> J
     match judge::check_script(&known.input.bytes, &script.bytes) {
         Err(refusal) if refusal.rule.is_of_vocabulary() => return Outcome::refused(refusal, &known.input).into(),
         Err(refusal) => {
-            let detail = explain.then(|| why::detail(&known.input.bytes, &script.bytes, refusal));
+            let detail = explain.then(|| cause::detail(&known.input.bytes, &script.bytes, refusal));
             let outcome = Outcome::refused(refusal, script);
             return outcome.with_detail(detail.flatten().unwrap_or_default()).into();
         }
