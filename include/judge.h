@@ -56,10 +56,9 @@
 extern "C" {
 #endif
 
-/* The version: major.minor.patch. The major number grows where bytes that were filed, or the packing of an answer, come
- * to mean something else; libjudge.so has it in its name. The minor number grows with each change of the calls, the
- * formats or the table of refusals that keeps what was filed, and what programs rely on; the patch number with all
- * else. The library, desk and the wrappers have one version together. */
+/* The version, which the library, desk and the wrappers have together. The major number grows where bytes that were
+ * filed, or the packing of an answer, come to mean something else; libjudge.so has it in its name. The minor number
+ * counts the change requests that have landed, each of which keeps that; the patch number grows with all else. */
 #define JUDGE_VERSION_MAJOR 1
 #define JUDGE_VERSION_MINOR 5
 #define JUDGE_VERSION_PATCH 0
