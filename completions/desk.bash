@@ -22,13 +22,13 @@ _desk_options() {
     echo '--json -q --quiet --color -h --help'
 }
 
-# _desk_place COMMAND N: what may stand as word N after a command. 'FILE' is a file.
+# _desk_place COMMAND N SORT: what may stand as word N after a command, 'FILE' for a file; SORT is what `add` adds.
 _desk_place() {
     case $1,$2 in
         ,*) echo "$_desk_commands" ;;
         help,1) echo "$_desk_commands $_desk_topics" ;;
         add,2) echo 'term statement' ;;
-        add,3) echo "$_desk_kinds" ;;
+        add,3) [[ $3 != term ]] || echo "$_desk_kinds" ;;
         edition,2) echo '1 2' ;;
         check,* | show,* | classify,* | verify,[12] | diff,[123] | *,1) echo FILE ;;
     esac
@@ -89,7 +89,7 @@ _desk() {
     elif [[ -z $ended && $current == -* ]]; then
         offered=$(_desk_options "${given[0]-}")
     else
-        offered=$(_desk_place "${given[0]-}" "${#given[@]}")
+        offered=$(_desk_place "${given[0]-}" "${#given[@]}" "${given[2]-}")
     fi
     COMPREPLY=()
     case $offered in

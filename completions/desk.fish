@@ -27,6 +27,12 @@ function __desk_is
     test (count $words) -gt 0; and contains -- $words[1] $argv
 end
 
+# Whether a term of some kind is to come.
+function __desk_wants_kind
+    set -l words (__desk_words)
+    test (count $words) -eq 3 -a "$words[1] $words[3]" = 'add term'
+end
+
 # Whether word N after one of these commands is to come: __desk_at N COMMAND ..
 function __desk_at
     test (count (__desk_words)) -eq $argv[1]; and __desk_is $argv[2..]
@@ -75,10 +81,10 @@ complete -c desk -n '__desk_is recheck' -l html -r -F -d 'Writes a report'
 
 # Words that are no files.
 complete -c desk -n '__desk_at 2 record compare within why columns' -f
-complete -c desk -n '__desk_at 3 compare within why' -f
+complete -c desk -n '__desk_at 3 compare within why add' -f
 complete -c desk -n '__desk_at 2 add' -f -a 'term statement'
-complete -c desk -n '__desk_at 3 add' -f -a 'owl:Thing owl:Nothing ObjectComplementOf ObjectIntersectionOf ObjectUnionOf'
-complete -c desk -n '__desk_at 3 add' -f -a 'ObjectSomeValuesFrom ObjectAllValuesFrom'
+complete -c desk -n __desk_wants_kind -f -a 'owl:Thing owl:Nothing ObjectComplementOf ObjectIntersectionOf ObjectUnionOf'
+complete -c desk -n __desk_wants_kind -f -a 'ObjectSomeValuesFrom ObjectAllValuesFrom'
 complete -c desk -n '__desk_at 2 edition' -f -a '1 2'
 complete -c desk -n '__desk_is help' -f
 complete -c desk -n '__desk_at 1 help' -a 'check show record compare within why classify verify columns assemble new add edition recheck diff'
