@@ -108,10 +108,9 @@ fn the_completions_have_the_options_of_every_command() {
     assert_eq!(common, wanted);
     assert_eq!(offered_by_bash("desk -"), common);
     let zsh = read("completions/_desk");
-    let zsh_options = options(between(&zsh, "common=(\n", "\n  )"));
-    let version = options(between(&zsh, "{-V", "}"));
-    assert_eq!(&zsh_options | &version, &common - &options("-V"));
-    assert!(zsh.contains("{-V,"));
+    let of_all = options(between(&zsh, "common=(\n", "\n  )"));
+    let of_none = options(between(&zsh, "_arguments -C -A '-*' $common ", "'1:command"));
+    assert_eq!(&of_all | &of_none, common);
     let fish = read("completions/desk.fish");
     for name in common.iter().map(|option| option.trim_start_matches('-')) {
         let (long, short) = (format!(" -l {name} "), format!(" -s {name} "));
