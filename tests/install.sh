@@ -84,12 +84,14 @@ from_pkg_config() {
     PKG_CONFIG_PATH=$place/lib/pkgconfig PKG_CONFIG_SYSROOT_DIR=$stage pkg-config "$@" judge
 }
 
-# built OUTPUT SOURCE: a program linked with libjudge.a and, as OUTPUT.shared, with libjudge.so. What pkg-config says is quoted
-# for a shell.
+# built OUTPUT SOURCE: a program linked with libjudge.a and, as OUTPUT.shared, with libjudge.so, by what pkg-config says, which is
+# quoted for a shell, or without it.
 built() {
-    local flags libs
-    flags=$(from_pkg_config --cflags)
-    libs=$(from_pkg_config --libs)
+    local flags="-I'$place/include'" libs="-L'$place/lib' -ljudge"
+    if command -v pkg-config > "$work/log"; then
+        flags=$(from_pkg_config --cflags)
+        libs=$(from_pkg_config --libs)
+    fi
     eval "quietly gcc -O2 -Wall -Wextra -Werror -o \"\$1\" \"\$2\" $flags -Wl,-Bstatic $libs -Wl,-Bdynamic"
     eval "quietly gcc -O2 -Wall -Wextra -Werror -o \"\$1.shared\" \"\$2\" $flags $libs"
     ! readelf -dW "$1" | grep -q libjudge || fail "$2: linked with libjudge.so, where libjudge.a was asked for"
@@ -231,8 +233,8 @@ has make || exit 0
 judge_make install DESTDIR="$stage" PREFIX="$prefix"
 same 'what is installed' "$(installed_files)" "$(listed "$place")"
 shared_library
+programs
 if has pkg-config; then
-    programs
     pkg_config_file
 fi
 same 'desk --version' "desk $version" "$("$place/bin/desk" --version)"
