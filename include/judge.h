@@ -1,7 +1,8 @@
 /* The duty vocabulary judge: settles whether terms of a customs vocabulary, in the description logic ALC, are equal or
  * lie one within the other in every finite interpretation that satisfies the vocabulary's statements. Link
- * target/staticlib/libjudge.a (`rt staticlib judge` builds it; it needs nothing but memcpy and memset).
- * examples/settle.c and examples/write.c are programs that use all of this.
+ * target/staticlib/libjudge.a (`rt staticlib judge` builds it; it needs nothing but memcpy and memset), or, after `make
+ * install`, what `pkg-config --cflags --libs judge` says. examples/settle.c and examples/write.c are programs that use
+ * all of this.
  *
  * A VOCABULARY is 8-byte records, at most 512: a header, then terms and statements. A term is a name, or made of
  * earlier terms by not, and, or, some, all. A statement says that one term lies within another. The header has an
@@ -54,6 +55,14 @@
 #ifdef __cplusplus
 extern "C" {
 #endif
+
+/* The version, which the library, desk and the wrappers have together. The major number grows where bytes that were
+ * filed, or the packing of an answer, come to mean something else; libjudge.so has it in its name. The minor number
+ * counts the change requests that have landed, each of which keeps that; the patch number grows with all else. */
+#define JUDGE_VERSION_MAJOR 1
+#define JUDGE_VERSION_MINOR 5
+#define JUDGE_VERSION_PATCH 0
+#define JUDGE_VERSION "1.5.0"
 
 /* The kinds of terms, with what A and B of their records are; 0 where nothing is said. */
 enum {

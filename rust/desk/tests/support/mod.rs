@@ -2,6 +2,8 @@
 
 #![allow(dead_code, clippy::unwrap_used)]
 
+pub mod help;
+
 use std::ffi::OsString;
 use std::fs;
 use std::path::{Path, PathBuf};
