@@ -1,5 +1,7 @@
 //! `desk why`.
 
+#[cfg(test)]
+mod tests;
 mod words;
 
 use super::pair::{Answered, Emptiness};
