@@ -18,7 +18,7 @@ usage: desk COMMAND .. [--json] [--quiet] [--color[=WHEN]]
   record VOCABULARY N           one record, its fields and what it says
   compare VOCABULARY A B        whether two terms are equal in every finite interpretation that satisfies the statements
   within VOCABULARY A B         whether one term lies within another in every such interpretation
-  why VOCABULARY A B            a smallest set of statements that makes A equal to B, or (--within) lie within it
+  why VOCABULARY A B            a minimal set of statements that makes A equal to B, or (--within) lie within it
   classify VOCABULARY ..        the names from the broadest down: equal ones, and the nearest broader ones of each
   verify VOCABULARY SCRIPT      whether a script proves that one term lies within another
   columns VOCABULARY [OWNER]    the columns that a script may use

@@ -78,12 +78,11 @@ impl<E, F: FnMut(Set) -> Result<bool, E>> Search<F> {
 
     /// Finds one justification.
     pub fn first(&mut self) -> Result<Others, E> {
-        let first = self.smallest(self.statements)?;
+        let first = self.minimal(self.statements)?;
         self.found.push(first);
-        Ok(match first.count() {
-            0 => Others::None,
-            _ => Others::Unknown,
-        })
+        // No other is a part of it, nor can any have it as a part.
+        let is_only = first == Set::default() || first == self.statements;
+        Ok(if is_only { Others::None } else { Others::Unknown })
     }
 
     /// Finds up to so many, by a hitting set tree (Reiter). Where the statements that a node does not leave out are enough, they
@@ -122,7 +121,7 @@ impl<E, F: FnMut(Set) -> Result<bool, E>> Search<F> {
         if self.found.len() >= most {
             return Ok(None);
         }
-        let justification = self.smallest(left)?;
+        let justification = self.minimal(left)?;
         self.found.push(justification);
         Ok(Some(justification))
     }
@@ -140,9 +139,9 @@ impl<E, F: FnMut(Set) -> Result<bool, E>> Search<F> {
         Ok(())
     }
 
-    /// A smallest part that is enough, of statements that are enough: they are taken off all at once, then by halves, quarters
+    /// A minimal part that is enough, of statements that are enough: they are taken off all at once, then by halves, quarters
     /// and so on, and in the end one by one; what cannot go stays.
-    fn smallest(&mut self, statements: Set) -> Result<Set, E> {
+    fn minimal(&mut self, statements: Set) -> Result<Set, E> {
         let mut kept = statements;
         let mut run = statements.count();
         while run > 0 {

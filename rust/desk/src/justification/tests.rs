@@ -19,7 +19,7 @@ impl Random {
 }
 
 /// The sets of a family of which no other is a part.
-fn smallest(family: &BTreeSet<Set>) -> BTreeSet<Set> {
+fn minimal(family: &BTreeSet<Set>) -> BTreeSet<Set> {
     let has_part = |set: &Set| family.iter().any(|other| other != set && other.is_part_of(*set));
     family.iter().copied().filter(|set| !has_part(set)).collect()
 }
@@ -43,7 +43,7 @@ fn sets_have_the_numbers_that_they_were_made_of() {
 }
 
 #[test]
-fn all_smallest_sets_are_found_and_no_others() {
+fn all_minimal_sets_are_found_and_no_others() {
     let (mut several, mut empty) = (0, 0);
     for seed in 0..3_000 {
         let mut random = Random(seed);
@@ -51,7 +51,7 @@ fn all_smallest_sets_are_found_and_no_others() {
         let statements: Vec<u16> = (0..count as u16).map(|number| 3 + number * 80).collect();
         let mut some = || Set::of(statements.iter().copied().filter(|_| random.below(3) == 0));
         let family: BTreeSet<Set> = (0..1 + seed % 8).map(|_| some()).collect();
-        let wanted = smallest(&family);
+        let wanted = minimal(&family);
         let all = Set::of(statements.iter().copied());
         for most in 1..=wanted.len() + 1 {
             let mut search = search(all, &family);
@@ -66,7 +66,9 @@ fn all_smallest_sets_are_found_and_no_others() {
         let mut search = search(all, &family);
         let others = search.first().unwrap();
         assert!(wanted.contains(&search.found[0]) && search.found.len() == 1);
-        assert_eq!(others == Others::None, search.found[0] == Set::default());
+        let is_only = [Set::default(), all].contains(&search.found[0]);
+        assert_eq!(others, if is_only { Others::None } else { Others::Unknown });
+        assert!(!is_only || wanted.len() == 1);
         several += usize::from(wanted.len() > 2);
         empty += usize::from(wanted.contains(&Set::default()));
     }

@@ -164,7 +164,7 @@ impl Listed<'_> {
 /// A line that says what is empty by these statements; none where nothing is.
 fn emptiness(set: &Justification) -> String {
     let (it, they) = match set.statements.len() {
-        0 => ("", ""),
+        0 => ("by the terms alone ", ""),
         1 => ("by it ", "nothing satisfies it"),
         _ => ("by them ", "they contradict each other"),
     };
