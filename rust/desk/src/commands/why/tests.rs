@@ -130,7 +130,7 @@ fn random(seed: u64) -> (Vocabulary, [u32; 2]) {
     let vocabulary = Vocabulary { records };
     let on: Vec<u16> = (1 + terms..10 + terms).filter(|_| below(5) > 0).take(7).collect();
     let mut bytes = vocabulary.with_chain(&on).bytes();
-    if seed % 2 == 0 {
+    if seed.is_multiple_of(2) {
         judge::set_edition(&mut bytes, Edition::Two).unwrap();
     }
     let pair = [1 + below(terms), 1 + below(terms)].map(u32::from);
