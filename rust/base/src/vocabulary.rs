@@ -207,6 +207,22 @@ impl Vocabulary {
         })
     }
 
+    /// A copy with these statements on the chain, in record order, and no others, whose link is 0.
+    pub fn with_chain(&self, statements: &[u16]) -> Vocabulary {
+        let mut copy = self.clone();
+        let mut link = 0;
+        for (number, record) in copy.records.iter_mut().enumerate().rev() {
+            if number == 0 {
+                record.a = link;
+            } else if record.kind == STATEMENT_KIND {
+                let on = statements.iter().copied().find(|on| usize::from(*on) == number);
+                record.next = on.map_or(0, |_| link);
+                link = on.unwrap_or(link);
+            }
+        }
+        copy
+    }
+
     /// Which records hold at a type: terms by the truth of the atoms, statements by "A false or B true".
     pub fn truths(&self, element: u16) -> Vec<bool> {
         let mut truths = vec![false; self.records.len()];

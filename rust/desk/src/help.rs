@@ -18,6 +18,7 @@ usage: desk COMMAND .. [--json] [--quiet] [--color[=WHEN]]
   record VOCABULARY N           one record, its fields and what it says
   compare VOCABULARY A B        whether two terms are equal in every finite interpretation that satisfies the statements
   within VOCABULARY A B         whether one term lies within another in every such interpretation
+  why VOCABULARY A B            a minimal set of statements that makes A equal to B, or (--within) lie within it
   classify VOCABULARY ..        the names from the broadest down: equal ones, and the nearest broader ones of each
   verify VOCABULARY SCRIPT      whether a script proves that one term lies within another
   columns VOCABULARY [OWNER]    the columns that a script may use
@@ -45,12 +46,13 @@ exit status: 0 holds, 1 does not hold, 2 refused input, 64 and up usage and I/O 
 ";
 
 /// A page for each command and topic.
-const PAGES: [(&str, &str); 15] = [
+const PAGES: [(&str, &str); 16] = [
     ("check", CHECK),
     ("show", SHOW),
     ("record", RECORD),
     ("compare", COMPARE),
     ("within", WITHIN),
+    ("why", WHY),
     ("classify", CLASSIFY),
     ("verify", VERIFY),
     ("columns", COLUMNS),
@@ -126,6 +128,26 @@ is the answer, with status 2.
   --words TEXT   the text of the vocabulary, whose comments say what each record is called
 
 exit status: 0 within, 1 not within, 2 refused
+";
+
+const WHY: &str = "\
+usage: desk why VOCABULARY A B [--within] [--all N] [--words TEXT] [--json]
+
+Why the term of record A is equal to the term of record B: a set of statements that are enough for it, and of which none
+can be left out. Editors of ontologies know it as a justification. Statements are taken off the chain of a copy, first
+many at once, in the end one by one, and each time the proved comparison is asked; what cannot go stays. The set is minimal:
+no part of it is enough. There may be other minimal sets, smaller ones among them.
+
+It is said where these statements contradict each other, or where by them nothing can belong to A. Where A is not equal to
+B, or does not lie within it, the answer is that of 'compare' or 'within'. The vocabulary has at most 12 atoms. With
+--within, one of 512 records needs a record that says \"A and B\" or \"A or B\", as for 'within'.
+
+  --within       why A lies within B
+  --all N        up to N such sets, 1 to 64, the smallest first, and whether there are others. Looking for them may take
+                 long; interrupted, it tells what it has found
+  --words TEXT   the text of the vocabulary, whose comments say what each record is called
+
+exit status: 0 equal (within), 1 different (not within), 2 refused, 130 interrupted
 ";
 
 const CLASSIFY: &str = "\

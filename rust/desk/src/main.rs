@@ -12,6 +12,7 @@ mod files;
 mod help;
 mod input;
 mod json;
+mod justification;
 mod question;
 mod refused;
 mod report;

@@ -225,6 +225,8 @@ fn damaged_inputs_get_json_and_never_a_panic() {
         assert!(says_json(&name, &bytes, &["compare"], &[&number, "3"]));
         assert!(says_json(&name, &bytes, &["verify", path], &[]));
         assert!(says_json(&name, &bytes, &["within"], &[&number, "3"]));
+        assert!(says_json(&name, &bytes, &["why"], &[&number, "3", "--within"]));
+        assert!(says_json(&name, &bytes, &["why"], &[&number, "3", "--all", "2"]));
         assert!(says_json(&name, &bytes, &["classify"], &[]));
         assert!(says_json(&name, &bytes, &["classify", path], &["--dot", &output]));
         assert!(says_json(&name, &bytes, &["columns"], &[&number]));

@@ -101,3 +101,41 @@ fn bytes_terms_and_statements_are_those_of_the_records() {
         assert_eq!(header, [16, edition.number(), 0, 0, 2, 1, 0, 0]);
     }
 }
+
+#[test]
+fn a_copy_has_the_chosen_statements_on_the_chain_and_is_accepted() {
+    let (mut copies, mut fewer) = (0, 0);
+    for (bytes, ..) in cases() {
+        if judge::check_vocabulary(bytes).is_err() {
+            continue;
+        }
+        let vocabulary = Vocabulary::read(bytes);
+        let statements = vocabulary.numbers_of(|record| record.kind == super::STATEMENT_KIND);
+        // Every second one, from the first or the second on; all; none.
+        for (first, step) in [(0, 2), (1, 2), (0, 1), (statements.len(), 1)] {
+            let chosen: Vec<u16> = statements.iter().copied().skip(first).step_by(step).collect();
+            let copy = vocabulary.with_chain(&chosen);
+            assert_eq!(judge::check_vocabulary(&copy.bytes()), judge::check_vocabulary(bytes));
+            let chained = (0..).zip(copy.chained()).filter(|(_, on)| *on);
+            assert_eq!(chained.map(|(number, _)| number).collect::<Vec<u16>>(), chosen);
+            for (number, (new, old)) in copy.records.iter().zip(&vocabulary.records).enumerate() {
+                let is_on = chosen.contains(&(number as u16));
+                let (a, next) = (
+                    new.a,
+                    if old.kind == super::STATEMENT_KIND {
+                        new.next
+                    } else {
+                        old.next
+                    },
+                );
+                assert!(is_on || old.kind != super::STATEMENT_KIND || next == 0);
+                let a = if number == 0 { a } else { old.a };
+                assert_eq!(*new, super::Record { a, next, ..*old });
+            }
+            copies += 1;
+            fewer += usize::from(chosen.len() < statements.len());
+        }
+    }
+    assert_eq!(copies, 4 * 4_500);
+    assert!(fewer > 4_000, "{fewer}");
+}

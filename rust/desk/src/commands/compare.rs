@@ -14,7 +14,8 @@ use base::{Failure, Status};
 /// The options.
 pub const FLAGS: &[Flag] = &[WORDS, Flag::valued("--survivors")];
 
-const WORDING: Wording = Wording {
+/// How the answer is worded.
+pub const WORDING: Wording = Wording {
     holds: ["equal", "equal"],
     fails: ["different", "different"],
 };

@@ -13,6 +13,7 @@ mod recheck;
 mod record;
 mod show;
 mod verify;
+mod why;
 mod within;
 
 use crate::console::{Colour, Console};
@@ -45,12 +46,13 @@ const fn command(
 }
 
 /// The commands, in the order of the help.
-const COMMANDS: [Command; 13] = [
+const COMMANDS: [Command; 14] = [
     command("check", &[], check::run),
     command("show", &[], show::run),
     command("record", &[], record::run),
     command("compare", compare::FLAGS, compare::run),
     command("within", within::FLAGS, within::run),
+    command("why", why::FLAGS, why::run),
     command("classify", classify::FLAGS, classify::run),
     command("verify", verify::FLAGS, verify::run),
     command("columns", columns::FLAGS, columns::run),

@@ -85,9 +85,10 @@ impl Answered {
 /// Whether nothing can belong to the terms that were compared.
 #[derive(Clone, Copy)]
 pub struct Emptiness {
-    contradictory: bool,
+    /// Whether the statements contradict each other.
+    pub contradictory: bool,
     /// Of A and of B; nothing where there was no room to ask.
-    terms: [Option<bool>; 2],
+    pub terms: [Option<bool>; 2],
 }
 
 impl Emptiness {

@@ -7,7 +7,7 @@ use crate::display::grouped;
 use crate::input::Input;
 use crate::question::{Questions, Within};
 use crate::refused;
-use crate::report::Stop;
+use crate::report::{Report, Stop, Style};
 use crate::term::{self, Pair};
 use base::arguments::{Arguments, Flag};
 use base::{Failure, Status};
@@ -39,11 +39,17 @@ pub fn run(arguments: &Arguments, console: &mut Console) -> Result<Status, Stop>
         answer,
         empty,
     };
+    Ok(console.answer(report(&answered, console.style, &input)?)?)
+}
+
+/// The report on an answer.
+pub fn report(answered: &Answered, style: Style, input: &Input) -> Result<Report, Failure> {
+    let [a, _] = answered.pair;
     if answered.explained().is_some_and(|element| !element.is_in(a as usize)) {
         let message = "the element does not belong to A, against what is proved";
-        return Err(Failure::new(Status::Defect, message).into());
+        return Err(Failure::new(Status::Defect, message));
     }
-    Ok(console.answer(answered.report(console.style, &input, &WORDING)?)?)
+    answered.report(style, input, &WORDING)
 }
 
 /// Why there is no answer where the vocabulary is full.
@@ -52,7 +58,8 @@ pub fn room_words([a, b]: Pair) -> String {
     format!("has {records} records, which leaves no room for the record \"{a} and {b}\", and none says it")
 }
 
-fn no_room(input: &Input, pair: Pair) -> Failure {
+/// The failure for that reason.
+pub fn no_room(input: &Input, pair: Pair) -> Failure {
     let message = format!(
         "{}: {}; a script can still show it ('desk verify')",
         input.name,
