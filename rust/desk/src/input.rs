@@ -2,6 +2,7 @@
 
 use crate::display::counted;
 use crate::files::{self, Access, FileId, Length, Name, Opened, Source};
+use crate::finding::{Finding, Sort, Spot};
 use crate::json::Json;
 use crate::report::{Report, Stop, Style};
 use crate::text::cursor::Fault;
@@ -143,7 +144,17 @@ fn read(path: &OsStr, access: Access, most: usize) -> Result<Source, Failure> {
 
 /// A vocabulary, from its bytes or its text.
 pub fn vocabulary(path: &OsStr, access: Access, style: Style) -> Result<Input, Stop> {
-    of_kind(read(path, access, judge::VOCABULARY_BYTES)?, Kind::Vocabulary, style)
+    vocabulary_of(vocabulary_source(path, access)?, style)
+}
+
+/// The bytes of a vocabulary or of its text, as the file has them.
+pub fn vocabulary_source(path: &OsStr, access: Access) -> Result<Source, Failure> {
+    read(path, access, judge::VOCABULARY_BYTES)
+}
+
+/// The vocabulary of such bytes.
+pub fn vocabulary_of(source: Source, style: Style) -> Result<Input, Stop> {
+    of_kind(source, Kind::Vocabulary, style)
 }
 
 /// A vocabulary that is to be changed, from its bytes alone, and its file, which no other run changes while it is open. For
@@ -245,5 +256,13 @@ fn faulty(style: Style, name: &Name, faults: &[Fault]) -> Report {
         "faults",
         Json::list(faults.iter().map(|fault| Json::object(place(fault)))),
     ));
-    Report::new(Status::Refused, text, json)
+    let finding = |fault: &Fault| Finding {
+        sort: Sort::Fault,
+        spot: Spot::Line(fault.line, fault.column),
+        message: fault.message.clone(),
+    };
+    Report {
+        findings: faults.iter().map(finding).collect(),
+        ..Report::new(Status::Refused, text, json)
+    }
 }

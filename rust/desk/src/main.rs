@@ -9,12 +9,14 @@ mod console;
 mod display;
 mod explain;
 mod files;
+mod finding;
 mod help;
 mod input;
 mod json;
 mod question;
 mod refused;
 mod report;
+mod sarif;
 mod script;
 mod signals;
 #[cfg(test)]

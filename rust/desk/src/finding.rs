@@ -1,0 +1,109 @@
+//! What is found in a file, as editors and code review show it.
+
+use crate::files::Name;
+use judge::Rule;
+
+/// What sort of thing is found.
+#[derive(Clone, Copy, Debug, PartialEq, Eq)]
+pub enum Sort {
+    /// A text has a fault.
+    Fault,
+    /// The library refuses what the file says.
+    Refused(Rule),
+    /// It is accepted, and its statements contradict each other.
+    Contradiction,
+}
+
+impl Sort {
+    /// What is found in vocabularies, in the order of the refusals.
+    pub fn of_vocabularies() -> Vec<Sort> {
+        let rules = (1..=u8::MAX).map(Rule::of).filter(|rule| rule.is_of_vocabulary());
+        let refused = rules.map(Sort::Refused);
+        [Sort::Fault]
+            .into_iter()
+            .chain(refused)
+            .chain([Sort::Contradiction])
+            .collect()
+    }
+
+    /// The name by which programs know it.
+    pub fn id(self) -> String {
+        match self {
+            Sort::Fault => "judge-fault".to_string(),
+            Sort::Refused(rule) => format!("judge-{}", rule.number()),
+            Sort::Contradiction => "judge-contradiction".to_string(),
+        }
+    }
+
+    /// How grave it is, in a word of compilers.
+    pub fn level(self) -> &'static str {
+        match self {
+            Sort::Fault | Sort::Refused(_) => "error",
+            Sort::Contradiction => "warning",
+        }
+    }
+
+    /// What it is, as a sentence without its full stop.
+    pub fn sentence(self) -> &'static str {
+        match self {
+            Sort::Fault => "the text does not keep the form that 'desk help texts' describes",
+            Sort::Refused(rule) => rule.words(),
+            Sort::Contradiction => {
+                "the statements contradict each other: nothing satisfies them, so that all terms are equal"
+            }
+        }
+    }
+}
+
+/// Where in a file something is found.
+#[derive(Clone, Copy, Debug, PartialEq, Eq)]
+pub enum Spot {
+    /// A line and a column of a text, both from 1.
+    Line(usize, usize),
+    /// A record of a vocabulary's bytes.
+    Record(u32),
+    /// Nowhere in particular.
+    Whole,
+}
+
+impl Spot {
+    /// A line and a column where they are known.
+    pub fn of_line(place: Option<(usize, usize)>) -> Spot {
+        place.map_or(Spot::Whole, |(line, column)| Spot::Line(line, column))
+    }
+}
+
+/// Something that is found in a file.
+#[derive(Clone, Debug, PartialEq, Eq)]
+pub struct Finding {
+    /// What sort of thing.
+    pub sort: Sort,
+    /// Where.
+    pub spot: Spot,
+    /// In words, of one line.
+    pub message: String,
+}
+
+impl Finding {
+    /// The line that a compiler would write. Editors look for a line number, so that bytes have line 1.
+    pub fn as_compilers_write(&self, name: &Name) -> String {
+        let file = match name.as_str() {
+            "-" => "<stdin>".to_string(),
+            _ => name.to_string(),
+        };
+        let (line, column) = match self.spot {
+            Spot::Line(line, column) => (line, column),
+            _ => (1, 1),
+        };
+        let (level, id) = (self.sort.level(), self.sort.id());
+        format!("{file}:{line}:{column}: {level}: {} [{id}]\n", self.words())
+    }
+
+    /// The message, with the record where no line shows it.
+    pub fn words(&self) -> String {
+        match self.spot {
+            Spot::Record(number) => format!("record {number}: {}", self.message),
+            _ => self.message.clone(),
+        }
+    }
+}
