@@ -1,6 +1,6 @@
-#!/bin/sh
+#!/usr/bin/env bash
 # The package judge of python/ over a shared object made of the archive: its unit tests, the stored cases, the examples of
-# its docstrings and of docs/DESK.md, and its types where mypy is there; then what editors use, of editors/.
+# its docstrings and of docs/DESK.md, and its types where mypy is there.
 # usage: tests/python.sh [PYTHON]   (target/staticlib/libjudge.a must be built)
 set -eu
 cd "$(dirname "$0")/.."

@@ -3,9 +3,9 @@
 use crate::files::Name;
 use judge::Rule;
 
-/// What sort of thing is found.
+/// On what ground something is found.
 #[derive(Clone, Copy, Debug, PartialEq, Eq)]
-pub enum Sort {
+pub enum Ground {
     /// A text has a fault.
     Fault,
     /// The library refuses what the file says.
@@ -14,41 +14,41 @@ pub enum Sort {
     Contradiction,
 }
 
-impl Sort {
+impl Ground {
     /// What is found in vocabularies, in the order of the refusals.
-    pub fn of_vocabularies() -> Vec<Sort> {
+    pub fn of_vocabularies() -> Vec<Ground> {
         let rules = (1..=u8::MAX).map(Rule::of).filter(|rule| rule.is_of_vocabulary());
-        let refused = rules.map(Sort::Refused);
-        [Sort::Fault]
+        let refused = rules.map(Ground::Refused);
+        [Ground::Fault]
             .into_iter()
             .chain(refused)
-            .chain([Sort::Contradiction])
+            .chain([Ground::Contradiction])
             .collect()
     }
 
     /// The name by which programs know it.
     pub fn id(self) -> String {
         match self {
-            Sort::Fault => "judge-fault".to_string(),
-            Sort::Refused(rule) => format!("judge-{}", rule.number()),
-            Sort::Contradiction => "judge-contradiction".to_string(),
+            Ground::Fault => "judge-fault".to_string(),
+            Ground::Refused(rule) => format!("judge-{}", rule.number()),
+            Ground::Contradiction => "judge-contradiction".to_string(),
         }
     }
 
     /// How grave it is, in a word of compilers.
     pub fn level(self) -> &'static str {
         match self {
-            Sort::Fault | Sort::Refused(_) => "error",
-            Sort::Contradiction => "warning",
+            Ground::Fault | Ground::Refused(_) => "error",
+            Ground::Contradiction => "warning",
         }
     }
 
     /// What it is, as a sentence without its full stop.
     pub fn sentence(self) -> &'static str {
         match self {
-            Sort::Fault => "the text does not keep the form that 'desk help texts' describes",
-            Sort::Refused(rule) => rule.words(),
-            Sort::Contradiction => {
+            Ground::Fault => "the text does not keep the form that 'desk help texts' describes",
+            Ground::Refused(rule) => rule.words(),
+            Ground::Contradiction => {
                 "the statements contradict each other: nothing satisfies them, so that all terms are equal"
             }
         }
@@ -76,8 +76,8 @@ impl Spot {
 /// Something that is found in a file.
 #[derive(Clone, Debug, PartialEq, Eq)]
 pub struct Finding {
-    /// What sort of thing.
-    pub sort: Sort,
+    /// On what ground.
+    pub ground: Ground,
     /// Where.
     pub spot: Spot,
     /// In words, of one line.
@@ -95,7 +95,7 @@ impl Finding {
             Spot::Line(line, column) => (line, column),
             _ => (1, 1),
         };
-        let (level, id) = (self.sort.level(), self.sort.id());
+        let (level, id) = (self.ground.level(), self.ground.id());
         format!("{file}:{line}:{column}: {level}: {} [{id}]\n", self.words())
     }
 

@@ -2,7 +2,7 @@
 
 use crate::display::counted;
 use crate::files::{self, Access, FileId, Length, Name, Opened, Source};
-use crate::finding::{Finding, Sort, Spot};
+use crate::finding::{Finding, Ground, Spot};
 use crate::json::Json;
 use crate::report::{Report, Stop, Style};
 use crate::text::cursor::Fault;
@@ -257,7 +257,7 @@ fn faulty(style: Style, name: &Name, faults: &[Fault]) -> Report {
         Json::list(faults.iter().map(|fault| Json::object(place(fault)))),
     ));
     let finding = |fault: &Fault| Finding {
-        sort: Sort::Fault,
+        ground: Ground::Fault,
         spot: Spot::Line(fault.line, fault.column),
         message: fault.message.clone(),
     };

@@ -1,7 +1,7 @@
 //! Refusals of inputs, with what is known of the input.
 
 use crate::cause;
-use crate::finding::{Finding, Sort, Spot};
+use crate::finding::{Finding, Ground, Spot};
 use crate::input::Input;
 use crate::json::Json;
 use crate::report::{refusal_json, refusal_status, Report, Style};
@@ -28,7 +28,7 @@ fn finding(input: &Input, place: Option<(usize, usize)>, refusal: Refusal, detai
         (spot, _) => spot,
     };
     Finding {
-        sort: Sort::Refused(refusal.rule),
+        ground: Ground::Refused(refusal.rule),
         spot,
         message: format!("{}{known}", refusal.rule.words()),
     }

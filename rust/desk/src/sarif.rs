@@ -1,7 +1,7 @@
 //! Findings as a log of the Static Analysis Results Interchange Format, SARIF 2.1.0 (OASIS), which code review reads. It has
 //! neither a time nor a directory, so that the same files make the same log.
 
-use crate::finding::{Finding, Sort, Spot};
+use crate::finding::{Finding, Ground, Spot};
 use crate::json::Json;
 use base::{Failure, Status};
 use std::ffi::OsStr;
@@ -40,12 +40,12 @@ impl Log {
 
     /// Notes what is found in a file.
     pub fn find(&mut self, file: usize, finding: &Finding) {
-        let sort = finding.sort;
-        let rule = Sort::of_vocabularies().iter().position(|listed| *listed == sort);
-        let mut result = vec![("ruleId", Json::from(sort.id()))];
+        let ground = finding.ground;
+        let rule = Ground::of_vocabularies().iter().position(|listed| *listed == ground);
+        let mut result = vec![("ruleId", Json::from(ground.id()))];
         result.extend(rule.map(|rule| ("ruleIndex", Json::from(rule))));
         result.extend([
-            ("level", Json::from(sort.level())),
+            ("level", Json::from(ground.level())),
             ("message", text(&finding.words())),
             ("locations", Json::list([self.location(file, region(finding.spot))])),
         ]);
@@ -93,20 +93,20 @@ impl Log {
 
 /// The program, with all that it finds.
 fn driver() -> Json {
-    let rule = |sort: Sort| {
+    let rule = |ground: Ground| {
         Json::object([
-            ("id", Json::from(sort.id())),
-            ("shortDescription", text(sort.sentence())),
+            ("id", Json::from(ground.id())),
+            ("shortDescription", text(ground.sentence())),
             (
                 "defaultConfiguration",
-                Json::object([("level", Json::from(sort.level()))]),
+                Json::object([("level", Json::from(ground.level()))]),
             ),
         ])
     };
     Json::object([
         ("name", Json::from("desk")),
         ("version", Json::from(judge::VERSION)),
-        ("rules", Json::list(Sort::of_vocabularies().into_iter().map(rule))),
+        ("rules", Json::list(Ground::of_vocabularies().into_iter().map(rule))),
     ])
 }
 

@@ -5,7 +5,7 @@ mod format;
 use super::{contradiction, each, read_vocabulary};
 use crate::console::Console;
 use crate::display::counted;
-use crate::finding::{Finding, Sort, Spot};
+use crate::finding::{Finding, Ground, Spot};
 use crate::input::Input;
 use crate::json::Json;
 use crate::question::Questions;
@@ -111,9 +111,9 @@ fn accepted(style: Style, input: &Input, tally: &Tally) -> Report {
     if contradictory == Some(true) {
         text.push_str(&contradiction(style));
         findings.push(Finding {
-            sort: Sort::Contradiction,
+            ground: Ground::Contradiction,
             spot: Spot::of_line(input.line_of(0)),
-            message: Sort::Contradiction.sentence().to_string(),
+            message: Ground::Contradiction.sentence().to_string(),
         });
     }
     let mut json = vec![

@@ -17,7 +17,7 @@ mod within;
 
 use crate::console::{Colour, Console};
 use crate::files::Access;
-use crate::finding::Sort;
+use crate::finding::Ground;
 use crate::input::{self, Input};
 use crate::report::{Report, Stop, Style};
 use crate::text::vocabulary::Written;
@@ -127,7 +127,7 @@ fn tell(console: &mut Console, answered: Result<Report, Stop>) -> Result<Status,
 
 /// The line of a vocabulary whose statements contradict each other.
 fn contradiction(style: Style) -> String {
-    let sentence = Sort::Contradiction.sentence();
+    let sentence = Ground::Contradiction.sentence();
     let (what, why) = sentence.split_once(':').unwrap_or((sentence, ""));
     format!("  {}:{why}\n", style.paint(Status::DoesNotHold, what))
 }

@@ -4,7 +4,7 @@
 use super::answer;
 use crate::console::Console;
 use crate::files::{Access, Name, Source};
-use crate::finding::{Finding, Sort, Spot};
+use crate::finding::{Finding, Ground, Spot};
 use crate::input;
 use crate::report::{Report, Stop, Style};
 use crate::sarif::Log;
@@ -98,7 +98,7 @@ fn of_kind(name: &Name, failure: &Failure) -> Vec<Finding> {
     let message = failure.message.as_str();
     let message = message.strip_prefix(&format!("{name}: ")).unwrap_or(message);
     vec![Finding {
-        sort: Sort::Fault,
+        ground: Ground::Fault,
         spot: Spot::Line(1, 1),
         message: message.to_string(),
     }]
