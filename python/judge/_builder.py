@@ -4,7 +4,7 @@ from __future__ import annotations
 
 from ._calls import Kind, add_statement, add_term, check_vocabulary, make_vocabulary
 from ._edition import Edition, set_edition
-from ._library import Readable
+from ._library import Readable, frozen
 from ._limits import RECORD_BYTES, VOCABULARY_BYTES
 
 
@@ -39,7 +39,7 @@ class Builder:
         >>> terms.not_(1)
         2
         """
-        copy = bytes(vocabulary)
+        copy = frozen(vocabulary, VOCABULARY_BYTES)
         check_vocabulary(copy)
         builder = cls()
         builder._buffer[: len(copy)] = copy

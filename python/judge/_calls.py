@@ -8,7 +8,7 @@ import struct
 from collections.abc import Set as AbstractSet
 from typing import Final, Iterable, Iterator, NamedTuple, Optional, Tuple
 
-from ._library import FREE, HELD, Lent, Readable, Writable, frozen, length, number, taken, value
+from ._library import FREE, HELD, Lent, Readable, Writable, frozen, length, number, taken, value, view
 from ._limits import ATOMS, RECORD_BYTES, SCRIPT_BYTES, SURVIVOR_BYTES, TAXONOMY_BYTES, VOCABULARY_BYTES
 
 _RECORD: Final = struct.Struct("<BBHHH")
@@ -61,10 +61,10 @@ class Survivors(AbstractSet[int]):
     __slots__ = ("_bytes",)
 
     def __init__(self, data: Readable) -> None:
-        self._bytes: Final = bytes(data)
+        self._bytes: Final = bytes(view(data))
 
     @classmethod
-    def _from_iterable(cls, elements: Iterable[int]) -> AbstractSet[int]:  # type: ignore[override]
+    def _from_iterable(cls, elements: Iterable[int]) -> AbstractSet[int]:
         # What set operations make is a set of its own.
         return frozenset(elements)
 
@@ -242,8 +242,11 @@ def classify(
 
 def relation(taxonomy: Readable, names: int, first: int, second: int) -> Relation:
     """What the taxonomy of a vocabulary of so many names says of two of them. Of what is no name's number: NEITHER."""
-    known = 0 <= names <= ATOMS and 0 <= first < names and 0 <= second < names
-    return Relation(taxonomy[first * names + second]) if known else Relation.NEITHER
+    if not (0 <= names <= ATOMS and 0 <= first < names and 0 <= second < names):
+        return Relation.NEITHER
+    place = first * names + second
+    entry = view(taxonomy)[place : place + 1].tobytes()
+    return {b"\1": Relation.NEAREST_BROADER, b"\2": Relation.EQUAL}.get(entry, Relation.NEITHER)
 
 
 def check_script(vocabulary: Readable, script: Readable) -> int:

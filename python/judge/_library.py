@@ -6,7 +6,7 @@ import ctypes
 import operator
 import os
 from pathlib import Path
-from typing import Final, List, Sequence, Tuple, Union
+from typing import Any, Dict, Final, List, Sequence, Tuple, Union
 
 from ._refusals import Refusal
 
@@ -23,7 +23,7 @@ _BUFFER: Final = (_POINTER, _LENGTH)
 _U8, _U16, _U32 = ctypes.c_uint8, ctypes.c_uint16, ctypes.c_uint32
 
 #: The calls, with the types of their arguments (include/judge.h). Each answers 64 bits.
-_CALLS: Final = {
+_CALLS: Final[Dict[str, Tuple[Any, ...]]] = {
     "judge_check_vocabulary": (*_BUFFER,),
     "judge_record": (*_BUFFER, _U32),
     "judge_compare": (*_BUFFER, _U32, _U32, *_BUFFER),
@@ -60,7 +60,7 @@ def _declare(library: ctypes.CDLL) -> None:
 
 def load(names: Sequence[str]) -> Tuple[ctypes.CDLL, ctypes.PyDLL]:
     """The first library of these names that can be loaded, twice: its calls let other threads run, or keep them waiting."""
-    faults = []
+    faults: List[str] = []
     for name in names:
         try:
             pair = ctypes.CDLL(name), ctypes.PyDLL(name)

@@ -54,6 +54,9 @@ class Answers(unittest.TestCase):
         self.assertEqual((answer.equal(0), answer.equal(1), answer.broader(0)), ((1,), (0,), ()))
         for first, second in ((2, 0), (0, 2), (-1, 0), (0, -1)):
             self.assertIs(answer.relation(first, second), judge.Relation.NEITHER)
+        for taxonomy in (b"", bytes(3), bytes([2, 0, 7, 2])):
+            self.assertIs(judge.relation(taxonomy, 2, 1, 0), judge.Relation.NEITHER)
+        self.assertIs(judge.relation(bytes(144), 13, 0, 0), judge.Relation.NEITHER)
 
     def test_contradictions_leave_no_survivor(self) -> None:
         terms = judge.Builder()
@@ -143,8 +146,9 @@ class Arguments(unittest.TestCase):
         with self.assertRaises(BufferError):
             judge.check_vocabulary(memoryview(V + V)[::2])
         for data in ("text", None, 7, [16, 1, 0, 0, 0, 0, 0, 0]):
-            with self.assertRaises(TypeError):
-                judge.check_vocabulary(data)  # type: ignore[arg-type]
+            for call in (judge.check_vocabulary, judge.Builder.resume, judge.atoms, judge.Survivors):
+                with self.assertRaises(TypeError):
+                    call(data)  # type: ignore[arg-type]
 
     def test_empty_inputs(self) -> None:
         for empty in (b"", bytearray(), memoryview(b""), memoryview(bytearray(8))[8:]):
