@@ -2,6 +2,7 @@
 
 use crate::files::Name;
 use judge::Rule;
+use std::ffi::OsStr;
 
 /// On what ground something is found.
 #[derive(Clone, Copy, Debug, PartialEq, Eq)]
@@ -86,10 +87,10 @@ pub struct Finding {
 
 impl Finding {
     /// The line that a compiler would write. Editors look for a line number, so that bytes have line 1.
-    pub fn as_compilers_write(&self, name: &Name) -> String {
-        let file = match name.as_str() {
-            "-" => "<stdin>".to_string(),
-            _ => name.to_string(),
+    pub fn as_compilers_write(&self, path: &OsStr) -> String {
+        let file = match path.to_str() {
+            Some("-") => "<stdin>".to_string(),
+            _ => Name::new(path).to_string(),
         };
         let (line, column) = match self.spot {
             Spot::Line(line, column) => (line, column),

@@ -144,17 +144,7 @@ fn read(path: &OsStr, access: Access, most: usize) -> Result<Source, Failure> {
 
 /// A vocabulary, from its bytes or its text.
 pub fn vocabulary(path: &OsStr, access: Access, style: Style) -> Result<Input, Stop> {
-    vocabulary_of(vocabulary_source(path, access)?, style)
-}
-
-/// The bytes of a vocabulary or of its text, as the file has them.
-pub fn vocabulary_source(path: &OsStr, access: Access) -> Result<Source, Failure> {
-    read(path, access, judge::VOCABULARY_BYTES)
-}
-
-/// The vocabulary of such bytes.
-pub fn vocabulary_of(source: Source, style: Style) -> Result<Input, Stop> {
-    of_kind(source, Kind::Vocabulary, style)
+    of_kind(read(path, access, judge::VOCABULARY_BYTES)?, Kind::Vocabulary, style)
 }
 
 /// A vocabulary that is to be changed, from its bytes alone, and its file, which no other run changes while it is open. For
@@ -194,6 +184,16 @@ pub fn either(path: &OsStr, style: Style) -> Result<(Input, Kind), Stop> {
 /// A text, and what it is of.
 pub fn text(path: &OsStr, style: Style) -> Result<(Input, Kind), Stop> {
     read_text(files::read(path, Access::Any, TEXT_BYTES, |_| TEXT_BYTES)?, style)
+}
+
+/// The bytes of a vocabulary or of its text, as its file has them.
+pub fn source_of_vocabulary(path: &OsStr) -> Result<Source, Failure> {
+    read(path, Access::Any, judge::VOCABULARY_BYTES)
+}
+
+/// The vocabulary of such bytes.
+pub fn vocabulary_of_source(source: Source, style: Style) -> Result<Input, Stop> {
+    of_kind(source, Kind::Vocabulary, style)
 }
 
 fn of_bytes(source: Source) -> Input {

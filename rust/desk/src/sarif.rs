@@ -4,6 +4,7 @@
 use crate::finding::{Finding, Ground, Spot};
 use crate::json::Json;
 use base::{Failure, Status};
+use std::collections::BTreeMap;
 use std::ffi::OsStr;
 use std::os::unix::ffi::OsStrExt;
 
@@ -21,6 +22,8 @@ struct Artifact {
 #[derive(Default)]
 pub struct Log {
     artifacts: Vec<Artifact>,
+    /// The number of each, by its address.
+    numbers: BTreeMap<String, usize>,
     results: Vec<Json>,
     notifications: Vec<Json>,
 }
@@ -29,13 +32,13 @@ impl Log {
     /// Notes a file, with its bytes where all of them were read, and answers by which number. One that is given again is the
     /// same.
     pub fn file(&mut self, path: &OsStr, bytes: Option<&[u8]>) -> usize {
-        let uri = uri(path);
-        let known = self.artifacts.iter().position(|artifact| artifact.uri == uri);
-        known.unwrap_or_else(|| {
+        let (uri, next) = (uri(path), self.artifacts.len());
+        let number = *self.numbers.entry(uri.clone()).or_insert(next);
+        if number == next {
             let content = bytes.map(|bytes| (bytes.len(), base::sha256::sha256(bytes)));
             self.artifacts.push(Artifact { uri, content });
-            self.artifacts.len() - 1
-        })
+        }
+        number
     }
 
     /// Notes what is found in a file.

@@ -3,7 +3,7 @@
 
 use super::answer;
 use crate::console::Console;
-use crate::files::{Access, Name, Source};
+use crate::files::{Name, Source};
 use crate::finding::{Finding, Ground, Spot};
 use crate::input;
 use crate::report::{Report, Stop, Style};
@@ -42,48 +42,57 @@ impl Format {
 
     /// Answers about all files in it; the greatest status.
     pub fn answer(self, paths: &[&OsStr], console: &mut Console) -> Result<Status, Stop> {
-        let (mut log, mut greatest) = (Log::default(), Status::Holds);
-        for path in paths {
-            let looked = look(path, &mut log);
-            greatest = greatest.max(match (looked, self) {
-                (Err(failure), _) => console.fail(&failure, None),
-                (Ok((status, _)), Format::Sarif) => status,
-                (Ok((status, findings)), Format::Gcc) => {
-                    let lines = findings
-                        .iter()
-                        .map(|finding| finding.as_compilers_write(&Name::new(path)));
-                    console.answer(Report::new(status, lines.collect(), Vec::new()))?
-                }
-            });
-            if console.is_gone() {
-                break;
-            }
+        match self {
+            Format::Gcc => lines(paths, console),
+            Format::Sarif => log(paths, console),
         }
-        if self == Format::Sarif {
-            console.line(&log.finish(greatest).to_string())?;
-        }
-        Ok(greatest)
     }
 }
 
-/// Looks at a file, and notes in the log what is found in it or why nothing could be.
-fn look(path: &OsStr, log: &mut Log) -> Result<(Status, Vec<Finding>), Failure> {
-    let read = input::vocabulary_source(path, Access::Any);
-    let bytes = read.as_ref().ok().and_then(Source::whole);
-    let file = log.file(path, bytes);
-    let looked = read.and_then(findings);
-    match &looked {
-        Ok((_, findings)) => findings.iter().for_each(|finding| log.find(file, finding)),
-        Err(failure) => log.fail(file, failure),
+fn lines(paths: &[&OsStr], console: &mut Console) -> Result<Status, Stop> {
+    let mut greatest = Status::Holds;
+    for path in paths {
+        let status = match input::source_of_vocabulary(path).and_then(findings) {
+            Ok((status, findings)) => {
+                let lines = findings.iter().map(|finding| finding.as_compilers_write(path));
+                console.answer(Report::new(status, lines.collect(), Vec::new()))?
+            }
+            Err(failure) => console.fail(&failure, None),
+        };
+        greatest = greatest.max(status);
+        if console.is_gone() {
+            break;
+        }
     }
-    looked
+    Ok(greatest)
+}
+
+fn log(paths: &[&OsStr], console: &mut Console) -> Result<Status, Stop> {
+    let (mut log, mut greatest) = (Log::default(), Status::Holds);
+    for path in paths {
+        let source = input::source_of_vocabulary(path);
+        let file = log.file(path, source.as_ref().ok().and_then(Source::whole));
+        let status = match source.and_then(findings) {
+            Ok((status, findings)) => {
+                findings.iter().for_each(|finding| log.find(file, finding));
+                status
+            }
+            Err(failure) => {
+                log.fail(file, &failure);
+                console.fail(&failure, None)
+            }
+        };
+        greatest = greatest.max(status);
+    }
+    console.line(&log.finish(greatest).to_string())?;
+    Ok(greatest)
 }
 
 /// What is found in a file that could be read, and the status.
 fn findings(source: Source) -> Result<(Status, Vec<Finding>), Failure> {
     let name = source.name.clone();
     let style = Style { colour: false };
-    match input::vocabulary_of(source, style).map(|input| answer(style, &input)) {
+    match input::vocabulary_of_source(source, style).map(|input| answer(style, &input)) {
         Ok(report) => Ok((report.status, report.findings)),
         Err(Stop::Answer(report)) => Ok((report.status, report.findings)),
         Err(Stop::Failure(failure)) if failure.status == Status::Refused => {
