@@ -66,12 +66,17 @@ const PAGES: [(&str, &str); 16] = [
 ];
 
 const CHECK: &str = "\
-usage: desk check VOCABULARY .. [--json]
+usage: desk check VOCABULARY .. [--format gcc|sarif] [--json]
 
 Whether each vocabulary is accepted (refusals 1 to 8 and 28), with its edition, the number of its records, names,
 restrictions, statements and roles, and whether it can be compared and classified (at most 12 atoms). A header of
 edition 2 holds the number of atoms. If the vocabulary can be compared, and no finite interpretation satisfies its
 statements, that is said: they then contradict each other, and all terms are equal.
+
+  --format gcc     a line for each fault and refusal (error) and for statements that contradict each other (warning), as
+                   compilers write it: FILE:LINE:COLUMN: error: MESSAGE [ID]. All faults are listed; where nothing is
+                   found, nothing is written
+  --format sarif   the same as one log of all files, for code review: SARIF 2.1.0, with the SHA-256 of each file
 
 exit status: 0 accepted, 2 refused; of several the greatest
 ";

@@ -2,6 +2,7 @@
 
 use crate::display::counted;
 use crate::files::{self, Access, FileId, Length, Name, Opened, Source};
+use crate::finding::{Finding, Ground, Spot};
 use crate::json::Json;
 use crate::report::{Report, Stop, Style};
 use crate::text::cursor::Fault;
@@ -185,6 +186,16 @@ pub fn text(path: &OsStr, style: Style) -> Result<(Input, Kind), Stop> {
     read_text(files::read(path, Access::Any, TEXT_BYTES, |_| TEXT_BYTES)?, style)
 }
 
+/// The bytes of a vocabulary or of its text, as its file has them.
+pub fn source_of_vocabulary(path: &OsStr) -> Result<Source, Failure> {
+    read(path, Access::Any, judge::VOCABULARY_BYTES)
+}
+
+/// The vocabulary of such bytes.
+pub fn vocabulary_of_source(source: Source, style: Style) -> Result<Input, Stop> {
+    of_kind(source, Kind::Vocabulary, style)
+}
+
 fn of_bytes(source: Source) -> Input {
     Input {
         name: source.name,
@@ -245,5 +256,13 @@ fn faulty(style: Style, name: &Name, faults: &[Fault]) -> Report {
         "faults",
         Json::list(faults.iter().map(|fault| Json::object(place(fault)))),
     ));
-    Report::new(Status::Refused, text, json)
+    let finding = |fault: &Fault| Finding {
+        ground: Ground::Fault,
+        spot: Spot::Line(fault.line, fault.column),
+        message: fault.message.clone(),
+    };
+    Report {
+        findings: faults.iter().map(finding).collect(),
+        ..Report::new(Status::Refused, text, json)
+    }
 }

@@ -9,6 +9,7 @@ mod console;
 mod display;
 mod explain;
 mod files;
+mod finding;
 mod help;
 mod input;
 mod json;
@@ -16,6 +17,7 @@ mod justification;
 mod question;
 mod refused;
 mod report;
+mod sarif;
 mod script;
 mod signals;
 #[cfg(test)]

@@ -1,16 +1,37 @@
 //! Refusals of inputs, with what is known of the input.
 
 use crate::cause;
+use crate::finding::{Finding, Ground, Spot};
 use crate::input::Input;
 use crate::json::Json;
 use crate::report::{refusal_json, refusal_status, Report, Style};
-use judge::{Refusal, Rule};
+use judge::{Place, Refusal, Rule};
 
 /// A refusal in words, with what is known of the input that it is about, and a reason in detail where there is one.
 pub fn words(input: &Input, refusal: Refusal, detail: Option<&str>) -> String {
+    format!("{refusal}{}", known(input, refusal, detail))
+}
+
+/// What goes behind the words of a refusal: what is known of the input, and the reason in detail.
+fn known(input: &Input, refusal: Refusal, detail: Option<&str>) -> String {
     let detail = in_detail(input, refusal, detail);
     let detail = detail.map(|detail| format!("; {detail}")).unwrap_or_default();
-    format!("{refusal}{}{detail}", input.hint(refusal))
+    format!("{}{detail}", input.hint(refusal))
+}
+
+/// The same as editors show it.
+fn finding(input: &Input, place: Option<(usize, usize)>, refusal: Refusal, detail: Option<&str>) -> Finding {
+    let known = known(input, refusal, detail);
+    let spot = match (Spot::of_line(place.or_else(|| input.line_of(0))), refusal.rule) {
+        (Spot::Whole, Rule::Header | Rule::AtomCount) => Spot::Record(0),
+        (Spot::Whole, rule) if rule.place() == Place::Record => Spot::Record(refusal.place),
+        (spot, _) => spot,
+    };
+    Finding {
+        ground: Ground::Refused(refusal.rule),
+        spot,
+        message: format!("{}{known}", refusal.rule.words()),
+    }
 }
 
 /// The detail that is given; else what the input alone shows: of 14 it is a script, of 9 and of what the vocabulary check
@@ -53,6 +74,7 @@ pub fn at(
 ) -> Report {
     let status = refusal_status(refusal);
     let words = words(input, refusal, detail);
+    let finding = finding(input, place, refusal, detail);
     let detail = detail_json(input, refusal, detail);
     let painted = words.replacen("refused", &style.paint(status, "refused"), 1);
     let text = format!("{}: {painted}\n", input.at(place));
@@ -65,5 +87,8 @@ pub fn at(
         json.extend([("line", Json::from(line)), ("column", Json::from(column))]);
     }
     json.extend(detail);
-    Report::new(status, text, json)
+    Report {
+        findings: vec![finding],
+        ..Report::new(status, text, json)
+    }
 }

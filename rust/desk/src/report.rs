@@ -1,5 +1,6 @@
 //! What a command has to say, for people and for programs.
 
+use crate::finding::Finding;
 use crate::json::Json;
 use base::{Failure, Status};
 use judge::Refusal;
@@ -14,6 +15,8 @@ pub struct Report {
     pub aside: String,
     /// What programs read.
     pub json: Vec<(&'static str, Json)>,
+    /// What editors show of it, where an input is faulty, refused or contradicts itself.
+    pub findings: Vec<Finding>,
 }
 
 impl Report {
@@ -24,6 +27,7 @@ impl Report {
             text,
             aside: String::new(),
             json,
+            findings: Vec::new(),
         }
     }
 }

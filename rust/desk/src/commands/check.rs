@@ -1,26 +1,39 @@
 //! `desk check`.
 
+mod format;
+
 use super::{contradiction, each, read_vocabulary};
 use crate::console::Console;
 use crate::display::counted;
+use crate::finding::{Finding, Ground, Spot};
 use crate::input::Input;
 use crate::json::Json;
 use crate::question::Questions;
 use crate::refused;
 use crate::report::{Report, Stop, Style};
-use base::arguments::Arguments;
+use base::arguments::{Arguments, Flag};
 use base::vocabulary::{Vocabulary, STATEMENT_KIND};
 use base::Status;
+use format::{Format, FORMAT};
 use judge::{Edition, Refusal};
 
+pub const FLAGS: &[Flag] = &[FORMAT];
+
 pub fn run(arguments: &Arguments, console: &mut Console) -> Result<Status, Stop> {
+    if let Some(format) = Format::read(arguments)? {
+        return format.answer(&arguments.some_words("VOCABULARY")?, console);
+    }
     each(arguments, "VOCABULARY", console, |path, style| {
-        let input = read_vocabulary(path, style)?;
-        Ok(match Tally::ask(&input.bytes) {
-            Err(refusal) => refused::report(style, &input, refusal, None),
-            Ok(tally) => accepted(style, &input, &tally),
-        })
+        Ok(answer(style, &read_vocabulary(path, style)?))
     })
+}
+
+/// Whether a vocabulary is accepted.
+fn answer(style: Style, input: &Input) -> Report {
+    match Tally::ask(&input.bytes) {
+        Err(refusal) => refused::report(style, input, refusal, None),
+        Ok(tally) => accepted(style, input, &tally),
+    }
 }
 
 /// What is in an accepted vocabulary. The numbers of records and of atoms are the library's.
@@ -94,8 +107,14 @@ fn accepted(style: Style, input: &Input, tally: &Tally) -> Report {
     let mut text = format!("{}: {word}: {}\n", input.name, tally.text());
     // Not known where there are too many atoms.
     let contradictory = Questions::new(&input.bytes).is_contradictory().ok();
+    let mut findings = Vec::new();
     if contradictory == Some(true) {
         text.push_str(&contradiction(style));
+        findings.push(Finding {
+            ground: Ground::Contradiction,
+            spot: Spot::of_line(input.line_of(0)),
+            message: Ground::Contradiction.sentence().to_string(),
+        });
     }
     let mut json = vec![
         ("file", Json::from(input.name.as_str())),
@@ -103,5 +122,8 @@ fn accepted(style: Style, input: &Input, tally: &Tally) -> Report {
     ];
     json.extend(tally.json());
     json.push(("contradictory", Json::from(contradictory)));
-    Report::new(Status::Holds, text, json)
+    Report {
+        findings,
+        ..Report::new(Status::Holds, text, json)
+    }
 }

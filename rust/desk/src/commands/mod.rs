@@ -18,6 +18,7 @@ mod within;
 
 use crate::console::{Colour, Console};
 use crate::files::Access;
+use crate::finding::Ground;
 use crate::input::{self, Input};
 use crate::report::{Report, Stop, Style};
 use crate::text::vocabulary::Written;
@@ -47,7 +48,7 @@ const fn command(
 
 /// The commands, in the order of the help.
 const COMMANDS: [Command; 14] = [
-    command("check", &[], check::run),
+    command("check", check::FLAGS, check::run),
     command("show", &[], show::run),
     command("record", &[], record::run),
     command("compare", compare::FLAGS, compare::run),
@@ -128,8 +129,9 @@ fn tell(console: &mut Console, answered: Result<Report, Stop>) -> Result<Status,
 
 /// The line of a vocabulary whose statements contradict each other.
 fn contradiction(style: Style) -> String {
-    let words = style.paint(Status::DoesNotHold, "the statements contradict each other");
-    format!("  {words}: nothing satisfies them, so that all terms are equal\n")
+    let sentence = Ground::Contradiction.sentence();
+    let (what, why) = sentence.split_once(':').unwrap_or((sentence, ""));
+    format!("  {}:{why}\n", style.paint(Status::DoesNotHold, what))
 }
 
 /// Reads a vocabulary, from its bytes or its text.

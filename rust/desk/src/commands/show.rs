@@ -63,13 +63,11 @@ fn shown(input: &Input, kind: Kind, verdict: &str, text: String, refusal: Option
     json.extend([("verdict", Json::from("refused")), ("refusal", refusal_json(refusal))]);
     json.extend(refused::detail_json(input, refusal, None));
     Report {
-        status: Status::Refused,
-        text,
         aside: format!(
             "{}: {}\n",
             input.at(input.place_of(refusal)),
             refused::words(input, refusal, None)
         ),
-        json,
+        ..Report::new(Status::Refused, text, json)
     }
 }

@@ -81,6 +81,14 @@ pub struct Source {
     pub id: Option<FileId>,
 }
 
+impl Source {
+    /// The bytes, where they are all that the file has.
+    pub fn whole(&self) -> Option<&[u8]> {
+        let is_whole = !self.length.cut && self.length.bytes == self.bytes.len() as u64;
+        is_whole.then_some(self.bytes.as_slice())
+    }
+}
+
 /// How long a file is.
 #[derive(Clone, Copy, Debug)]
 pub struct Length {
