@@ -7,6 +7,7 @@ mod classify;
 mod columns;
 mod compare;
 mod edition;
+mod made;
 mod new;
 mod pair;
 mod recheck;
@@ -142,7 +143,7 @@ fn read_script(path: &OsStr, style: Style) -> Result<Input, Stop> {
 
 /// A vocabulary written out, with the words of its text: its own, or the one that --words names.
 fn written(input: &Input, words: Option<&Input>) -> Result<Written, Failure> {
-    let written = Written::new(Vocabulary::read(&input.bytes));
+    let written = Written::new(Vocabulary::read(&input.bytes)).of_given(input.given());
     let comments = match words {
         Some(text) if !input.is_said_by(text) => {
             let message = format!("{}: is not the text of {}", text.name, input.name);

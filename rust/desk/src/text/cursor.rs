@@ -60,13 +60,14 @@ impl<'a> Cursor<'a> {
         }
     }
 
-    /// Where the line stands, and the comment at its end.
+    /// Where the line begins, and the comment at its end.
     pub fn place(&self) -> Line {
-        let Fault { line, column, .. } = self.fault("");
+        let Fault { line, column, .. } = self.fault_at(Here(self.line.trim().len()), "");
         Line {
             number: line,
             column,
             comment: self.comment.to_string(),
+            is_made: false,
         }
     }
 

@@ -2,14 +2,18 @@
 //! (docs/DESK.md).
 
 pub mod addition;
+mod axioms;
 pub mod cursor;
 pub mod names;
+mod numbers;
 mod records;
-mod said;
+pub mod said;
 pub mod script;
+pub mod terms;
 #[cfg(test)]
 mod tests;
 pub mod vocabulary;
+pub mod words;
 
 use cursor::{Cursor, Fault};
 use names::Names;
@@ -60,6 +64,19 @@ pub struct Line {
     pub column: usize,
     /// The comment at its end; empty where there is none.
     pub comment: String,
+    /// Whether the record was made for the line, which has its term as an operand.
+    pub is_made: bool,
+}
+
+impl Line {
+    /// The same for a record that was made for the line: what people call the line's own is not what they call this.
+    fn of_made(&self) -> Line {
+        Line {
+            comment: String::new(),
+            is_made: true,
+            ..*self
+        }
+    }
 }
 
 /// What a text stands for, or what is wrong with it: at least one fault, in the order of the lines.
@@ -70,14 +87,14 @@ pub fn assemble(text: &str) -> Result<Assembled, Vec<Fault>> {
         return Err(vec![Fault::at(1, 1, message)]);
     };
     let kind = read_kind(&mut header).map_err(|fault| vec![fault])?;
-    let bytes = match kind {
+    let (bytes, lines) = match kind {
         Kind::Vocabulary => vocabulary::read(header, cursors),
         Kind::Script => script::read(header, cursors),
     }?;
     Ok(Assembled {
         kind,
         bytes,
-        lines: lines(text).map(|line| line.place()).collect(),
+        lines,
         names: Names::default(),
     })
 }
@@ -113,7 +130,7 @@ fn kind_by_header(header: &Cursor) -> Option<Kind> {
     }
 }
 
-/// The lines that say something, one for each record.
+/// The lines that say something.
 fn lines(text: &str) -> impl Iterator<Item = Cursor<'_>> {
     let all = text.lines().enumerate().map(|(i, line)| Cursor::new(i + 1, line));
     all.filter(|line| !line.at_end())
