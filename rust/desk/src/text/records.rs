@@ -69,12 +69,15 @@ impl From<Fault> for Unread {
     }
 }
 
+/// The records of a line. There is at least one.
+pub type Records<T> = Result<Vec<Linked<T>>, Unread>;
+
 /// How the records of a text are read.
 pub struct Form<T> {
     /// Reads the header, of which the first word is taken.
     pub header: fn(&mut Cursor) -> Result<Linked<T>, Unread>,
-    /// Reads the records of a line, by what is said before it. There is at least one.
-    pub record: fn(&mut Cursor, &mut Said) -> Result<Vec<Linked<T>>, Unread>,
+    /// Reads a line, by what is said before it.
+    pub record: fn(&mut Cursor, &mut Said) -> Records<T>,
     /// The record of a term that is made.
     pub made: fn(Term) -> T,
     /// Gives the record of a number its link.
@@ -177,7 +180,7 @@ impl<T: Default> Reading<'_, T> {
 
     /// The records of a line, of which is noted what is wrong. A line that cannot be read has a record, too, so that the
     /// numbers of later ones stay right.
-    fn noted(&mut self, line: &mut Cursor, read: Result<Vec<Linked<T>>, Unread>) -> Vec<Linked<T>> {
+    fn noted(&mut self, line: &mut Cursor, read: Records<T>) -> Vec<Linked<T>> {
         match (read, line.end()) {
             (Ok(all), Ok(())) => all,
             (Ok(all), Err(fault)) => {

@@ -2,7 +2,7 @@
 
 use super::axioms::{read_axiom, Statement, AXIOMS, NO_AXIOM};
 use super::cursor::{Cursor, Fault};
-use super::records::{read_link, Form, Linked, Unread};
+use super::records::{read_link, Form, Linked, Records, Unread};
 use super::said::{Said, Says, Term, Unsaid};
 use super::terms::{raw_says, read_term, read_word, record, shape, Begun};
 use super::{find, link_words, linked_line, whole, Line, WRITTEN_OUT};
@@ -285,7 +285,7 @@ fn read_raw(line: &mut Cursor) -> Result<Record, Fault> {
 }
 
 /// The records of a line.
-fn read_record(line: &mut Cursor, said: &mut Said) -> Result<Vec<Linked<Record>>, Unread> {
+fn read_record(line: &mut Cursor, said: &mut Said) -> Records<Record> {
     let place = line.here();
     match read_word(line, &[&OTHERS[..], &AXIOMS].concat(), NO_RECORD)? {
         RAW => {
