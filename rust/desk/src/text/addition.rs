@@ -5,6 +5,7 @@
 mod tests;
 
 use super::cursor::{Cursor, Fault};
+use super::quotes::split_comment;
 use super::said::Said;
 use super::vocabulary::{operand, pair, raw_says, read_label, read_role, read_term, read_word, shape, NO_TERM};
 use base::arguments::digits;
@@ -205,7 +206,8 @@ impl Reader {
 
 /// That a text has a comment, which would be lost.
 fn comment(text: &str) -> Option<Fault> {
-    let (before, _) = text.split_once("--")?;
+    let (before, comment) = split_comment(text);
+    comment?;
     let column = before.chars().count() + 1;
     Some(Fault::at(1, column, "the bytes of a vocabulary have no comments"))
 }

@@ -6,6 +6,7 @@ use crate::files::Name;
 use crate::input::Input;
 use crate::script::Entry;
 use crate::stored::script_cases;
+use crate::text::names::Names;
 use crate::text::vocabulary::Written;
 use crate::text::{Assembled, Kind, Line};
 use crate::{script, text};
@@ -20,6 +21,7 @@ fn input(script: &[u8], lines: Vec<Line>) -> Input {
         kind: Kind::Script,
         bytes: script.to_vec(),
         lines,
+        names: Names::default(),
     };
     Input::assembled(&Name::new("s.script".as_ref()), None, assembled)
 }

@@ -6,6 +6,7 @@ use crate::files::Name;
 use crate::input::Input;
 use crate::script::{bytes, Entry, Extension, HEADER_WORD};
 use crate::stored::vocabularies;
+use crate::text::names::Names;
 use crate::text::vocabulary::Written;
 use crate::text::{self, Assembled, Kind};
 use base::vocabulary::Vocabulary;
@@ -218,6 +219,7 @@ fn an_owner_has_to_be_a_record() {
         kind: Kind::Vocabulary,
         bytes: vec![16, 1, 0, 0, 0, 0, 0, 0],
         lines: Vec::new(),
+        names: Names::default(),
     };
     let written = Written::new(Vocabulary::read(&header.bytes));
     assert_eq!(existing(&given(header), &written, 0).unwrap(), 0);

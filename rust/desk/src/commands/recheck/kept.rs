@@ -55,9 +55,10 @@ pub struct Files {
 impl Files {
     /// Reads a vocabulary.
     fn vocabulary(&self, file: &str) -> Result<Known, Trouble> {
-        let input = input::vocabulary(&self.path(file), Access::Regular, Style { colour: false })?;
-        let same = self.words.as_ref().filter(|words| input.is_said_by(words));
-        let words = same.map(|words| words.as_ref()).unwrap_or(&input).comments();
+        let mut input = input::vocabulary(&self.path(file), Access::Regular, Style { colour: false })?;
+        let same = self.words.as_deref().filter(|words| input.is_said_by(words));
+        let words = same.unwrap_or(&input).comments();
+        input.take_names(same);
         Ok(Known::new(input, words))
     }
 
@@ -113,9 +114,9 @@ impl Known {
 
     /// The vocabulary written out, with the words for its records where there are some.
     pub fn written(&mut self) -> &Written {
-        let (bytes, words) = (&self.input.bytes, &mut self.words);
+        let (input, words) = (&self.input, &mut self.words);
         self.written.get_or_insert_with(|| {
-            let written = Written::new(Vocabulary::read(bytes));
+            let written = Written::new(Vocabulary::read(&input.bytes)).with_names(input.names.clone());
             match words.take() {
                 Some(words) => written.with_words(words),
                 None => written,
