@@ -2,6 +2,7 @@
 
 #![deny(unsafe_code)]
 
+mod beside;
 mod cause;
 mod columns;
 mod commands;
@@ -12,6 +13,7 @@ mod files;
 mod help;
 mod input;
 mod json;
+mod notes;
 mod question;
 mod refused;
 mod report;

@@ -3,7 +3,6 @@
 use crate::cause;
 use crate::console::Console;
 use crate::display::{counted, did_you_mean};
-use crate::files;
 use crate::input::{self, Input};
 use crate::json::Json;
 use crate::refused;
@@ -36,7 +35,7 @@ pub fn run(arguments: &Arguments, console: &mut Console) -> Result<Status, Stop>
         Addition::Statement(a, b) => builder.statement(a, b),
     };
     let number = added.map_err(|refusal| refused_addition(style, &input, addition, refusal))?;
-    files::renew(path, &input.bytes, builder.as_bytes())?;
+    input.replace(path, builder.as_bytes())?;
     Ok(console.answer(report(style, &input, builder.as_bytes(), number))?)
 }
 
@@ -90,23 +89,28 @@ fn report(style: Style, input: &Input, bytes: &[u8], number: u16) -> Report {
     let same = vocabulary.sayings().find(|(_, earlier)| Some(*earlier) == saying);
     let same = same.map(|(same, _)| same).filter(|same| *same != number);
     let records = vocabulary.records.len();
-    let line = Written::new(vocabulary).line(number.into());
+    let written = Written::new(vocabulary).with_names(input.names.clone());
+    let line = written.line(number.into());
     let mut text = format!(
-        "{}: {}; a vocabulary of {}\n  {number}: {line}\n",
+        "{}: {}; a vocabulary of {}\n  {number}: {}\n",
         input.name,
         style.paint(Status::Holds, "added"),
-        counted(records as u64, "record")
+        counted(records as u64, "record"),
+        written.called_line(number)
     );
     if let Some(same) = same {
         text.push_str(&format!("  record {same} says the same\n"));
     }
-    let json = vec![
+    let mut json = vec![
         ("file", Json::from(input.name.as_str())),
         ("verdict", Json::from("added")),
         ("number", Json::from(number)),
+    ];
+    json.extend(written.name_field(number));
+    json.extend([
         ("text", Json::from(line)),
         ("records", Json::from(records)),
         ("same", Json::from(same)),
-    ];
+    ]);
     Report::new(Status::Holds, text, json)
 }

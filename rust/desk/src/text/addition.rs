@@ -6,6 +6,7 @@ mod tests;
 
 use super::axioms::{read_axiom, AXIOMS, WITHIN};
 use super::cursor::{Cursor, Fault};
+use super::quotes::split_comment;
 use super::said::{Said, Unsaid};
 use super::terms::{operand, read_label, read_role, read_term, read_word, said_by, shape, Begun, NO_TERM};
 use base::arguments::digits;
@@ -216,7 +217,8 @@ impl Reader {
 
 /// That a text has a comment, which would be lost.
 pub fn comment(text: &str) -> Option<Fault> {
-    let (before, _) = text.split_once("--")?;
+    let (before, comment) = split_comment(text);
+    comment?;
     let column = before.chars().count() + 1;
     Some(Fault::at(1, column, "no comment is expected here"))
 }

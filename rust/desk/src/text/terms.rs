@@ -1,6 +1,7 @@
 //! Terms of a vocabulary as texts have them.
 
 use super::cursor::{Cursor, Fault, Here};
+use super::names::Sort;
 use super::said::{Said, Says, Term, Unsaid};
 use base::vocabulary::{Record, Vocabulary};
 
@@ -20,7 +21,7 @@ pub enum Operands {
 }
 
 /// The words of terms. Of two that are as near to a misspelt word, the first is suggested.
-const TERMS: [&str; 7] = [
+pub const TERMS: [&str; 7] = [
     "owl:Nothing",
     "owl:Thing",
     "ObjectComplementOf",
@@ -53,19 +54,25 @@ pub fn shape(word: &str) -> (u8, Operands) {
 /// The word that stands here, of a term or one of the others. The word of a name is empty: it stays, since its label is
 /// part of it.
 pub fn read_word(line: &mut Cursor, others: &[&'static str], expected: &str) -> Result<&'static str, Fault> {
-    if line.is_lettered('c') {
+    if line.is_lettered('c') || line.peek() == Some('"') {
         return Ok("");
     }
     line.choose(&[others, &TERMS].concat(), expected)
 }
 
-/// A role, as `r0`.
+/// A role, as `r0` or by what it is called, in quotation marks.
 pub fn read_role(line: &mut Cursor) -> Result<u16, Fault> {
+    if line.peek() == Some('"') {
+        return line.called(Sort::Role);
+    }
     line.lettered('r', "a role, as r0, is expected here")
 }
 
-/// The label of a name, as `c7`.
+/// The label of a name, as `c7` or by what it is called, in quotation marks.
 pub fn read_label(line: &mut Cursor) -> Result<u16, Fault> {
+    if line.peek() == Some('"') {
+        return line.called(Sort::Name);
+    }
     line.lettered('c', NO_TERM)
 }
 

@@ -50,7 +50,7 @@ impl Words<'_> {
 
     /// The record of the term of a text.
     fn term_of_text(&mut self, text: &str) -> Result<u32, Wrong> {
-        let mut line = Cursor::new(1, text);
+        let mut line = Cursor::new(1, text).with_names(self.names);
         let read = operand(&mut line, &mut self.said, 1).and_then(|record| line.end().map(|()| record));
         let record = read.unwrap_or_else(|fault| {
             line.stop(fault);

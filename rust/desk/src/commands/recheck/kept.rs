@@ -56,9 +56,10 @@ pub struct Files {
 impl Files {
     /// Reads a vocabulary.
     fn vocabulary(&self, file: &str) -> Result<Known, Trouble> {
-        let input = input::vocabulary(&self.path(file), Access::Regular, Style { colour: false })?;
-        let same = self.words.as_ref().filter(|words| input.is_said_by(words));
-        let words = same.map(|words| words.as_ref()).unwrap_or(&input).comments();
+        let mut input = input::vocabulary(&self.path(file), Access::Regular, Style { colour: false })?;
+        let same = self.words.as_deref().filter(|words| input.is_said_by(words));
+        let words = same.unwrap_or(&input).comments();
+        input.take_names(same);
         Ok(Known::new(input, words))
     }
 
@@ -107,7 +108,7 @@ impl Known {
         if asked.added.is_empty() {
             return Ok(None);
         }
-        let mut input = self.input.clone();
+        let mut input = self.input.copy();
         term::extend(&mut input, asked)?;
         Ok(Some(Known::new(input, self.words.clone())))
     }
@@ -135,7 +136,8 @@ impl Known {
     pub fn written(&mut self) -> &Written {
         let (input, words) = (&self.input, &self.words);
         self.written.get_or_insert_with(|| {
-            let written = Written::new(Vocabulary::read(&input.bytes)).of_given(input.given());
+            let written = Written::new(Vocabulary::read(&input.bytes));
+            let written = written.of_given(input.given()).with_names(input.names.clone());
             match words {
                 Some(words) => written.with_words(words.clone()),
                 None => written,
