@@ -25,11 +25,33 @@ pub struct Beside {
 }
 
 /// Why a file of names is not used.
-enum Unused {
-    /// It cannot be read, is none, or has a fault.
-    Faulty(String),
-    /// It is of other bytes.
-    Misfit(String),
+struct Unused {
+    /// The file, with line and column where one is faulty.
+    place: String,
+    why: String,
+    /// Whether it is one, but of other bytes.
+    is_misfit: bool,
+}
+
+impl Unused {
+    fn new(place: impl ToString, why: impl ToString) -> Unused {
+        Unused {
+            place: place.to_string(),
+            why: why.to_string(),
+            is_misfit: false,
+        }
+    }
+
+    /// Notes that it is not used.
+    fn note(&self) {
+        let Unused { place, why, is_misfit } = self;
+        let advice = if *is_misfit {
+            "; assemble the text again, or remove the file"
+        } else {
+            ""
+        };
+        notes::add(format!("{place}: note: {why}, so that its names are not used{advice}"));
+    }
 }
 
 /// What came of the file of names where a vocabulary was written.
@@ -57,28 +79,22 @@ fn is_there(path: &OsStr) -> bool {
 
 /// The names beside a vocabulary of these bytes. That there are some which cannot be used is noted.
 pub fn find(vocabulary: &OsStr, bytes: &[u8]) -> Option<(Names, Beside)> {
-    match read(vocabulary, bytes)? {
-        Ok(found) => Some(found),
-        Err(unused) => {
-            note(unused);
-            None
-        }
-    }
-}
-
-fn note(unused: Unused) {
-    let (Unused::Faulty(why) | Unused::Misfit(why)) = unused;
-    notes::add(format!("{why}; its names are not used"));
+    let found = read(vocabulary, bytes)?;
+    found.inspect_err(Unused::note).ok()
 }
 
 /// Reads the names beside a vocabulary, if there are some, or says why they cannot be used.
 fn read(vocabulary: &OsStr, bytes: &[u8]) -> Option<Result<(Names, Beside), Unused>> {
     let path = path_of(vocabulary);
     is_there(&path).then(|| {
-        let unreadable = |failure: Failure| Unused::Faulty(format!("note: {}", failure.message));
+        let name = Name::new(&path);
+        let unreadable = |failure: Failure| {
+            let why = failure.message.strip_prefix(&format!("{name}: ")).map(str::to_string);
+            Unused::new(&name, why.unwrap_or(failure.message))
+        };
         let source = files::read(&path, Access::Regular, TEXT_BYTES, |_| TEXT_BYTES).map_err(unreadable)?;
-        let text = files::text_of(&source.name, source.bytes.clone(), TEXT_BYTES).map_err(unreadable)?;
-        let names = fitting(&source.name, &text, &Name::new(vocabulary), bytes)?;
+        let text = files::text_of(&name, source.bytes.clone(), TEXT_BYTES).map_err(unreadable)?;
+        let names = fitting(&name, &text, &Name::new(vocabulary), bytes)?;
         let bytes = source.bytes;
         Ok((names, Beside { path, bytes }))
     })
@@ -87,17 +103,22 @@ fn read(vocabulary: &OsStr, bytes: &[u8]) -> Option<Result<(Names, Beside), Unus
 /// The names that a text gives, if they are those of a vocabulary of these bytes.
 fn fitting(name: &Name, text: &str, vocabulary: &Name, bytes: &[u8]) -> Result<Names, Unused> {
     let Some(hashes) = hashes(text) else {
-        let message = format!("note: {name}: is no file of names; the first line of one is 'names sha256 ..'");
-        return Err(Unused::Faulty(message));
+        return Err(Unused::new(
+            name,
+            "does not begin as a file of names, with 'names sha256 ..'",
+        ));
     };
     let hash = sha256(bytes);
     if !hashes.iter().any(|fits| fits.eq_ignore_ascii_case(&hash)) {
-        let message = format!("note: {name}: is of other bytes than {vocabulary} has; assemble its text again");
-        return Err(Unused::Misfit(message));
+        let why = format!("is of other bytes than {vocabulary} has");
+        return Err(Unused {
+            is_misfit: true,
+            ..Unused::new(name, why)
+        });
     }
     text::names(text, &Vocabulary::read(bytes)).map_err(|fault| {
-        let (line, column) = (fault.line, fault.column);
-        Unused::Faulty(format!("note: {name}:{line}:{column}: {}", fault.message))
+        let place = format!("{name}:{}:{}", fault.line, fault.column);
+        Unused::new(place, fault.message)
     })
 }
 
@@ -150,10 +171,13 @@ pub fn check(output: &OsStr, names: &Names, inputs: &[Option<FileId>]) -> Result
     if names.is_empty() || !is_kept(output) {
         return Ok(());
     }
-    let itself = fs::metadata(output).ok().as_ref().and_then(FileId::of);
-    // Where the output is not there yet, there is nothing that the names could be written over.
-    let itself = itself.map(Some);
-    files::check(&path_of(output), &[inputs, itself.as_slice()].concat())
+    let path = path_of(output);
+    let [id, itself] = [&path, output].map(|path| fs::metadata(path).ok().as_ref().and_then(FileId::of));
+    if id.is_some() && id == itself {
+        let why = format!("is {} itself, beside which names are kept", Name::new(output));
+        return Err(unwritten(&Name::new(&path), &why));
+    }
+    files::check(&path, inputs)
 }
 
 /// Keeps names beside an output of these bytes, which is written.
@@ -178,13 +202,13 @@ fn tidy(output: &OsStr, bytes: &[u8], inputs: &[Option<FileId>]) -> Result<Optio
     match read(output, bytes) {
         None => Ok(None),
         Some(Ok(_)) => Ok(Some(Kept::Kept)),
-        Some(Err(Unused::Misfit(_))) if is_own_file(&path, inputs) => {
+        Some(Err(unused)) if unused.is_misfit && is_own_file(&path, inputs) => {
             let why = |error| format!("cannot be removed ({})", files::reason(&error));
             let removed = fs::remove_file(&path).map_err(|error| unwritten(&Name::new(&path), &why(error)));
             removed.map(|()| Some(Kept::Removed))
         }
         Some(Err(unused)) => {
-            note(unused);
+            unused.note();
             Ok(None)
         }
     }

@@ -9,6 +9,7 @@ use crate::refused;
 use crate::report::{Report, Stop, Style};
 use crate::term;
 use crate::text::addition::{self, Addition, Unfit};
+use crate::text::names::Names;
 use crate::text::vocabulary::Written;
 use base::arguments::Arguments;
 use base::vocabulary::{Record, Vocabulary, STATEMENT_KIND};
@@ -17,7 +18,7 @@ use judge::Refusal;
 use std::ffi::OsStr;
 
 /// How the words of an addition are read.
-type Reading = fn(&Vocabulary, &[&str]) -> Result<Addition, Unfit>;
+type Reading = fn(&Vocabulary, &Names, &[&str]) -> Result<Addition, Unfit>;
 
 /// What can be added.
 const SORTS: [(&str, Reading); 2] = [("term", addition::term), ("statement", addition::statement)];
@@ -60,7 +61,7 @@ fn asked(arguments: &Arguments) -> Result<(&OsStr, Reading, Vec<String>), Failur
 /// What the words say, of a vocabulary that is accepted.
 fn read(input: &Input, reading: Reading, words: &[String], style: Style) -> Result<Addition, Stop> {
     let words: Vec<&str> = words.iter().map(String::as_str).collect();
-    reading(&Vocabulary::read(&input.bytes), &words).map_err(|unfit| match unfit {
+    reading(&Vocabulary::read(&input.bytes), &input.names, &words).map_err(|unfit| match unfit {
         Unfit::Words(failure) => failure.into(),
         Unfit::Faults(faults) => term::faulty(style, input, &faults).into(),
     })

@@ -6,6 +6,7 @@ mod tests;
 
 use super::axioms::{read_axiom, AXIOMS, WITHIN};
 use super::cursor::{Cursor, Fault};
+use super::names::Names;
 use super::quotes::split_comment;
 use super::said::{Said, Unsaid};
 use super::terms::{operand, read_label, read_role, read_term, read_word, said_by, shape, Begun, NO_TERM};
@@ -38,8 +39,8 @@ impl From<Failure> for Unfit {
 }
 
 /// The term that words say: a kind, by its number or its word, and its operands; or the whole text of a term.
-pub fn term(vocabulary: &Vocabulary, words: &[&str]) -> Result<Addition, Unfit> {
-    let mut reader = Reader::new(vocabulary);
+pub fn term(vocabulary: &Vocabulary, names: &Names, words: &[&str]) -> Result<Addition, Unfit> {
+    let mut reader = Reader::new(vocabulary, names);
     let addition = match words {
         [] => return Err(missing("KIND").into()),
         [kind, operands @ ..] if digits(kind).is_some() => reader.term_by_fields(kind, operands)?,
@@ -50,8 +51,8 @@ pub fn term(vocabulary: &Vocabulary, words: &[&str]) -> Result<Addition, Unfit> 
 }
 
 /// The statement that words say: A and B, or the whole text of a statement.
-pub fn statement(vocabulary: &Vocabulary, words: &[&str]) -> Result<Addition, Unfit> {
-    let mut reader = Reader::new(vocabulary);
+pub fn statement(vocabulary: &Vocabulary, names: &Names, words: &[&str]) -> Result<Addition, Unfit> {
+    let mut reader = Reader::new(vocabulary, names);
     let addition = match words {
         [text] if Cursor::new(1, text).expect(WITHIN).is_ok() => reader.whole_statement(text),
         [a, b] => {
@@ -100,16 +101,19 @@ fn fields_of(kind: u8) -> &'static [Field] {
 }
 
 /// Reads words, and keeps what is wrong with them.
-struct Reader {
+struct Reader<'a> {
     said: Said,
+    /// What names and roles are called.
+    names: &'a Names,
     faults: Vec<(String, Fault)>,
 }
 
-impl Reader {
+impl Reader<'_> {
     /// A reader of words that name records of a vocabulary.
-    fn new(vocabulary: &Vocabulary) -> Reader {
+    fn new<'a>(vocabulary: &Vocabulary, names: &'a Names) -> Reader<'a> {
         Reader {
             said: said_by(vocabulary, Unsaid::NoRecord),
+            names,
             faults: Vec::new(),
         }
     }
@@ -124,7 +128,7 @@ impl Reader {
 
     /// What a word says, all of which has to be read. What is wrong with it is kept.
     fn read<T: Default>(&mut self, text: &str, read: impl FnOnce(&mut Cursor, &mut Said) -> Result<T, Fault>) -> T {
-        let mut line = Cursor::new(1, text);
+        let mut line = Cursor::new(1, text).with_names(self.names);
         let value = read(&mut line, &mut self.said).and_then(|value| line.end().map(|()| value));
         let value = value.unwrap_or_else(|fault| {
             line.stop(fault);

@@ -7,7 +7,7 @@ mod tests;
 use super::cursor::{quoted, Cursor, Fault};
 use super::lines::{first_word, is_word};
 use super::names::{has, Names, Sort, SORTS};
-use crate::display::{counted, grouped};
+use crate::display::counted;
 use base::spelling::nearest;
 use base::vocabulary::Vocabulary;
 
@@ -74,9 +74,12 @@ impl Naming {
         };
         let place = line.here();
         let letter = sort.letter();
-        let number = line.lettered(letter, &format!("a {word}, as {letter}1, is expected here"))?;
+        let number = match sort {
+            Sort::Name => line.lettered(letter, "a label, as c1, is expected here"),
+            Sort::Role => line.lettered(letter, "a role, as r0, is expected here"),
+        }?;
         let called_place = line.here();
-        let called = line.quoted("what it is called is expected here, in double quotes: \"returned sample\"")?;
+        let called = line.quoted("a name in double quotes, as \"returned sample\", is expected here")?;
         let unfit = unfit(&called).or_else(|| self.taken(sort, &called));
         if let Some(why) = unfit {
             line.note(called_place, &why);
@@ -136,24 +139,21 @@ fn unfit(called: &str) -> Option<String> {
     let mut letters = called.chars();
     let first = letters.next().map(|first| first.to_ascii_lowercase());
     let why = if called.is_empty() {
-        "it is called nothing; at least one character is expected in the quotes"
+        "a name has at least one character"
     } else if called.chars().count() > LONGEST {
-        return Some(format!(
-            "this is too long; it has at most {} characters",
-            grouped(LONGEST as u64)
-        ));
+        return Some(format!("a name has at most {LONGEST} characters"));
     } else if called.chars().any(char::is_control) {
-        "there is a control character in it"
+        "a name has no control characters"
     } else if called.trim() != called {
-        "there are blanks at its ends"
+        "a name has no blanks at its ends"
     } else if called.contains(['(', ')']) {
-        "there is a parenthesis in it, so that it could be taken for a term"
+        "a name has no parentheses: it could be taken for a term"
     } else if called.starts_with('"') {
-        "it begins with a double quote, so that it could be taken for another in quotes"
+        "a name does not begin with a double quote: it could be taken for another in quotes"
     } else if is_numbered(called) || (matches!(first, Some('c' | 'r' | '#')) && is_numbered(letters.as_str())) {
-        "it could be taken for a number, a record, a label or a role"
+        "this could be taken for a number, a record, a label or a role"
     } else if is_word(called) {
-        "this is a word of texts"
+        "this is a word of texts, and no name"
     } else {
         return None;
     };

@@ -50,6 +50,9 @@ impl Written {
 
     /// The same with what people call its names and roles.
     pub fn with_names(self, names: Names) -> Written {
+        if names.is_empty() {
+            return self;
+        }
         let mut written = Written {
             names,
             named: Vec::new(),
