@@ -39,7 +39,7 @@ pub fn existing(input: &Input, word: &OsStr, name: &str) -> Result<u32, Stop> {
     accepted(input).map_err(|refused| Stop::from(refused.report(input)))?;
     let read = Words::of_records(&Vocabulary::read(&input.bytes), &input.names).term(&word);
     read.map_err(|wrong| match wrong {
-        Wrong::NoTerm => no_term(name, &word).into(),
+        Wrong::NoTerm(meant) => no_term(name, &word, &meant).into(),
         Wrong::Faults(faults) => faulty(PLAIN, input, &told(&word, faults)).into(),
     })
 }
@@ -188,7 +188,7 @@ fn stopped(input: &Input, words: [(&str, &str); 2], unasked: Unasked) -> Stop {
     let mut all = Vec::new();
     for ((name, word), wrong) in words.into_iter().zip(wrong) {
         match wrong {
-            Some(Wrong::NoTerm) => return no_term(name, word).into(),
+            Some(Wrong::NoTerm(meant)) => return no_term(name, word, &meant).into(),
             Some(Wrong::Faults(faults)) => all.extend(told(word, faults)),
             None => {}
         }
@@ -196,8 +196,8 @@ fn stopped(input: &Input, words: [(&str, &str); 2], unasked: Unasked) -> Stop {
     faulty(PLAIN, input, &all).into()
 }
 
-fn no_term(name: &str, word: &str) -> Failure {
-    Failure::usage(format!("{name} is {FORMS}, and '{}' is none", plain(word)))
+fn no_term(name: &str, word: &str, meant: &str) -> Failure {
+    Failure::usage(format!("{name} is {FORMS}, and '{}' is none{meant}", plain(word)))
 }
 
 /// Faults with the word that they are of.

@@ -16,7 +16,7 @@ impl Made {
     /// Those of an input; none where it is no text.
     pub fn of(input: &Input) -> Made {
         Made {
-            written: Written::new(Vocabulary::read(&input.bytes)),
+            written: Written::new(Vocabulary::read(&input.bytes)).with_names(input.names.clone()),
             records: input.made(),
         }
     }

@@ -139,9 +139,15 @@ impl Reader<'_> {
         value
     }
 
-    /// A field, by its number or as texts have it. One that the kind does not use has only a number.
-    fn field(&mut self, text: &str, holds: Option<Field>) -> u16 {
-        self.read(text, |line, said| match holds {
+    /// A field, by its number, by what it is called, or as texts have it. One that the kind does not use has only a number.
+    fn field(&mut self, word: &str, holds: Option<Field>) -> u16 {
+        let called = word.trim();
+        let text = match holds {
+            Some(Field::Role) => self.names.role_of(called).map(|role| format!("r{role}")),
+            Some(_) => self.names.label_of(called).map(|label| format!("c{label}")),
+            None => None,
+        };
+        self.read(text.as_deref().unwrap_or(word), |line, said| match holds {
             _ if line.peek().is_some_and(|first| first.is_ascii_digit()) => line.number(),
             Some(Field::Label) => read_label(line),
             Some(Field::Role) => read_role(line),

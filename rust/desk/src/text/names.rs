@@ -72,7 +72,6 @@ impl Names {
     }
 
     /// The role that is called so.
-    #[allow(dead_code)] // for words of the command line
     pub fn role_of(&self, called: &str) -> Option<u16> {
         self.find(Sort::Role, called)
     }

@@ -2,9 +2,10 @@
 
 use super::addition::comment;
 use super::cursor::{Cursor, Fault};
-use super::names::Names;
+use super::names::{Names, Sort};
 use super::said::{Said, Term, Unsaid};
 use super::terms::{operand, said_by, NO_TERM};
+use crate::display::{did_you_mean, plain};
 use base::arguments::digits;
 use base::vocabulary::Vocabulary;
 
@@ -14,8 +15,8 @@ pub const FORMS: &str = "a record's number, a name or the text of a term";
 /// Why a word names no term.
 #[derive(Debug, PartialEq, Eq)]
 pub enum Wrong {
-    /// It has nothing of a term.
-    NoTerm,
+    /// It has nothing of a term; with what may be meant, to go behind a message.
+    NoTerm(String),
     /// It cannot be read as a term's text. There is at least one fault.
     Faults(Vec<Fault>),
 }
@@ -48,6 +49,12 @@ impl Words<'_> {
         self.term_of_text(label.as_deref().unwrap_or(word))
     }
 
+    /// What people call a name that a word may mean.
+    fn meant(&self, word: &str) -> String {
+        let names = self.names.all(Sort::Name).map(|(_, called)| called);
+        plain(&did_you_mean(word.trim(), names))
+    }
+
     /// The record of the term of a text.
     fn term_of_text(&mut self, text: &str) -> Result<u32, Wrong> {
         let mut line = Cursor::new(1, text).with_names(self.names);
@@ -59,7 +66,7 @@ impl Words<'_> {
         let faults = line.into_faults().into_iter().chain(comment(text));
         match (record, faults.collect::<Vec<Fault>>()) {
             (Some(record), faults) if faults.is_empty() => Ok(record.into()),
-            (_, faults) if faults.iter().any(is_no_term) => Err(Wrong::NoTerm),
+            (_, faults) if faults.iter().any(is_no_term) => Err(Wrong::NoTerm(self.meant(text))),
             (_, faults) => Err(Wrong::Faults(faults)),
         }
     }

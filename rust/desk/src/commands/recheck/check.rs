@@ -240,8 +240,8 @@ fn wrong_words(row: &Row, wrong: [Option<Wrong>; 2], text: &str) -> Outcome {
     let mut malformed = Vec::new();
     for (field, wrong) in row.pair.into_iter().zip(wrong) {
         malformed.extend(wrong.map(|wrong| match wrong {
-            Wrong::NoTerm => {
-                let why = format!("'{}' is no term; A and B are each {FORMS}", repeated(field.text));
+            Wrong::NoTerm(meant) => {
+                let why = format!("'{}' is no term; A and B are each {FORMS}{meant}", repeated(field.text));
                 Malformed::in_field(field, 1, why)
             }
             Wrong::Faults(faults) => {
