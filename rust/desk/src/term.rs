@@ -1,5 +1,8 @@
 //! The terms that people name on the command line.
 
+#[cfg(test)]
+mod tests;
+
 use crate::cause;
 use crate::display::{counted, plain};
 use crate::input::Input;

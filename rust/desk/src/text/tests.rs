@@ -3,6 +3,7 @@
 #![allow(clippy::unwrap_used, clippy::indexing_slicing, clippy::panic)]
 
 mod faults;
+mod made;
 
 use super::{cursor::Fault, script, vocabulary, Kind};
 use crate::script::read as read_script;
