@@ -1,5 +1,6 @@
 //! Vocabularies and scripts, from their bytes or from their texts.
 
+use crate::beside::{self, Beside};
 use crate::display::counted;
 use crate::files::{self, Access, FileId, Length, Name, Opened, Source};
 use crate::finding::{Finding, Ground, Spot};
@@ -26,11 +27,14 @@ pub struct Input {
     /// Which file it is, if it is a regular one.
     pub id: Option<FileId>,
     /// What people call its names and roles.
-    #[allow(dead_code)] // until it is used
     pub names: Names,
+    /// The file that has them, if it is one beside a vocabulary's bytes.
+    beside: Option<Beside>,
     length: Length,
     /// Of a text, the line of each record.
     lines: Option<Vec<Line>>,
+    /// The bytes as they were given, where terms were added to them for a question.
+    given: Option<Vec<u8>>,
 }
 
 impl Input {
@@ -42,7 +46,9 @@ impl Input {
             bytes: assembled.bytes,
             id,
             names: assembled.names,
+            beside: None,
             lines: Some(assembled.lines),
+            given: None,
         }
     }
 
@@ -53,9 +59,66 @@ impl Input {
             bytes: Vec::new(),
             id: None,
             names: Names::default(),
+            beside: None,
             length: Length::of(&[]),
             lines: None,
+            given: None,
         }
+    }
+
+    /// A copy to ask about. The names beside it stay with the first.
+    pub fn copy(&self) -> Input {
+        Input {
+            name: self.name.clone(),
+            bytes: self.bytes.clone(),
+            id: self.id,
+            names: self.names.clone(),
+            beside: None,
+            length: self.length.clone(),
+            lines: self.lines.clone(),
+            given: self.given.clone(),
+        }
+    }
+
+    /// Gives the bytes of a copy to which terms were added for a question.
+    pub fn extend(&mut self, bytes: Vec<u8>) {
+        let given = std::mem::replace(&mut self.bytes, bytes);
+        self.given.get_or_insert(given);
+    }
+
+    /// The bytes without what was added for a question.
+    pub fn given(&self) -> &[u8] {
+        self.given.as_deref().unwrap_or(&self.bytes)
+    }
+
+    /// The records that were made for lines which have their terms as operands, where there is a text.
+    pub fn made(&self) -> Vec<u16> {
+        let lines = self.lines.iter().flatten().enumerate();
+        lines
+            .filter(|(_, line)| line.is_made)
+            .map(|(number, _)| number as u16)
+            .collect()
+    }
+
+    /// What people call its names and roles; where nothing is known of that, what the text calls them that --words names.
+    pub fn names_or<'a>(&'a self, words: Option<&'a Input>) -> &'a Names {
+        match words {
+            Some(text) if self.names.is_empty() && self.is_said_by(text) => &text.names,
+            _ => &self.names,
+        }
+    }
+
+    /// Takes the names of the text that --words names, where none are known.
+    pub fn take_names(&mut self, words: Option<&Input>) {
+        self.names = self.names_or(words).clone();
+    }
+
+    /// Gives the vocabulary that was read from this path other bytes. The names beside it fit before and after.
+    pub fn replace(&self, path: &OsStr, bytes: &[u8]) -> Result<(), Failure> {
+        if let Some(beside) = &self.beside {
+            beside.renew(&self.bytes, bytes)?;
+        }
+        files::renew(path, &self.bytes, bytes)
     }
 
     /// The comment on the line of each record, where there is a text.
@@ -83,7 +146,7 @@ impl Input {
     /// Whether a text says this vocabulary, be it with a header of the other edition: filed ones have edition 1, and a text
     /// that says none makes edition 2.
     pub fn is_said_by(&self, text: &Input) -> bool {
-        in_first_edition(&self.bytes) == in_first_edition(&text.bytes)
+        in_first_edition(self.given()) == in_first_edition(&text.bytes)
     }
 
     /// The name, with line and column where they are known.
@@ -144,7 +207,26 @@ fn read(path: &OsStr, access: Access, most: usize) -> Result<Source, Failure> {
 
 /// A vocabulary, from its bytes or its text.
 pub fn vocabulary(path: &OsStr, access: Access, style: Style) -> Result<Input, Stop> {
-    of_kind(read(path, access, judge::VOCABULARY_BYTES)?, Kind::Vocabulary, style)
+    let source = read(path, access, judge::VOCABULARY_BYTES)?;
+    of_kind(source, Kind::Vocabulary, style).map(|input| with_names(input, path, access))
+}
+
+/// A vocabulary with the names beside it, if it was read from the bytes of a regular file.
+fn with_names(input: Input, path: &OsStr, access: Access) -> Input {
+    let is_standard_input = path == "-" && access == Access::Any;
+    // A longer one was not read whole, and is refused.
+    let is_whole = input.bytes.len() <= judge::VOCABULARY_BYTES;
+    if input.lines.is_some() || input.id.is_none() || is_standard_input || !is_whole {
+        return input;
+    }
+    match beside::find(path, &input.bytes) {
+        Some((names, beside)) => Input {
+            names,
+            beside: Some(beside),
+            ..input
+        },
+        None => input,
+    }
 }
 
 /// A vocabulary that is to be changed, from its bytes alone, and its file, which no other run changes while it is open. For
@@ -160,7 +242,7 @@ pub fn vocabulary_to_change(path: &OsStr, advice: &str) -> Result<(Input, Opened
         let message = format!("{}: is a text; {advice}", source.name);
         return Err(Failure::new(Status::NoInput, message));
     }
-    Ok((of_bytes(source), opened))
+    Ok((with_names(of_bytes(source), path, Access::Regular), opened))
 }
 
 /// A script, from its bytes or its text.
@@ -178,7 +260,11 @@ pub fn either(path: &OsStr, style: Style) -> Result<(Input, Kind), Stop> {
         [32, 0, ..] => Kind::Script,
         _ => Kind::Vocabulary,
     };
-    Ok((of_bytes(source), kind))
+    let input = of_bytes(source);
+    Ok(match kind {
+        Kind::Script => (input, kind),
+        Kind::Vocabulary => (with_names(input, path, Access::Any), kind),
+    })
 }
 
 /// A text, and what it is of.
@@ -202,8 +288,10 @@ fn of_bytes(source: Source) -> Input {
         bytes: source.bytes,
         id: source.id,
         names: Names::default(),
+        beside: None,
         length: source.length,
         lines: None,
+        given: None,
     }
 }
 

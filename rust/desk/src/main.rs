@@ -2,6 +2,7 @@
 
 #![deny(unsafe_code)]
 
+mod beside;
 mod cause;
 mod columns;
 mod commands;
@@ -14,6 +15,7 @@ mod help;
 mod input;
 mod json;
 mod justification;
+mod notes;
 mod question;
 mod refused;
 mod report;

@@ -2,6 +2,7 @@
 
 mod format;
 
+use super::made::Made;
 use super::{contradiction, each, read_vocabulary};
 use crate::console::Console;
 use crate::display::counted;
@@ -116,12 +117,16 @@ fn accepted(style: Style, input: &Input, tally: &Tally) -> Report {
             message: Ground::Contradiction.sentence().to_string(),
         });
     }
+    let made = Made::of(input);
+    let made_words = made.words().map(|words| format!("  {words}\n"));
+    text.push_str(made_words.as_deref().unwrap_or_default());
     let mut json = vec![
         ("file", Json::from(input.name.as_str())),
         ("verdict", Json::from("accepted")),
     ];
     json.extend(tally.json());
     json.push(("contradictory", Json::from(contradictory)));
+    json.extend(made_words.map(|_| made.json()));
     Report {
         findings,
         ..Report::new(Status::Holds, text, json)

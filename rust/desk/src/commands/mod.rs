@@ -7,6 +7,7 @@ mod classify;
 mod columns;
 mod compare;
 mod edition;
+mod made;
 mod new;
 mod pair;
 mod recheck;
@@ -96,7 +97,9 @@ pub fn run(command: &Command, words: Vec<OsString>, console: &mut Console) -> Re
         _ => return Err(Failure::usage("--color takes auto, always or never").into()),
     };
     *console = Console::new(command.name, arguments.has("--json"), arguments.has("--quiet"), colour);
-    (command.run)(&arguments, console)
+    let done = (command.run)(&arguments, console);
+    console.tell_notes();
+    done
 }
 
 /// Answers about several files, one after the other; the greatest status. One that cannot be read does not keep the others
@@ -147,6 +150,9 @@ fn read_script(path: &OsStr, style: Style) -> Result<Input, Stop> {
 /// A vocabulary written out, with the words of its text: its own, or the one that --words names.
 fn written(input: &Input, words: Option<&Input>) -> Result<Written, Failure> {
     let written = Written::new(Vocabulary::read(&input.bytes));
+    let written = written
+        .of_given(input.given())
+        .with_names(input.names_or(words).clone());
     let comments = match words {
         Some(text) if !input.is_said_by(text) => {
             let message = format!("{}: is not the text of {}", text.name, input.name);

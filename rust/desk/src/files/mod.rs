@@ -4,7 +4,7 @@ mod lock;
 mod replace;
 mod write;
 
-pub use write::{create, renew, write};
+pub use write::{check, create, renew, unwritten, write};
 
 use crate::display::{grouped, plain};
 use crate::streams;

@@ -12,6 +12,8 @@ use std::path::{Path, PathBuf};
 
 /// The most symbolic links that one name leads through; the kernel has the same limit.
 const LINKS: usize = 40;
+/// Why an input is not written.
+const INPUT: &str = "is an input, and stays as it is";
 /// Why a file that is there is not made.
 pub const EXISTS: &str = "is there already, and stays as it is";
 
@@ -23,7 +25,7 @@ pub fn write(path: &OsStr, bytes: &[u8], inputs: &[Option<FileId>]) -> Result<()
     let about = look(&name, path, &end)?;
     let id = about.as_ref().and_then(FileId::of);
     if id.is_some() && inputs.contains(&id) {
-        return Err(unwritten(&name, "is an input, and stays as it is"));
+        return Err(unwritten(&name, INPUT));
     }
     match about {
         None if streams::is_descriptor(&end) => Err(unwritten(&name, "is not open")),
@@ -32,6 +34,21 @@ pub fn write(path: &OsStr, bytes: &[u8], inputs: &[Option<FileId>]) -> Result<()
             written.map_err(|error| unwritten(&name, &format!("cannot be written ({})", reason(&error))))
         }
         _ => replace(&name, &end, bytes),
+    }
+}
+
+/// Says why a path could not be written, before anything is: what stands there is an input, or is no regular file, or may
+/// not be written.
+pub fn check(path: &OsStr, inputs: &[Option<FileId>]) -> Result<(), Failure> {
+    let (name, path) = (Name::new(path), Path::new(path));
+    let end = follow(path);
+    match look(&name, path, &end)? {
+        None => Ok(()),
+        Some(about) if !about.is_file() => Err(unwritten(&name, "is no regular file")),
+        Some(about) if inputs.contains(&FileId::of(&about)) => Err(unwritten(&name, INPUT)),
+        Some(_) => replace::old_file(&end)
+            .map(|_| ())
+            .map_err(|error| unwritable(&name, &error)),
     }
 }
 

@@ -4,15 +4,15 @@
 #[cfg(test)]
 mod tests;
 
+use super::axioms::{read_axiom, AXIOMS, WITHIN};
 use super::cursor::{Cursor, Fault};
-use super::said::Said;
-use super::vocabulary::{operand, pair, raw_says, read_label, read_role, read_term, read_word, shape, NO_TERM};
+use super::names::Names;
+use super::quotes::split_comment;
+use super::said::{Said, Unsaid};
+use super::terms::{operand, read_label, read_role, read_term, read_word, said_by, shape, Begun, NO_TERM};
 use base::arguments::digits;
 use base::vocabulary::Vocabulary;
 use base::Failure;
-
-/// The word of a statement.
-const STATEMENT: &str = "SubClassOf";
 
 /// A record that is to be added.
 #[derive(Clone, Copy, Debug, PartialEq, Eq)]
@@ -39,8 +39,8 @@ impl From<Failure> for Unfit {
 }
 
 /// The term that words say: a kind, by its number or its word, and its operands; or the whole text of a term.
-pub fn term(vocabulary: &Vocabulary, words: &[&str]) -> Result<Addition, Unfit> {
-    let mut reader = Reader::new(vocabulary);
+pub fn term(vocabulary: &Vocabulary, names: &Names, words: &[&str]) -> Result<Addition, Unfit> {
+    let mut reader = Reader::new(vocabulary, names);
     let addition = match words {
         [] => return Err(missing("KIND").into()),
         [kind, operands @ ..] if digits(kind).is_some() => reader.term_by_fields(kind, operands)?,
@@ -51,19 +51,30 @@ pub fn term(vocabulary: &Vocabulary, words: &[&str]) -> Result<Addition, Unfit> 
 }
 
 /// The statement that words say: A and B, or the whole text of a statement.
-pub fn statement(vocabulary: &Vocabulary, words: &[&str]) -> Result<Addition, Unfit> {
-    let mut reader = Reader::new(vocabulary);
+pub fn statement(vocabulary: &Vocabulary, names: &Names, words: &[&str]) -> Result<Addition, Unfit> {
+    let mut reader = Reader::new(vocabulary, names);
     let addition = match words {
-        [text] if Cursor::new(1, text).expect(STATEMENT).is_ok() => reader.whole_statement(text),
+        [text] if Cursor::new(1, text).expect(WITHIN).is_ok() => reader.whole_statement(text),
         [a, b] => {
             let term = Some(Field::Term { nesting: 1 });
             Addition::Statement(reader.field(a, term), reader.field(b, term))
         }
         [_, _, extra, ..] => return Err(too_many(extra).into()),
+        [text] if begins_as_axiom(text) => return Err(Failure::usage(NOT_ONE).into()),
         [_] => return Err(missing("B").into()),
         [] => return Err(missing("A").into()),
     };
     reader.finish(addition)
+}
+
+/// What is said of an axiom that is no SubClassOf(..).
+const NOT_ONE: &str =
+    "one statement is added, as SubClassOf(..); other axioms stand for some, which are added one by one";
+
+/// Whether a text begins with the word of an axiom.
+fn begins_as_axiom(text: &str) -> bool {
+    let line = Cursor::new(1, text);
+    AXIOMS.iter().any(|word| line.clone().keyword(word))
 }
 
 /// What a field of a term's record holds.
@@ -90,20 +101,19 @@ fn fields_of(kind: u8) -> &'static [Field] {
 }
 
 /// Reads words, and keeps what is wrong with them.
-struct Reader {
+struct Reader<'a> {
     said: Said,
+    /// What names and roles are called.
+    names: &'a Names,
     faults: Vec<(String, Fault)>,
 }
 
-impl Reader {
+impl Reader<'_> {
     /// A reader of words that name records of a vocabulary.
-    fn new(vocabulary: &Vocabulary) -> Reader {
-        let mut said = Said::in_records();
-        for (number, record) in vocabulary.numbered() {
-            said.add(number as u16, raw_says(record));
-        }
+    fn new<'a>(vocabulary: &Vocabulary, names: &'a Names) -> Reader<'a> {
         Reader {
-            said,
+            said: said_by(vocabulary, Unsaid::NoRecord),
+            names,
             faults: Vec::new(),
         }
     }
@@ -117,9 +127,9 @@ impl Reader {
     }
 
     /// What a word says, all of which has to be read. What is wrong with it is kept.
-    fn read<T: Default>(&mut self, text: &str, read: impl FnOnce(&mut Cursor, &Said) -> Result<T, Fault>) -> T {
-        let mut line = Cursor::new(1, text);
-        let value = read(&mut line, &self.said).and_then(|value| line.end().map(|()| value));
+    fn read<T: Default>(&mut self, text: &str, read: impl FnOnce(&mut Cursor, &mut Said) -> Result<T, Fault>) -> T {
+        let mut line = Cursor::new(1, text).with_names(self.names);
+        let value = read(&mut line, &mut self.said).and_then(|value| line.end().map(|()| value));
         let value = value.unwrap_or_else(|fault| {
             line.stop(fault);
             T::default()
@@ -129,9 +139,15 @@ impl Reader {
         value
     }
 
-    /// A field, by its number or as texts have it. One that the kind does not use has only a number.
-    fn field(&mut self, text: &str, holds: Option<Field>) -> u16 {
-        self.read(text, |line, said| match holds {
+    /// A field, by its number, by what it is called, or as texts have it. One that the kind does not use has only a number.
+    fn field(&mut self, word: &str, holds: Option<Field>) -> u16 {
+        let called = word.trim();
+        let text = match holds {
+            Some(Field::Role) => self.names.role_of(called).map(|role| format!("r{role}")),
+            Some(_) => self.names.label_of(called).map(|label| format!("c{label}")),
+            None => None,
+        };
+        self.read(text.as_deref().unwrap_or(word), |line, said| match holds {
             _ if line.peek().is_some_and(|first| first.is_ascii_digit()) => line.number(),
             Some(Field::Label) => read_label(line),
             Some(Field::Role) => read_role(line),
@@ -185,8 +201,14 @@ impl Reader {
     /// A term by its whole text.
     fn whole_term(&mut self, text: &str) -> Addition {
         let (kind, (a, b)) = self.read(text, |line, said| {
-            let word = read_word(line, &[], NO_TERM)?;
-            let term = read_term(line, said, 1, shape(word))?;
+            let place = line.here();
+            let shape = shape(read_word(line, &[], NO_TERM)?);
+            let begun = Begun {
+                place,
+                nesting: 1,
+                shape,
+            };
+            let term = read_term(line, said, begun)?;
             Ok((term.kind, term.numbers()))
         });
         Addition::Term(kind, a, b)
@@ -194,20 +216,21 @@ impl Reader {
 
     /// A statement by its whole text.
     fn whole_statement(&mut self, text: &str) -> Addition {
-        let (a, b) = self.read(text, |line, said| {
-            line.expect(STATEMENT)?;
-            let term = |line: &mut Cursor| operand(line, said, 1);
-            pair(line, term, term)
+        let statements = self.read(text, |line, said| {
+            line.expect(WITHIN)?;
+            read_axiom(line, said, WITHIN)
         });
+        let (a, b) = statements.first().copied().unwrap_or_default();
         Addition::Statement(a.unwrap_or(0), b.unwrap_or(0))
     }
 }
 
 /// That a text has a comment, which would be lost.
-fn comment(text: &str) -> Option<Fault> {
-    let (before, _) = text.split_once("--")?;
+pub fn comment(text: &str) -> Option<Fault> {
+    let (before, comment) = split_comment(text);
+    comment?;
     let column = before.chars().count() + 1;
-    Some(Fault::at(1, column, "the bytes of a vocabulary have no comments"))
+    Some(Fault::at(1, column, "no comment is expected here"))
 }
 
 fn missing(name: &str) -> Failure {

@@ -2,20 +2,31 @@
 //! (docs/DESK.md).
 
 pub mod addition;
+mod axioms;
 pub mod cursor;
+mod lines;
 pub mod names;
+pub mod naming;
+mod numbers;
+pub mod quotes;
 mod records;
-mod said;
+pub mod said;
 pub mod script;
+pub mod terms;
 #[cfg(test)]
 mod tests;
 pub mod vocabulary;
+pub mod words;
 
+use base::vocabulary::Vocabulary;
 use cursor::{Cursor, Fault};
 use names::Names;
+use naming::Naming;
 
 /// The most bytes of a text; no vocabulary or script needs as many.
 pub const TEXT_BYTES: usize = 1 << 20;
+/// The word before the first link of a chain, in a header.
+const FIRST: &str = "first";
 /// The longest text of a term that is written out in another; a longer one is named by its record.
 const WRITTEN_OUT: usize = 60;
 
@@ -60,6 +71,19 @@ pub struct Line {
     pub column: usize,
     /// The comment at its end; empty where there is none.
     pub comment: String,
+    /// Whether the record was made for the line, which has its term as an operand.
+    pub is_made: bool,
+}
+
+impl Line {
+    /// The same for a record that was made for the line: what people call the line's own is not what they call this.
+    fn of_made(&self) -> Line {
+        Line {
+            comment: String::new(),
+            is_made: true,
+            ..*self
+        }
+    }
 }
 
 /// What a text stands for, or what is wrong with it: at least one fault, in the order of the lines.
@@ -70,16 +94,58 @@ pub fn assemble(text: &str) -> Result<Assembled, Vec<Fault>> {
         return Err(vec![Fault::at(1, 1, message)]);
     };
     let kind = read_kind(&mut header).map_err(|fault| vec![fault])?;
-    let bytes = match kind {
-        Kind::Vocabulary => vocabulary::read(header, cursors),
-        Kind::Script => script::read(header, cursors),
-    }?;
+    let (bytes, lines, names) = match kind {
+        Kind::Vocabulary => read_vocabulary(header, text)?,
+        Kind::Script => {
+            let (bytes, lines) = script::read(header, cursors)?;
+            (bytes, lines, Names::default())
+        }
+    };
     Ok(Assembled {
         kind,
         bytes,
-        lines: lines(text).map(|line| line.place()).collect(),
-        names: Names::default(),
+        lines,
+        names,
     })
+}
+
+/// The bytes of a vocabulary's text, of whose header the first word is taken, the line of each record, and what its names are
+/// called. All lines that give a name are read before the others, which may use it.
+fn read_vocabulary(header: Cursor, text: &str) -> Result<(Vec<u8>, Vec<Line>, Names), Vec<Fault>> {
+    let giving = lines(text).skip(1).filter(|line| naming::sort_of(line).is_some());
+    let naming = Naming::read(giving);
+    let lacks_names = !naming.faults.is_empty();
+    let others = record_lines(text, Kind::Vocabulary).skip(1);
+    let others = others.map(|line| line.with_names(&naming.names).lacking_names(lacks_names));
+    let read = lines::read(header, others);
+    let strangers = match &read {
+        Ok((bytes, _)) => naming.strangers(&Vocabulary::read(bytes)),
+        Err(_) => Vec::new(),
+    };
+    match (read, [&naming.faults[..], &strangers].concat()) {
+        (Ok((bytes, lines)), faults) if faults.is_empty() => Ok((bytes, lines, naming.names)),
+        (read, faults) => Err(records::merged(read.err().unwrap_or_default(), faults)),
+    }
+}
+
+/// What a file of names calls the names and roles of a vocabulary, or what is wrong first. Its first line is no part of it.
+pub fn names(text: &str, vocabulary: &Vocabulary) -> Result<Names, Fault> {
+    let numbered = text.lines().enumerate().skip(1);
+    let lines = numbered.map(|(i, line)| Cursor::new(i + 1, line));
+    let mut naming = Naming::read(lines.filter(|line| !line.at_end()));
+    naming.faults.extend(naming.strangers(vocabulary));
+    match naming.faults.into_iter().min_by_key(|fault| fault.line) {
+        Some(fault) => Err(fault),
+        None => Ok(naming.names),
+    }
+}
+
+/// The lines that say something, one for each record. Of a vocabulary's those that give a name make none.
+fn record_lines(text: &str, kind: Kind) -> impl Iterator<Item = Cursor<'_>> {
+    let makes_record = move |line: &Cursor| kind == Kind::Script || naming::sort_of(line).is_none();
+    let numbered = lines(text).enumerate();
+    let kept = numbered.filter(move |(number, line)| *number == 0 || makes_record(line));
+    kept.map(|(_, line)| line)
 }
 
 /// Takes the first word of a text, which says what it is of. Where it is no such word, what follows it may say that.
@@ -113,7 +179,7 @@ fn kind_by_header(header: &Cursor) -> Option<Kind> {
     }
 }
 
-/// The lines that say something, one for each record.
+/// The lines that say something.
 fn lines(text: &str) -> impl Iterator<Item = Cursor<'_>> {
     let all = text.lines().enumerate().map(|(i, line)| Cursor::new(i + 1, line));
     all.filter(|line| !line.at_end())
