@@ -19,6 +19,8 @@ const APART: i32 = 28;
 const BEND: i32 = 30;
 /// What is left free between arrows that run side by side.
 const TRACK: i32 = 10;
+/// What is left free above a box for the head of an arrow that comes around.
+const HEAD: i32 = 16;
 /// How far a loop reaches from its box.
 pub const LOOP: i32 = 36;
 /// The height of a loop.
@@ -66,6 +68,9 @@ pub enum Route {
     /// From the right side of a box and back to it, at this height.
     Loop(Point),
 }
+
+/// The routes and labels of arrows, by their places.
+type Routed = Vec<(usize, (Route, Area))>;
 
 /// Where everything stands.
 #[derive(Debug, Default)]
@@ -212,7 +217,10 @@ impl<'a> Plan<'a> {
         self.side = 2 * PAD + widest;
         let mut y = 2 * PAD + LINE * self.graph.captions.len() as i32;
         for (layer, (nodes, breadth)) in rows.iter().zip(breadths).enumerate() {
-            y += PAD + TRACK * self.around(layer, |arrow| arrow.to).len() as i32;
+            y += match self.around(layer, |arrow| arrow.to).len() as i32 {
+                0 => PAD,
+                tracks => HEAD + TRACK * tracks,
+            };
             let height = self.height(nodes);
             let mut x = 2 * PAD + (widest - breadth) / 2;
             for node in nodes {
@@ -288,7 +296,7 @@ impl<'a> Plan<'a> {
     }
 
     /// The arrows from a layer to the next. Each label stands as near to the middle of its arrow as the others allow.
-    fn downs(&self, layer: usize) -> Vec<(usize, (Route, Area))> {
+    fn downs(&self, layer: usize) -> Routed {
         let port = |place: usize| self.ports.get(place).copied().unwrap_or_default();
         let from_here = self
             .arrows(Sort::Down)
@@ -317,7 +325,7 @@ impl<'a> Plan<'a> {
     }
 
     /// The arrows around, each with a lane of its own, and the right side of the last lane.
-    fn arounds(&self) -> (Vec<(usize, (Route, Area))>, i32) {
+    fn arounds(&self) -> (Routed, i32) {
         let span = |arrow: &Arrow| self.layer(arrow.from).abs_diff(self.layer(arrow.to));
         let mut places: Vec<(usize, &Arrow)> = self.arrows(Sort::Around).collect();
         places.sort_by_key(|(place, arrow)| (span(arrow), *place));
@@ -326,7 +334,7 @@ impl<'a> Plan<'a> {
             let [from, to] = self.ports.get(place).copied().unwrap_or_default();
             let (start, end) = (self.area(arrow.from), self.area(arrow.to));
             let below = start.bottom() + self.track(place, self.layer(arrow.from), |arrow| arrow.from);
-            let above = end.y - PAD - self.track(place, self.layer(arrow.to), |arrow| arrow.to) + TRACK;
+            let above = end.y - HEAD - self.track(place, self.layer(arrow.to), |arrow| arrow.to) + TRACK;
             let corners = vec![
                 (from, start.bottom()),
                 (from, below),
@@ -366,20 +374,23 @@ fn layers(graph: &Graph) -> Vec<usize> {
     layers.into_iter().map(|layer| layer.unwrap_or(0)).collect()
 }
 
-/// The left sides of things that stand side by side between two bounds: near to the left sides that are wanted, in their
-/// order, which is theirs. There is room for all.
+/// The left sides of things that stand side by side between two bounds, in their order, as near to the left sides that are
+/// wanted as that allows. There is room for all.
 fn spread(wanted: &[(i32, i32)], left: i32, right: i32) -> Vec<i32> {
-    let mut places = Vec::new();
-    let mut free = left;
-    for (x, width) in wanted {
-        let x = (*x).max(free);
-        places.push(x);
+    let (mut pushed_right, mut free) = (Vec::new(), left);
+    let rest = |at: usize| -> i32 { wanted.iter().skip(at).map(|(_, width)| width + APART).sum() };
+    for (at, (x, width)) in wanted.iter().enumerate() {
+        let x = (*x).min(right + APART - rest(at)).max(free);
+        pushed_right.push(x);
         free = x + width + APART;
     }
-    let mut end = right;
-    for (place, (_, width)) in places.iter_mut().zip(wanted).rev() {
-        *place = (*place).min(end - width);
-        end = *place - APART;
+    let (mut places, mut end) = (pushed_right, right);
+    let before = |at: usize| -> i32 { wanted.iter().take(at).map(|(_, width)| width + APART).sum() };
+    for (at, (place, (x, width))) in places.iter_mut().zip(wanted).enumerate().rev() {
+        let pushed_left = (*x).max(left + before(at)).min(end - width);
+        end = pushed_left - APART;
+        // What lies between two orders that keep apart keeps apart.
+        *place = (*place + pushed_left) / 2;
     }
     places
 }

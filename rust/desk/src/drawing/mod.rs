@@ -4,7 +4,7 @@ pub mod dot;
 mod layout;
 pub mod svg;
 #[cfg(test)]
-mod tests;
+pub mod tests;
 mod width;
 mod wrap;
 

@@ -1,9 +1,9 @@
 //! Drawings as SVG 1.1, which browsers show. There are no ids and no style sheets in them, so that several can stand in one
 //! page.
 
-use super::layout::{lay_out, Area, Layout, Point, Route, LINE, LOOP, PAD};
-use super::width::FONT;
-use super::wrap::wrap;
+use super::layout::{lay_out, Area, Point, Route, LINE, LOOP, PAD};
+use super::width::{width, FONT};
+use super::wrap::{wrap, INDENT};
 use super::{Arrow, Graph, Node};
 use crate::display::{beginning, plain};
 
@@ -25,12 +25,12 @@ pub fn file(graph: &Graph) -> String {
 pub fn element(graph: &Graph) -> String {
     let graph = &shown(graph);
     let layout = lay_out(graph);
-    let Layout { width, height, .. } = layout;
+    let (across, height) = (layout.width, layout.height);
     let mut text = format!(
-        "<svg xmlns=\"http://www.w3.org/2000/svg\" version=\"1.1\" width=\"{width}\" height=\"{height}\" \
-         viewBox=\"0 0 {width} {height}\" font-family=\"sans-serif\" font-size=\"{FONT}\" direction=\"ltr\">\n\
+        "<svg xmlns=\"http://www.w3.org/2000/svg\" version=\"1.1\" width=\"{across}\" height=\"{height}\" \
+         viewBox=\"0 0 {across} {height}\" font-family=\"sans-serif\" font-size=\"{FONT}\" direction=\"ltr\">\n\
          <title>{}</title>\n<desc>{}</desc>\n\
-         <rect width=\"{width}\" height=\"{height}\" fill=\"#ffffff\"/>\n",
+         <rect width=\"{across}\" height=\"{height}\" fill=\"#ffffff\"/>\n",
         escaped(&graph.title),
         escaped(&graph.description),
     );
@@ -81,8 +81,12 @@ fn escaped(text: &str) -> String {
     text.replace('<', "&lt;").replace('>', "&gt;").replace('"', "&quot;")
 }
 
-/// A line of text, by the upper left corner of its area.
+/// A line of text, by the upper left corner of its area. Not all programs draw the blanks before one that goes on.
 fn line((x, y): Point, text: &str, more: &str) -> String {
+    let (x, text) = match text.strip_prefix(INDENT) {
+        Some(text) => (x + width(INDENT), text),
+        None => (x, text),
+    };
     format!("<text x=\"{x}\" y=\"{}\"{more}>{}</text>\n", y + BASE, escaped(text))
 }
 

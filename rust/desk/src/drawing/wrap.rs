@@ -4,8 +4,8 @@ use crate::display::beginning;
 
 /// The most lines of a text.
 const LINES: usize = 3;
-/// What a line begins with that goes on; blanks would not be drawn.
-const INDENT: &str = "\u{a0}\u{a0}";
+/// What a line begins with that goes on.
+pub const INDENT: &str = "\u{a0}";
 
 /// The lines of a text, each of at most so many characters and the mark of what is left out. They end at blanks, where there
 /// are some.
