@@ -4,6 +4,8 @@
 
 use super::way::Place;
 use super::Explained;
+use crate::drawing::svg;
+use crate::drawing::tests::assert_drawn;
 use crate::stored::comparison_cases;
 use crate::text::vocabulary::Written;
 use base::vocabulary::{Saying, Vocabulary};
@@ -83,23 +85,27 @@ fn restricted(vocabulary: &Vocabulary) -> Vec<bool> {
     restricted
 }
 
-#[test]
-fn what_is_told_is_true_in_the_model_and_tells_the_terms_apart() {
-    let (mut explained_by_roles, mut longest) = (0, 0);
+/// Explains every stored comparison of different terms.
+fn each_explained(mut look: impl FnMut(&Explained)) {
     for (bytes, a, b) in comparison_cases() {
         let mut survivors = [0; SURVIVOR_BYTES];
         let answer = judge::compare(&bytes, a, b, &mut survivors);
-        let Ok(Verdict::Different { element }) = answer.map(|answer| answer.verdict) else {
-            continue;
-        };
-        let written = Written::new(Vocabulary::read(&bytes));
-        let explained = Explained::new(&written, [a, b], element, &survivors).unwrap();
-        let vocabulary = written.vocabulary();
+        if let Ok(Verdict::Different { element }) = answer.map(|answer| answer.verdict) {
+            let written = Written::new(Vocabulary::read(&bytes));
+            look(&Explained::new(&written, [a, b], element, &survivors).unwrap());
+        }
+    }
+}
+
+#[test]
+fn what_is_told_is_true_in_the_model() {
+    each_explained(|explained| {
         let mut told = Told::default();
         told.add(&explained.way);
         for ((element, atom), holds) in &told.names {
             assert!(explained.model.elements.contains(element));
-            assert_eq!(vocabulary.truths(*element)[usize::from(*atom)], *holds);
+            let truths = explained.written.vocabulary().truths(*element);
+            assert_eq!(truths[usize::from(*atom)], *holds);
         }
         for (from, role, to) in &told.edges {
             assert!(explained.model.edges_from(*from, *role).any(|found| found == *to));
@@ -108,40 +114,61 @@ fn what_is_told_is_true_in_the_model_and_tells_the_terms_apart() {
             let mut targets = explained.model.edges_from(*from, *role);
             assert!(targets.all(|to| told.edges.contains(&(*from, *role, to))));
         }
+    });
+}
+
+#[test]
+fn what_is_told_is_enough_to_tell_the_terms_apart() {
+    let mut by_roles = 0;
+    each_explained(|explained| {
+        let mut told = Told::default();
+        told.add(&explained.way);
+        let truth = |term: u32| told.truth(explained.written.vocabulary(), explained.element, term as u16);
         let is_first = explained.is_in_first();
         assert_eq!(
-            told.truth(vocabulary, element, a as u16),
-            Some(is_first),
+            explained.pair.map(truth),
+            [Some(is_first), Some(!is_first)],
             "{}",
             explained.text()
         );
-        assert_eq!(
-            told.truth(vocabulary, element, b as u16),
-            Some(!is_first),
-            "{}",
-            explained.text()
-        );
+        by_roles += usize::from(!told.edges.is_empty() || !told.all.is_empty());
+    });
+    assert!(by_roles > 1000, "{by_roles}");
+}
+
+#[test]
+fn the_text_names_elements_of_the_model_and_has_ways_for_restrictions_only() {
+    let (mut plain, mut longest) = (0, 0);
+    each_explained(|explained| {
         let text = explained.text();
         let elements = text.split("element ").skip(1).map(|rest| {
             let end = rest.find(|next: char| !next.is_ascii_digit()).unwrap();
             rest[..end].parse::<u16>().unwrap()
         });
-        assert!(elements
-            .into_iter()
-            .all(|named| explained.model.elements.contains(&named)));
-        let restricted = restricted(vocabulary);
-        if ![a, b].iter().any(|term| restricted[*term as usize]) {
-            assert_eq!(text.lines().count(), 3);
+        assert!(
+            elements
+                .into_iter()
+                .all(|named| explained.model.elements.contains(&named)),
+            "{text}"
+        );
+        let restricted = restricted(explained.written.vocabulary());
+        if !explained.pair.iter().any(|term| restricted[*term as usize]) {
+            assert_eq!(text.lines().count(), 3, "{text}");
+            plain += 1;
         }
-        explained_by_roles += usize::from(text.lines().count() > 3);
         longest = longest.max(text.lines().count());
-        let graph = explained.graph();
+    });
+    assert!(plain > 300 && longest > 8, "{plain}, {longest}");
+}
+
+#[test]
+fn every_counter_model_is_drawn_whole() {
+    each_explained(|explained| {
+        let (graph, model) = (explained.graph(), &explained.model);
         assert_eq!(
             (graph.nodes.len(), graph.arrows.len()),
-            (explained.model.elements.len(), explained.model.edges.len())
+            (model.elements.len(), model.edges.len())
         );
-        crate::drawing::tests::assert_drawn(&graph, &crate::drawing::svg::file(&graph));
-    }
-    println!("{explained_by_roles} explained by roles, in up to {longest} lines");
-    assert!(explained_by_roles > 200, "{explained_by_roles}");
+        assert_drawn(&graph, &svg::file(&graph));
+    });
 }
