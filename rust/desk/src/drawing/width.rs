@@ -23,11 +23,11 @@ fn even(number: i32) -> i32 {
 /// The width of a character, in hundredths of the height of the letters.
 fn hundredths(character: char) -> i32 {
     match character {
-        'i' | 'j' | 'l' | '\'' | '|' | '.' | ',' | ':' | ';' | ' ' | '!' | 'I' => 42,
-        'f' | 't' | 'r' | '(' | ')' | '[' | ']' | '-' | '/' | '\\' | '"' | '_' => 48,
+        'i' | 'j' | 'l' | '\'' | '.' | ',' | ' ' | '!' => 42,
+        'f' | 't' | 'r' | '(' | ')' | '[' | ']' | '-' | '/' | '\\' | '"' | ':' | ';' | '|' | 'I' => 48,
         'm' | 'M' | 'W' | '@' | '%' => 110,
         'w' | '#' | '+' | '=' | '<' | '>' | '~' | '&' | '^' => 84,
-        'a'..='z' | '0'..='9' => 66,
+        'a'..='z' | '0'..='9' | '_' => 66,
         '\u{20}'..='\u{7e}' => 82,
         // Latin, Greek, Cyrillic, Hebrew, Arabic; East Asian.
         '\u{a0}'..='\u{6ff}' | '\u{2e80}'..='\u{9fff}' | '\u{ac00}'..='\u{d7af}' | '\u{ff00}'..='\u{ffef}' => 110,
