@@ -1,27 +1,31 @@
 //! `desk within`.
 
 use super::pair::{Answered, Emptiness, Wording};
+use super::pictures::{Pictures, DOT, SVG};
 use super::{read_vocabulary, read_words, written, WORDS};
 use crate::console::Console;
 use crate::display::grouped;
+use crate::explain::Explained;
 use crate::input::Input;
 use crate::question::{Questions, Within};
 use crate::refused;
-use crate::report::{Report, Stop, Style};
+use crate::report::Stop;
 use crate::term::{self, Pair};
 use base::arguments::{Arguments, Flag};
 use base::{Failure, Status};
 
 /// The options.
-pub const FLAGS: &[Flag] = &[WORDS];
+pub const FLAGS: &[Flag] = &[WORDS, DOT, SVG];
 
-const WORDING: Wording = Wording {
+/// How the answer is worded.
+pub const WORDING: Wording = Wording {
     holds: ["A lies within B", "within"],
     fails: ["A does not lie within B", "not within"],
 };
 
 pub fn run(arguments: &Arguments, console: &mut Console) -> Result<Status, Stop> {
     let [path, a, b] = arguments.words(["VOCABULARY", "A", "B"])?;
+    let pictures = Pictures::wanted(arguments)?;
     let mut input = read_vocabulary(path, console.style)?;
     let words = read_words(arguments, console.style)?;
     input.take_names(words.as_ref());
@@ -38,19 +42,24 @@ pub fn run(arguments: &Arguments, console: &mut Console) -> Result<Status, Stop>
         written: written(&input, words.as_ref())?,
         pair,
         answer,
+        survivors: *questions.survivors(),
         empty,
     };
-    Ok(console.answer(report(&answered, console.style, &input)?)?)
+    let explained = explained(&answered)?;
+    let mut report = answered.report(console.style, &input, &WORDING, explained.as_ref());
+    let inputs = [input.id, words.and_then(|words| words.id)];
+    pictures.draw(explained.as_ref(), &inputs, &mut report)?;
+    Ok(console.answer(report)?)
 }
 
-/// The report on an answer.
-pub fn report(answered: &Answered, style: Style, input: &Input) -> Result<Report, Failure> {
-    let [a, _] = answered.pair;
-    if answered.explained().is_some_and(|element| !element.is_in(a as usize)) {
+/// The element that tells the terms apart, where one does: it belongs to A.
+pub fn explained(answered: &Answered) -> Result<Option<Explained<'_>>, Failure> {
+    let explained = answered.explained()?;
+    if explained.as_ref().is_some_and(|element| !element.is_in_first()) {
         let message = "the element does not belong to A, against what is proved";
         return Err(Failure::new(Status::Defect, message));
     }
-    answered.report(style, input, &WORDING)
+    Ok(explained)
 }
 
 /// Why there is no answer where the vocabulary is full.

@@ -48,8 +48,8 @@ pub struct Outcome {
     pub why: String,
     /// More about the reason, in lines.
     pub detail: String,
-    /// The element that tells the terms apart.
-    pub element: Option<Json>,
+    /// The element that tells the terms apart, with the counter-model around it.
+    pub explained: Vec<(&'static str, Json)>,
 }
 
 impl Outcome {
@@ -60,7 +60,7 @@ impl Outcome {
             column: 1,
             why: why.into(),
             detail: String::new(),
-            element: None,
+            explained: Vec::new(),
         }
     }
 
@@ -381,16 +381,15 @@ fn told_apart(known: &mut Known, pair: [u32; 2], element: u16, outcome: Outcome,
         return outcome;
     }
     let mut detail = terms(known, pair);
-    let explained = Explained::new(known.written(), element);
-    let [a, _] = pair;
-    let (belongs, names) = if explained.is_in(a as usize) {
-        ("a", ["A", "B"])
-    } else {
-        ("b", ["B", "A"])
-    };
-    detail.push_str(&explained.text(names));
-    Outcome {
-        element: Some(explained.json(belongs)),
-        ..outcome.with_detail(detail)
+    let survivors = *known.questions.survivors();
+    match Explained::new(known.written(), pair, element, &survivors) {
+        Err(failure) => Outcome::new(Sort::DoesNotHold, failure.status, failure.message),
+        Ok(explained) => {
+            detail.push_str(&explained.text());
+            Outcome {
+                explained: explained.json().into(),
+                ..outcome.with_detail(detail)
+            }
+        }
     }
 }

@@ -171,11 +171,10 @@ fn json(name: &Name, told: Told) -> Vec<(&'static str, Json)> {
         ("verdict", Json::from(verdict(outcome.sort))),
         ("why", Json::from(outcome.why)),
     ];
-    match outcome.element {
-        Some(element) => json.push(("element", element)),
-        None if !outcome.detail.is_empty() => json.push(("detail", Json::from(outcome.detail.trim_end()))),
-        None => {}
+    if outcome.explained.is_empty() && !outcome.detail.is_empty() {
+        json.push(("detail", Json::from(outcome.detail.trim_end())));
     }
+    json.extend(outcome.explained);
     json
 }
 

@@ -35,17 +35,20 @@ pub fn run(arguments: &Arguments, console: &mut Console) -> Result<Status, Stop>
     }
     let mut input = read_vocabulary(path, console.style)?;
     let words = read_words(arguments, console.style)?;
+    input.take_names(words.as_ref());
     let pair = term::pair(&mut input, [a, b])?;
     let claim = Claim {
         pair,
         within: arguments.has("--within"),
     };
     let stop = |halt| claim.stop(halt, console.style, &input);
-    let (answer, empty) = claim.ask(&input.bytes).map_err(stop)?;
+    let mut questions = Questions::new(&input.bytes);
+    let (answer, empty) = claim.ask(&mut questions).map_err(stop)?;
     let answered = Answered {
         written: written(&input, words.as_ref())?,
         pair,
         answer,
+        survivors: *questions.survivors(),
         empty,
     };
     let report = claim.report(&answered, console.style, &input)?;
@@ -97,10 +100,9 @@ impl Claim {
     }
 
     /// The same, and whether nothing can belong to the terms.
-    fn ask(self, vocabulary: &[u8]) -> Result<(Comparison, Emptiness), Halt> {
-        let mut questions = Questions::new(vocabulary);
-        let answer = self.compare(&mut questions)?;
-        let empty = Emptiness::ask(&mut questions, self.pair, answer)?;
+    fn ask(self, questions: &mut Questions) -> Result<(Comparison, Emptiness), Halt> {
+        let answer = self.compare(questions)?;
+        let empty = Emptiness::ask(questions, self.pair, answer)?;
         Ok((answer, empty))
     }
 
@@ -119,10 +121,11 @@ impl Claim {
 
     /// The report on all statements, as of the command that asks this alone.
     fn report(self, answered: &Answered, style: Style, input: &Input) -> Result<Report, Failure> {
-        match self.within {
-            true => within::report(answered, style, input),
-            false => answered.report(style, input, &compare::WORDING),
-        }
+        let (explained, wording) = match self.within {
+            true => (within::explained(answered)?, &within::WORDING),
+            false => (answered.explained()?, &compare::WORDING),
+        };
+        Ok(answered.report(style, input, wording, explained.as_ref()))
     }
 
     /// Why there is no answer, in words.
@@ -166,7 +169,8 @@ fn find(claim: Claim, vocabulary: &Vocabulary, most: Option<u64>) -> Result<Reas
     sets.sort_by_key(|set| (set.count(), set.numbers()));
     let justification = |set: Set| {
         let statements = set.numbers();
-        let (_, empty) = claim.ask(&vocabulary.with_chain(&statements).bytes())?;
+        let copy = vocabulary.with_chain(&statements).bytes();
+        let (_, empty) = claim.ask(&mut Questions::new(&copy))?;
         Ok(Justification { statements, empty })
     };
     Ok(Reasons {
