@@ -91,7 +91,7 @@ const RECORD: &str = "\
 usage: desk record VOCABULARY N [--json]
 
 Prints the bytes and the fields of record N (0 is the header) and what it says. Works for a vocabulary that 'check'
-refuses, too, unless its length is refused.
+refuses, too, unless its length is refused. Of an accepted one N may be a term, as for 'compare', which a record says.
 
 exit status: 0 printed, 2 refused (1: length, 9: past the end)
 ";
@@ -99,14 +99,19 @@ exit status: 0 printed, 2 refused (1: length, 9: past the end)
 const COMPARE: &str = "\
 usage: desk compare VOCABULARY A B [--words TEXT] [--survivors FILE] [--json]
 
-Whether the terms of records A and B, of a vocabulary of at most 12 atoms, are equal in every finite interpretation that
-satisfies the statements. If they are different, an element of such an interpretation tells them apart: the names and
-restrictions that hold at it are listed, and which of the two terms it belongs to. It is said where nothing can belong to
-A, to B or to either in such an interpretation, and where there is none.
+Whether the terms A and B, of a vocabulary of at most 12 atoms, are equal in every finite interpretation that satisfies the
+statements. If they are different, an element of such an interpretation tells them apart: the names and restrictions that
+hold at it are listed, and which of the two terms it belongs to. It is said where nothing can belong to A, to B or to either
+in such an interpretation, and where there is none.
+
+A and B are each the number of a record, 4 or '#4'; a name, c7 or what it is called; or the text of a term, as
+'ObjectUnionOf(c1 #4)'. A term that no record says is added to a copy, by the library's own writer; the file stays as it
+is. A restriction among what is added is one atom more. A name has to be there: it is not added.
 
   --words TEXT       the text of the vocabulary, whose comments say what each record is called
   --survivors FILE   writes the 512 bytes that describe the interpretation: bit t mod 8 of byte t div 8 is 1 for a
-                     survivor t (nothing is written where the input is refused)
+                     survivor t (nothing is written where the input is refused); where a restriction is added, it is
+                     the last atom, as if its record were there
 
 exit status: 0 equal, 1 different, 2 refused
 ";
@@ -114,9 +119,9 @@ exit status: 0 equal, 1 different, 2 refused
 const WITHIN: &str = "\
 usage: desk within VOCABULARY A B [--words TEXT] [--json]
 
-Whether the term of record A lies within the term of record B, of a vocabulary of at most 12 atoms, in every finite
-interpretation that satisfies the statements. No script is needed. If it does not, an element of A outside B is named and
-explained as by 'compare'.
+Whether the term A lies within the term B, of a vocabulary of at most 12 atoms, in every finite interpretation that
+satisfies the statements. The terms are given as for 'compare'. No script is needed. If it does not, an element of A outside
+B is named and explained as by 'compare'.
 
 It is asked of the proved comparison, as whether \"A and B\" is equal to A: of a copy of the vocabulary with the record
 \"A and B\" at its end, or of a record that says it already (or \"A or B\", compared with B). That this comes to the same is
@@ -173,9 +178,9 @@ const COLUMNS: &str = "\
 usage: desk columns VOCABULARY [OWNER] [--words TEXT] [--json]
 
 Lists the columns that the steps of a script may use: for each owner, or for record OWNER alone (0 is the query), its
-columns by number, and in each the literals by position. C5(x) says that x is in the term of record 5, r0(x,y) that the
-pair is in role 0, f7 is the function of record 7, and a the constant. Where a y stands, a step has to give a term for
-it. A name has no columns, nor has a statement off the chain.
+columns by number, and in each the literals by position. OWNER may be a term, as for 'compare', which a record says. C5(x)
+says that x is in the term of record 5, r0(x,y) that the pair is in role 0, f7 is the function of record 7, and a the
+constant. Where a y stands, a step has to give a term for it. A name has no columns, nor has a statement off the chain.
 
   --words TEXT   the text of the vocabulary, whose comments say what each record is called
 
@@ -188,6 +193,7 @@ usage: desk assemble TEXT -o FILE [--force] [--json]
 Makes the bytes of a vocabulary or a script from its text ('desk help texts'; 'desk show' prints it). A vocabulary that
 the library refuses is not written, nor is one that has a fault in its text: all faults are told, each with its line and
 column. Of a script the length and the header are checked here (13 and 14); the rest takes its vocabulary: 'desk verify'.
+Terms that stand in a line, and that no line says, are made before it: how many, and which names are among them, is said.
 
   -o FILE, --output FILE   the file to write, which may not be TEXT itself under any name; '-' is standard output. A
                            file is replaced whole or not at all
@@ -227,9 +233,9 @@ is not added: of FILE 1 to 8 and 28; 27 if it has 512 records; of the new record
   term KIND A B                    by the number of the kind, as 'term 5 1 2'; what it does not use may be left out
   term 'ObjectUnionOf(c1 #2)'      a whole term, as texts have it; so is a statement: 'SubClassOf(c1 #2)'
 
-T, A and B are terms: 4 or '#4' is the term of record 4; c7, or a term written out, stands for the first record that says
-it, as in texts ('desk help texts'). There has to be one: an operand that no record says is not added by the way, but
-told. A role is r0 or 0. Shells take '#' and parentheses for their own where they are not quoted.
+T, A and B are terms: 4 or '#4' is the term of record 4; c7, what c7 is called, or a term written out, stands for the first
+record that says it, as in texts ('desk help texts'). There has to be one: an operand that no record says is not added by
+the way, but told. A role is r0 or 0. Shells take '#' and parentheses for their own where they are not quoted.
 
 Where an earlier record says the same as the new one, that is said. Runs at once on one FILE add one after the other. If
 another program writes to it meanwhile, it stays as that has left it, and nothing is added (73).
@@ -271,25 +277,31 @@ const TEXTS: &str = "\
 The texts of vocabularies and scripts
 
 A line for each record, the header first; record numbers before the lines may be left out. '--' begins a comment, which
-says what people call the record. Blanks, empty lines, CR LF line ends and a byte order mark do not matter. Numbers are 0
-to 65535. A text has at most 1,048,576 bytes.
+says what people call the record of the line. Blanks, empty lines, CR LF line ends and a byte order mark do not matter.
+Numbers are 0 to 65535. A text has at most 1,048,576 bytes.
 
   vocabulary roles N              the header: the number of roles; it is of edition 2
   vocabulary roles N edition 1    the same of edition 1; 'edition 2' may be said too
   c7, owl:Thing, owl:Nothing      the name labelled 7, top, bottom
   ObjectComplementOf(T)           not
-  ObjectIntersectionOf(T T)       and
-  ObjectUnionOf(T T)              or
+  ObjectIntersectionOf(T T ..)    and; of three or more, the first two make one, which makes one with the next
+  ObjectUnionOf(T T ..)           or, in the same way
   ObjectSomeValuesFrom(r0 T)      some, of role 0
   ObjectAllValuesFrom(r0 T)       all, of role 0
   SubClassOf(T T)                 a statement: the first lies within the second
+  EquivalentClasses(T T ..)       statements: each lies within the next, and the last within the first
+  DisjointClasses(T T ..)         statements: each lies within ObjectComplementOf(T) of each later one
+  ObjectPropertyDomain(r0 T)      SubClassOf(ObjectSomeValuesFrom(r0 owl:Thing) T)
+  ObjectPropertyRange(r0 T)       SubClassOf(owl:Thing ObjectAllValuesFrom(r0 T))
   raw KIND SECOND A B NEXT        any record, by its fields; the header as 'vocabulary raw ..'
   name c7 \"returned sample\"       what the name labelled 7 is called; these lines make no record, and may stand anywhere
   role r0 \"is accompanied by\"     what role 0 is called
 
 T is #4, the term of record 4, or a term written out, to a nesting of 16, which stands for the first earlier record that
-says it: there has to be one. In a term \"returned sample\" stands for the name, and \"is accompanied by\" for the role, that
-is called so. In the quotes \\\" is a double quote, \\\\ a backslash, \\u{e4} a character by its number.
+says it. If there is none, one is made right before the line: inner terms before outer ones, the left before the right.
+'desk assemble' says how many were made. The number before a line is that of its own record, or of its first statement.
+In a term \"returned sample\" stands for the name, and \"is accompanied by\" for the role, that is called so. In the quotes
+\\\" is a double quote, \\\\ a backslash, \\u{e4} a character by its number.
 
   script #4 within #3             the header: the query, by records of the vocabulary
   a, f6(T)                        the constant, which has to be record 1; the function of record 6 of the vocabulary
@@ -320,12 +332,13 @@ A vocabulary and a script for it:
 const TABLES: &str = "\
 Filed tables, for 'desk recheck'
 
-A line is VOCABULARY A B CLAIM. A and B are record numbers. The claim is one of
+A line is VOCABULARY A B CLAIM. A and B are terms, as for 'desk compare'. The claim is one of
 
   equal            the terms A and B are equal
   different        they are not
   within           A lies within B, as the comparison tells
-  within SCRIPT    A lies within B by a script, which is accepted and has the query \"A within B\"
+  within SCRIPT    A lies within B by a script, which is accepted and has the query \"A within B\"; of terms that records
+                   say, since a script names records
 
 in every finite interpretation that satisfies the vocabulary's statements. The first three take at most 12 atoms.
 
@@ -333,12 +346,14 @@ in every finite interpretation that satisfies the vocabulary's statements. The f
   v.vocabulary 4 3 different
   v.vocabulary 4 3 within
   v.vocabulary 4 3 within four-within-three.script
+  v.vocabulary ObjectIntersectionOf(c1 c2) c3 within
 
 Files are named relative to the table's directory ('-': the current one), as bytes or as texts; only regular files are
 read, and '-' is a file's name. Fields are set apart by blanks, or by tabs if there is one between them (then names may
-have blanks). Empty lines and lines that begin with '--' are left out. CR LF line ends and a byte order mark do not
-matter. A line has at most 65,536 bytes. One that is longer, is no UTF-8 or has a byte 0 is malformed; the others are
-judged. A table may have any length; one without lines holds.
+have blanks). In A and B blanks within parentheses or quotation marks set nothing apart. Empty lines and lines that begin
+with '--' are left out. CR LF line ends and a byte order mark do not matter. A line has at most 65,536 bytes. One that is
+longer, is no UTF-8 or has a byte 0 is malformed; the others are judged. A table may have any length; one without lines
+holds.
 
 A line comes out as one of: it holds; it holds only because nothing satisfies the statements, or because nothing can
 belong to the terms; it does not hold; an input is refused; the line is malformed; a file cannot be read.

@@ -18,6 +18,7 @@ use std::ffi::OsStr;
 const LISTED: usize = 20;
 
 /// A vocabulary or a script.
+#[derive(Clone)]
 pub struct Input {
     /// The name by which messages call it.
     pub name: Name,
@@ -32,6 +33,8 @@ pub struct Input {
     length: Length,
     /// Of a text, the line of each record.
     lines: Option<Vec<Line>>,
+    /// The bytes as they were given, where terms were added to them for a question.
+    given: Option<Vec<u8>>,
 }
 
 impl Input {
@@ -45,6 +48,7 @@ impl Input {
             names: assembled.names,
             beside: None,
             lines: Some(assembled.lines),
+            given: None,
         }
     }
 
@@ -58,6 +62,7 @@ impl Input {
             beside: None,
             length: Length::of(&[]),
             lines: None,
+            given: None,
         }
     }
 
@@ -80,6 +85,26 @@ impl Input {
             beside.renew(&self.bytes, bytes)?;
         }
         files::renew(path, &self.bytes, bytes)
+    }
+
+    /// Gives the bytes of a copy to which terms were added for a question.
+    pub fn extend(&mut self, bytes: Vec<u8>) {
+        let given = std::mem::replace(&mut self.bytes, bytes);
+        self.given.get_or_insert(given);
+    }
+
+    /// The bytes without what was added for a question.
+    pub fn given(&self) -> &[u8] {
+        self.given.as_deref().unwrap_or(&self.bytes)
+    }
+
+    /// The records that were made for lines which have their terms as operands, where there is a text.
+    pub fn made(&self) -> Vec<u16> {
+        let lines = self.lines.iter().flatten().enumerate();
+        lines
+            .filter(|(_, line)| line.is_made)
+            .map(|(number, _)| number as u16)
+            .collect()
     }
 
     /// The comment on the line of each record, where there is a text.
@@ -107,7 +132,7 @@ impl Input {
     /// Whether a text says this vocabulary, be it with a header of the other edition: filed ones have edition 1, and a text
     /// that says none makes edition 2.
     pub fn is_said_by(&self, text: &Input) -> bool {
-        in_first_edition(&self.bytes) == in_first_edition(&text.bytes)
+        in_first_edition(self.given()) == in_first_edition(&text.bytes)
     }
 
     /// The name, with line and column where they are known.
@@ -242,6 +267,7 @@ fn of_bytes(source: Source) -> Input {
         beside: None,
         length: source.length,
         lines: None,
+        given: None,
     }
 }
 

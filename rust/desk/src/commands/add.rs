@@ -7,14 +7,14 @@ use crate::input::{self, Input};
 use crate::json::Json;
 use crate::refused;
 use crate::report::{Report, Stop, Style};
+use crate::term;
 use crate::text::addition::{self, Addition, Unfit};
-use crate::text::cursor::{quoted, Fault};
 use crate::text::names::Names;
 use crate::text::vocabulary::Written;
 use base::arguments::Arguments;
 use base::vocabulary::{Record, Vocabulary, STATEMENT_KIND};
 use base::{Failure, Status};
-use judge::{Builder, Refusal};
+use judge::Refusal;
 use std::ffi::OsStr;
 
 /// How the words of an addition are read.
@@ -29,7 +29,7 @@ pub fn run(arguments: &Arguments, console: &mut Console) -> Result<Status, Stop>
     let advice = "add a line to it, or make a vocabulary of it ('desk assemble')";
     let (input, _opened) = input::vocabulary_to_change(path, advice)?;
     let style = console.style;
-    let mut builder = begin(&input.bytes).map_err(|refusal| refused::of_vocabulary(style, &input, refusal))?;
+    let mut builder = term::writer(&input.bytes).map_err(|refusal| refused::of_vocabulary(style, &input, refusal))?;
     let addition = read(&input, reading, &words, style)?;
     let added = match addition {
         Addition::Term(kind, a, b) => builder.term(kind, a, b),
@@ -58,51 +58,13 @@ fn asked(arguments: &Arguments) -> Result<(&OsStr, Reading, Vec<String>), Failur
     Ok((path, reading, words.collect()))
 }
 
-/// The library's writer over these bytes, with room for whatever may follow them.
-fn begin(bytes: &[u8]) -> Result<Builder<Vec<u8>>, Refusal> {
-    let mut buffer = bytes.to_vec();
-    buffer.resize(bytes.len().max(judge::VOCABULARY_BYTES), 0);
-    Builder::resume(buffer, bytes.len())
-}
-
 /// What the words say, of a vocabulary that is accepted.
 fn read(input: &Input, reading: Reading, words: &[String], style: Style) -> Result<Addition, Stop> {
     let words: Vec<&str> = words.iter().map(String::as_str).collect();
     reading(&Vocabulary::read(&input.bytes), &input.names, &words).map_err(|unfit| match unfit {
         Unfit::Words(failure) => failure.into(),
-        Unfit::Faults(faults) => faulty(style, input, &faults).into(),
+        Unfit::Faults(faults) => term::faulty(style, input, &faults).into(),
     })
-}
-
-/// The faults of texts on the command line.
-fn faulty(style: Style, input: &Input, faults: &[(String, Fault)]) -> Report {
-    let word = style.paint(Status::Refused, "fault");
-    let line = |(text, fault): &(String, Fault)| {
-        let Fault { column, message, .. } = fault;
-        format!(
-            "{}: {word} in {}, column {column}: {message}\n",
-            input.name,
-            quoted(text)
-        )
-    };
-    let fields = |(text, fault): &(String, Fault)| {
-        [
-            ("text", Json::from(text.as_str())),
-            ("line", Json::from(fault.line)),
-            ("column", Json::from(fault.column)),
-            ("message", Json::from(fault.message.as_str())),
-        ]
-    };
-    let mut json = vec![
-        ("file", Json::from(input.name.as_str())),
-        ("verdict", Json::from("faulty")),
-    ];
-    json.extend(faults.first().into_iter().flat_map(fields));
-    json.push((
-        "faults",
-        Json::list(faults.iter().map(|fault| Json::object(fields(fault)))),
-    ));
-    Report::new(Status::Refused, faults.iter().map(line).collect(), json)
 }
 
 /// The refusal of an addition, with what is wrong with the new record.

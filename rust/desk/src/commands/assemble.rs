@@ -1,5 +1,6 @@
 //! `desk assemble`.
 
+use super::made::Made;
 use super::refused_script;
 use crate::beside::{self, Kept};
 use crate::console::Console;
@@ -49,7 +50,7 @@ pub fn run(arguments: &Arguments, console: &mut Console) -> Result<Status, Stop>
     beside::check(output, &input.names, &inputs)?;
     files::write(output, &input.bytes, &inputs)?;
     let kept = beside::keep(output, &input.bytes, &input.names, &inputs)?;
-    let mut report = written(&Name::new(output), kind, input.bytes.len());
+    let mut report = written(&Name::new(output), kind, &input);
     if let Some(kept) = kept {
         tell_names(&mut report, &Name::new(&beside::path_of(output)), kept, &input.names);
     }
@@ -98,20 +99,27 @@ fn built(vocabulary: &Vocabulary) -> Option<Vec<u8>> {
     Some(builder.as_bytes().to_vec())
 }
 
-fn written(output: &Name, kind: Kind, bytes: usize) -> Report {
-    let records = bytes
+fn written(output: &Name, kind: Kind, input: &Input) -> Report {
+    let records = input.bytes.len()
         / match kind {
             Kind::Script => judge::SCRIPT_RECORD_BYTES,
             Kind::Vocabulary => judge::RECORD_BYTES,
         };
-    let word = kind.word();
-    let text = format!("{output}: a {word} of {}\n", counted(records as u64, "record"));
-    let json = vec![
+    let (word, made) = (kind.word(), Made::of(input));
+    let made_words = made.words().map(|words| format!("; {words}")).unwrap_or_default();
+    let text = format!(
+        "{output}: a {word} of {}{made_words}\n",
+        counted(records as u64, "record")
+    );
+    let mut json = vec![
         ("file", Json::from(output.as_str())),
         ("verdict", Json::from("written")),
         ("kind", Json::from(word)),
         ("records", Json::from(records)),
     ];
+    if kind == Kind::Vocabulary {
+        json.push(made.json());
+    }
     Report::new(Status::Holds, text, json)
 }
 

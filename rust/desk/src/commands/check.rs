@@ -1,5 +1,6 @@
 //! `desk check`.
 
+use super::made::Made;
 use super::{contradiction, each, read_vocabulary};
 use crate::console::Console;
 use crate::display::counted;
@@ -97,11 +98,15 @@ fn accepted(style: Style, input: &Input, tally: &Tally) -> Report {
     if contradictory == Some(true) {
         text.push_str(&contradiction(style));
     }
+    let made = Made::of(input);
+    let made_words = made.words().map(|words| format!("  {words}\n"));
+    text.push_str(made_words.as_deref().unwrap_or_default());
     let mut json = vec![
         ("file", Json::from(input.name.as_str())),
         ("verdict", Json::from("accepted")),
     ];
     json.extend(tally.json());
     json.push(("contradictory", Json::from(contradictory)));
+    json.extend(made_words.map(|_| made.json()));
     Report::new(Status::Holds, text, json)
 }

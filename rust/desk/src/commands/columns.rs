@@ -10,8 +10,9 @@ use crate::input::Input;
 use crate::json::Json;
 use crate::refused;
 use crate::report::{Report, Stop};
+use crate::term;
 use crate::text::vocabulary::Written;
-use base::arguments::{number, Arguments, Flag};
+use base::arguments::{Arguments, Flag};
 use base::vocabulary::STATEMENT_KIND;
 use base::{Failure, Status};
 use std::collections::BTreeSet;
@@ -29,20 +30,20 @@ pub fn run(arguments: &Arguments, console: &mut Console) -> Result<Status, Stop>
     }
     let written = written(&input, words.as_ref())?;
     let owners = match owner {
-        Some(owner) => vec![existing(&input, &written, owner)?],
+        Some(owner) => vec![existing(&input, &written, term::existing(&input, owner, "OWNER")?)?],
         None => (0..written.vocabulary().records.len() as u16).collect(),
     };
     Ok(console.answer(listed(&input, &written, owners))?)
 }
 
 /// VOCABULARY, and OWNER where it is given.
-fn read_arguments(arguments: &Arguments) -> Result<(&OsStr, Option<u32>), Failure> {
+fn read_arguments(arguments: &Arguments) -> Result<(&OsStr, Option<&OsStr>), Failure> {
     if arguments.all().len() < 2 {
         let [path] = arguments.words(["VOCABULARY"])?;
         return Ok((path, None));
     }
     let [path, owner] = arguments.words(["VOCABULARY", "OWNER"])?;
-    Ok((path, Some(number(owner, "OWNER")?)))
+    Ok((path, Some(owner)))
 }
 
 /// A record number, if the vocabulary has it.

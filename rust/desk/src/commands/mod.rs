@@ -7,6 +7,7 @@ mod classify;
 mod columns;
 mod compare;
 mod edition;
+mod made;
 mod new;
 mod pair;
 mod recheck;
@@ -144,7 +145,8 @@ fn read_script(path: &OsStr, style: Style) -> Result<Input, Stop> {
 
 /// A vocabulary written out, with the words of its text: its own, or the one that --words names.
 fn written(input: &Input, words: Option<&Input>) -> Result<Written, Failure> {
-    let written = Written::new(Vocabulary::read(&input.bytes)).with_names(input.names_or(words).clone());
+    let written = Written::new(Vocabulary::read(&input.bytes)).of_given(input.given());
+    let written = written.with_names(input.names_or(words).clone());
     let comments = match words {
         Some(text) if !input.is_said_by(text) => {
             let message = format!("{}: is not the text of {}", text.name, input.name);

@@ -45,6 +45,7 @@ impl Answered {
         ];
         json.extend(self.heading_json());
         json.extend(self.empty.json());
+        json.extend(self.added_json());
         if let Some(explained) = self.explained() {
             let in_a = explained.is_in_first(self.pair)?;
             json.push(("element", explained.json(if in_a { "a" } else { "b" })));
@@ -68,6 +69,16 @@ impl Answered {
         let rounds = counted(self.answer.rounds.into(), "round");
         let [a, b] = self.pair.map(|number| self.written.term(number as u16));
         format!("{survivors}, {rounds}\n  A: {a}\n  B: {b}\n")
+    }
+
+    /// The terms that were added for the question, where some were, for programs.
+    fn added_json(&self) -> Option<(&'static str, Json)> {
+        let added: Vec<Json> = self
+            .written
+            .added()
+            .map(|number| self.written.term_json(number))
+            .collect();
+        (!added.is_empty()).then(|| ("added", Json::list(added)))
     }
 
     /// The same for programs.

@@ -6,15 +6,16 @@ use crate::input::Input;
 use crate::json::Json;
 use crate::refused;
 use crate::report::{Report, Stop};
+use crate::term;
 use crate::text::vocabulary::Written;
-use base::arguments::{number, Arguments};
+use base::arguments::Arguments;
 use base::vocabulary::{Record, Vocabulary};
 use base::Status;
 
 pub fn run(arguments: &Arguments, console: &mut Console) -> Result<Status, Stop> {
     let [path, word] = arguments.words(["VOCABULARY", "N"])?;
-    let number = number(word, "N")?;
     let input = read_vocabulary(path, console.style)?;
+    let number = term::existing(&input, word, "N")?;
     let report = match judge::record(&input.bytes, number) {
         Err(refusal) => refused::report(console.style, &input, refusal, None),
         Ok(part) => found(&input, number, part),

@@ -4,17 +4,15 @@
 #[cfg(test)]
 mod tests;
 
+use super::axioms::{read_axiom, AXIOMS, WITHIN};
 use super::cursor::{Cursor, Fault};
 use super::names::Names;
 use super::quotes::split_comment;
-use super::said::Said;
-use super::vocabulary::{operand, pair, raw_says, read_label, read_role, read_term, read_word, shape, NO_TERM};
+use super::said::{Said, Unsaid};
+use super::terms::{operand, read_label, read_role, read_term, read_word, said_by, shape, Begun, NO_TERM};
 use base::arguments::digits;
 use base::vocabulary::Vocabulary;
 use base::Failure;
-
-/// The word of a statement.
-const STATEMENT: &str = "SubClassOf";
 
 /// A record that is to be added.
 #[derive(Clone, Copy, Debug, PartialEq, Eq)]
@@ -56,16 +54,27 @@ pub fn term(vocabulary: &Vocabulary, names: &Names, words: &[&str]) -> Result<Ad
 pub fn statement(vocabulary: &Vocabulary, names: &Names, words: &[&str]) -> Result<Addition, Unfit> {
     let mut reader = Reader::new(vocabulary, names);
     let addition = match words {
-        [text] if Cursor::new(1, text).expect(STATEMENT).is_ok() => reader.whole_statement(text),
+        [text] if Cursor::new(1, text).expect(WITHIN).is_ok() => reader.whole_statement(text),
         [a, b] => {
             let term = Some(Field::Term { nesting: 1 });
             Addition::Statement(reader.field(a, term), reader.field(b, term))
         }
         [_, _, extra, ..] => return Err(too_many(extra).into()),
+        [text] if begins_as_axiom(text) => return Err(Failure::usage(NOT_ONE).into()),
         [_] => return Err(missing("B").into()),
         [] => return Err(missing("A").into()),
     };
     reader.finish(addition)
+}
+
+/// What is said of an axiom that is no SubClassOf(..).
+const NOT_ONE: &str =
+    "one statement is added, as SubClassOf(..); other axioms stand for some, which are added one by one";
+
+/// Whether a text begins with the word of an axiom.
+fn begins_as_axiom(text: &str) -> bool {
+    let line = Cursor::new(1, text);
+    AXIOMS.iter().any(|word| line.clone().keyword(word))
 }
 
 /// What a field of a term's record holds.
@@ -102,12 +111,8 @@ struct Reader<'a> {
 impl Reader<'_> {
     /// A reader of words that name records of a vocabulary.
     fn new<'a>(vocabulary: &Vocabulary, names: &'a Names) -> Reader<'a> {
-        let mut said = Said::in_records();
-        for (number, record) in vocabulary.numbered() {
-            said.add(number as u16, raw_says(record));
-        }
         Reader {
-            said,
+            said: said_by(vocabulary, Unsaid::NoRecord),
             names,
             faults: Vec::new(),
         }
@@ -122,9 +127,9 @@ impl Reader<'_> {
     }
 
     /// What a word says, all of which has to be read. What is wrong with it is kept.
-    fn read<T: Default>(&mut self, text: &str, read: impl FnOnce(&mut Cursor, &Said) -> Result<T, Fault>) -> T {
+    fn read<T: Default>(&mut self, text: &str, read: impl FnOnce(&mut Cursor, &mut Said) -> Result<T, Fault>) -> T {
         let mut line = Cursor::new(1, text).with_names(self.names);
-        let value = read(&mut line, &self.said).and_then(|value| line.end().map(|()| value));
+        let value = read(&mut line, &mut self.said).and_then(|value| line.end().map(|()| value));
         let value = value.unwrap_or_else(|fault| {
             line.stop(fault);
             T::default()
@@ -190,8 +195,14 @@ impl Reader<'_> {
     /// A term by its whole text.
     fn whole_term(&mut self, text: &str) -> Addition {
         let (kind, (a, b)) = self.read(text, |line, said| {
-            let word = read_word(line, &[], NO_TERM)?;
-            let term = read_term(line, said, 1, shape(word))?;
+            let place = line.here();
+            let shape = shape(read_word(line, &[], NO_TERM)?);
+            let begun = Begun {
+                place,
+                nesting: 1,
+                shape,
+            };
+            let term = read_term(line, said, begun)?;
             Ok((term.kind, term.numbers()))
         });
         Addition::Term(kind, a, b)
@@ -199,21 +210,21 @@ impl Reader<'_> {
 
     /// A statement by its whole text.
     fn whole_statement(&mut self, text: &str) -> Addition {
-        let (a, b) = self.read(text, |line, said| {
-            line.expect(STATEMENT)?;
-            let term = |line: &mut Cursor| operand(line, said, 1);
-            pair(line, term, term)
+        let statements = self.read(text, |line, said| {
+            line.expect(WITHIN)?;
+            read_axiom(line, said, WITHIN)
         });
+        let (a, b) = statements.first().copied().unwrap_or_default();
         Addition::Statement(a.unwrap_or(0), b.unwrap_or(0))
     }
 }
 
 /// That a text has a comment, which would be lost.
-fn comment(text: &str) -> Option<Fault> {
+pub fn comment(text: &str) -> Option<Fault> {
     let (before, comment) = split_comment(text);
     comment?;
     let column = before.chars().count() + 1;
-    Some(Fault::at(1, column, "the bytes of a vocabulary have no comments"))
+    Some(Fault::at(1, column, "no comment is expected here"))
 }
 
 fn missing(name: &str) -> Failure {

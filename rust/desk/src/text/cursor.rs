@@ -76,13 +76,14 @@ impl<'a> Cursor<'a> {
         Cursor { lacks_names, ..self }
     }
 
-    /// Where the line stands, and the comment at its end.
+    /// Where the line begins, and the comment at its end.
     pub fn place(&self) -> Line {
-        let Fault { line, column, .. } = self.fault("");
+        let Fault { line, column, .. } = self.fault_at(Here(self.line.trim().len()), "");
         Line {
             number: line,
             column,
             comment: self.comment.to_string(),
+            is_made: false,
         }
     }
 

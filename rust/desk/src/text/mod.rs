@@ -2,16 +2,20 @@
 //! (docs/DESK.md).
 
 pub mod addition;
+mod axioms;
 pub mod cursor;
 pub mod names;
 pub mod naming;
+mod numbers;
 pub mod quotes;
 mod records;
-mod said;
+pub mod said;
 pub mod script;
+pub mod terms;
 #[cfg(test)]
 mod tests;
 pub mod vocabulary;
+pub mod words;
 
 use base::vocabulary::Vocabulary;
 use cursor::{Cursor, Fault};
@@ -64,6 +68,19 @@ pub struct Line {
     pub column: usize,
     /// The comment at its end; empty where there is none.
     pub comment: String,
+    /// Whether the record was made for the line, which has its term as an operand.
+    pub is_made: bool,
+}
+
+impl Line {
+    /// The same for a record that was made for the line: what people call the line's own is not what they call this.
+    fn of_made(&self) -> Line {
+        Line {
+            comment: String::new(),
+            is_made: true,
+            ..*self
+        }
+    }
 }
 
 /// What a text stands for, or what is wrong with it: at least one fault, in the order of the lines.
@@ -74,33 +91,33 @@ pub fn assemble(text: &str) -> Result<Assembled, Vec<Fault>> {
         return Err(vec![Fault::at(1, 1, message)]);
     };
     let kind = read_kind(&mut header).map_err(|fault| vec![fault])?;
-    let (bytes, names) = match kind {
+    let ((bytes, lines), names) = match kind {
         Kind::Vocabulary => read_vocabulary(header, text)?,
         Kind::Script => (script::read(header, cursors)?, Names::default()),
     };
     Ok(Assembled {
         kind,
         bytes,
-        lines: record_lines(text, kind).map(|line| line.place()).collect(),
+        lines,
         names,
     })
 }
 
-/// The bytes of a vocabulary's text, of whose header the first word is taken, and what its names are called. All lines that
-/// give a name are read before the others, which may use it.
-fn read_vocabulary(header: Cursor, text: &str) -> Result<(Vec<u8>, Names), Vec<Fault>> {
-    let giving = lines(text).skip(1).filter(|line| naming::sort_of(line).is_some());
-    let naming = Naming::read(giving);
+/// A vocabulary's text, of whose header the first word is taken: its bytes, the line of each record, and what its names are
+/// called. All lines that give a name are read before the others, which may use it.
+fn read_vocabulary(header: Cursor, text: &str) -> Result<((Vec<u8>, Vec<Line>), Names), Vec<Fault>> {
+    let after_header = || lines(text).skip(1);
+    let naming = Naming::read(after_header().filter(|line| naming::sort_of(line).is_some()));
     let lacks_names = !naming.faults.is_empty();
-    let others = record_lines(text, Kind::Vocabulary).skip(1);
+    let others = after_header().filter(|line| naming::sort_of(line).is_none());
     let others = others.map(|line| line.with_names(&naming.names).lacking_names(lacks_names));
     let read = vocabulary::read(header, others);
     let strangers = match &read {
-        Ok(bytes) => naming.strangers(&Vocabulary::read(bytes)),
+        Ok((bytes, _)) => naming.strangers(&Vocabulary::read(bytes)),
         Err(_) => Vec::new(),
     };
     match (read, [&naming.faults[..], &strangers].concat()) {
-        (Ok(bytes), faults) if faults.is_empty() => Ok((bytes, naming.names)),
+        (Ok(read), faults) if faults.is_empty() => Ok((read, naming.names)),
         (read, faults) => Err(records::merged(read.err().unwrap_or_default(), faults)),
     }
 }
@@ -115,14 +132,6 @@ pub fn names(text: &str, vocabulary: &Vocabulary) -> Result<Names, Fault> {
         Some(fault) => Err(fault),
         None => Ok(naming.names),
     }
-}
-
-/// The lines that say something, one for each record. Of a vocabulary's those that give a name make none.
-fn record_lines(text: &str, kind: Kind) -> impl Iterator<Item = Cursor<'_>> {
-    let makes_record = move |line: &Cursor| kind == Kind::Script || naming::sort_of(line).is_none();
-    let numbered = lines(text).enumerate();
-    let kept = numbered.filter(move |(number, line)| *number == 0 || makes_record(line));
-    kept.map(|(_, line)| line)
 }
 
 /// Takes the first word of a text, which says what it is of. Where it is no such word, what follows it may say that.

@@ -67,7 +67,6 @@ impl Names {
     }
 
     /// The label of the name that is called so.
-    #[allow(dead_code)] // for words of the command line
     pub fn label_of(&self, called: &str) -> Option<u16> {
         self.find(Sort::Name, called)
     }

@@ -6,7 +6,7 @@ mod tests;
 
 use super::cursor::{quoted, Cursor, Fault};
 use super::names::{has, Names, Sort, SORTS};
-use super::vocabulary::{is_word, read_word, NO_RECORD, OTHERS};
+use super::vocabulary::{is_word, read_beginning};
 use crate::display::counted;
 use base::vocabulary::Vocabulary;
 
@@ -28,7 +28,7 @@ pub struct Naming {
 pub fn sort_of(line: &Cursor) -> Option<Sort> {
     let mut ahead = line.clone();
     skip_number(&mut ahead);
-    let word = read_word(&mut ahead, &OTHERS, NO_RECORD).ok()?;
+    let word = read_beginning(&mut ahead).ok()?;
     SORTS.into_iter().find(|sort| sort.word() == word)
 }
 

@@ -1,11 +1,15 @@
-//! The lines of a text, one for each record: all of them are read, faulty or not.
+//! The lines of a text, with the records that they make: all of them are read, faulty or not.
 
 use super::cursor::{Cursor, Fault};
-use super::said::{Said, Says};
+use super::numbers::{take_number, Numbers};
+use super::said::{Said, Says, Term};
+use super::Line;
 use crate::display::grouped;
 
 /// The most faults that are kept. At the next, reading ends.
 pub const FAULTS: usize = 1_000;
+/// The most records, whose numbers have 16 bits.
+const RECORDS: usize = 1 << 16;
 
 /// A record as it was read: whether it is on the chain, the link where one is written, and what it says.
 pub struct Linked<T> {
@@ -27,6 +31,13 @@ impl<T> Linked<T> {
             on: false,
             link: None,
             says,
+        }
+    }
+
+    /// Leaves open what its term is made of: numbers show that an operand may not be the one that was meant.
+    fn leave_open(&mut self) {
+        if let Says::Term(term) = self.says {
+            self.says = Says::Term(Term::of_kind(term.kind));
         }
     }
 }
@@ -58,80 +69,43 @@ impl From<Fault> for Unread {
     }
 }
 
+/// The records of a line. There is at least one.
+pub type Records<T> = Result<Vec<Linked<T>>, Unread>;
+
 /// How the records of a text are read.
 pub struct Form<T> {
     /// Reads the header, of which the first word is taken.
     pub header: fn(&mut Cursor) -> Result<Linked<T>, Unread>,
-    /// Reads a record, by what the lines before it say.
-    pub record: fn(&mut Cursor, &Said) -> Result<Linked<T>, Unread>,
+    /// Reads a line, by what is said before it.
+    pub record: fn(&mut Cursor, &mut Said) -> Records<T>,
+    /// The record of a term that is made.
+    pub made: fn(Term) -> T,
     /// Gives the record of a number its link.
     pub set_link: fn(&mut T, usize, u16),
 }
 
 impl<T: Default> Form<T> {
-    /// The records of a text, or its faults in the order of the lines. After a faulty line reading goes on.
+    /// The records of a text, each with its line, or the faults in the order of the lines. After a faulty line reading goes on.
     pub fn read<'a>(
         &self,
+        said: Said,
         mut header: Cursor<'a>,
         lines: impl Iterator<Item = Cursor<'a>>,
-    ) -> Result<Vec<T>, Vec<Fault>> {
-        let (mut said, mut numbers_off) = (Said::default(), 0);
-        let mut all = vec![self.line(&mut header, 0, &mut said)];
+    ) -> Result<(Vec<T>, Vec<Line>), Vec<Fault>> {
+        let mut reading = Reading::new(self, said);
+        reading.header(&mut header);
         let mut faults = header.into_faults();
         for mut line in lines {
-            let Ok(number) = u16::try_from(all.len()) else {
-                faults.push(line.fault("this is one record too many; their numbers end at 65535"));
-                break;
-            };
-            own_number(&mut line, number, &mut numbers_off);
-            all.push(self.line(&mut line, number, &mut said));
+            let has_room = reading.line(&mut line);
             faults.append(&mut line.into_faults());
-            if faults.len() > FAULTS {
+            if !has_room || faults.len() > FAULTS {
                 break;
             }
         }
         if faults.is_empty() {
-            Ok(self.chained(all))
+            Ok((self.chained(reading.all), reading.lines))
         } else {
             Err(shortened(faults))
-        }
-    }
-
-    /// Reads the line of a record, notes what is wrong with it, and adds what it says. A line that cannot be read has a
-    /// record, too, so that the numbers of later ones stay right.
-    fn line(&self, line: &mut Cursor, number: u16, said: &mut Said) -> Linked<T> {
-        let read = match number {
-            0 => (self.header)(line),
-            _ => (self.record)(line, said),
-        };
-        let linked = match (read, line.end()) {
-            (Ok(linked), Ok(())) => linked,
-            (Ok(linked), Err(fault)) => {
-                line.stop(fault);
-                self.rest(line.clone(), number, said);
-                linked
-            }
-            (Err(Unread { fault, says }), _) => {
-                // What comes after a guess and is wrong makes the guess doubtful.
-                let is_doubtful = line.is_guessed() && number > 0;
-                let says = if is_doubtful { Says::Anything } else { says };
-                line.stop(fault);
-                Linked::unchained(T::default(), says)
-            }
-        };
-        said.add(number, linked.says);
-        linked
-    }
-
-    /// Adds what the rest of a line says after its record, where lines were run together.
-    fn rest(&self, mut line: Cursor, number: u16, said: &mut Said) {
-        loop {
-            line.skip_digits();
-            line.skip(':');
-            let Ok(linked) = (self.record)(&mut line, said) else {
-                break;
-            };
-            said.add(number, linked.says);
         }
     }
 
@@ -146,6 +120,108 @@ impl<T: Default> Form<T> {
             linked.record
         };
         linked.map(set).collect()
+    }
+}
+
+/// The records that were read so far.
+struct Reading<'f, T> {
+    form: &'f Form<T>,
+    said: Said,
+    all: Vec<Linked<T>>,
+    /// The line of each.
+    lines: Vec<Line>,
+    numbers: Numbers,
+}
+
+impl<T: Default> Reading<'_, T> {
+    fn new(form: &Form<T>, said: Said) -> Reading<'_, T> {
+        Reading {
+            form,
+            said,
+            all: Vec::new(),
+            lines: Vec::new(),
+            numbers: Numbers::default(),
+        }
+    }
+
+    /// Reads the header.
+    fn header(&mut self, line: &mut Cursor) {
+        let place = line.place();
+        let read = (self.form.header)(line);
+        let read = read.map(|header| vec![header]);
+        let all = self.noted(line, read);
+        self.push(all, &place);
+    }
+
+    /// Reads a line: the records that are made for it, then its own. Answers whether there is room for them.
+    fn line(&mut self, line: &mut Cursor) -> bool {
+        let (place, start) = (line.place(), line.here());
+        let written = take_number(line);
+        self.said.begin(self.all.len());
+        let read = (self.form.record)(line, &mut self.said);
+        let is_open = read.is_err() || self.said.is_unsure() || !line.at_end();
+        let mut own = self.noted(line, read);
+        let made = self.said.take_made();
+        let first = self.all.len() + made.len();
+        if first + own.len() > RECORDS {
+            line.note(start, "this is one record too many; their numbers end at 65535");
+            return false;
+        }
+        self.numbers.made(&made, is_open && self.said.makes());
+        self.numbers.check(line, written, first);
+        if !made.is_empty() && self.numbers.are_off() {
+            own.iter_mut().for_each(Linked::leave_open);
+        }
+        let of_made = |term| Linked::unchained((self.form.made)(term), Says::Term(term));
+        self.push(made.into_iter().map(of_made).collect(), &place.of_made());
+        self.push(own, &place);
+        true
+    }
+
+    /// The records of a line, of which is noted what is wrong. A line that cannot be read has a record, too, so that the
+    /// numbers of later ones stay right.
+    fn noted(&mut self, line: &mut Cursor, read: Records<T>) -> Vec<Linked<T>> {
+        match (read, line.end()) {
+            (Ok(all), Ok(())) => all,
+            (Ok(all), Err(fault)) => {
+                line.stop(fault);
+                self.rest(line.clone());
+                all
+            }
+            (Err(Unread { fault, says }), _) => {
+                // What comes after a guess and is wrong makes the guess doubtful.
+                let is_doubtful = line.is_guessed() && !self.all.is_empty();
+                let says = if is_doubtful { Says::Anything } else { says };
+                line.stop(fault);
+                vec![Linked::unchained(T::default(), says)]
+            }
+        }
+    }
+
+    /// Adds what the rest of a line says after its record, where lines were run together.
+    fn rest(&mut self, mut line: Cursor) {
+        let number = u16::try_from(self.all.len()).unwrap_or(u16::MAX);
+        loop {
+            line.skip_digits();
+            line.skip(':');
+            let Ok(all) = (self.form.record)(&mut line, &mut self.said) else {
+                break;
+            };
+            for linked in all {
+                self.said.add(number, linked.says);
+            }
+        }
+    }
+
+    /// Adds records of a line.
+    fn push(&mut self, all: Vec<Linked<T>>, line: &Line) {
+        for linked in all {
+            if let Ok(number) = u16::try_from(self.all.len()) {
+                self.said.add(number, linked.says);
+            }
+            self.all.push(linked);
+            self.lines.push(line.clone());
+        }
     }
 }
 
@@ -167,30 +243,6 @@ pub fn read_link(line: &mut Cursor, word: &str) -> Result<Option<u16>, Fault> {
         return Ok(None);
     }
     line.number().map(Some)
-}
-
-/// Takes the record number that a line may begin with, which has to be its own. `off` is by how much the last was off: a
-/// number that is off by as much is not noted again, since one line is missing or too many.
-fn own_number(line: &mut Cursor, number: u16, off: &mut i32) {
-    if !line.peek().is_some_and(|next| next.is_ascii_digit()) {
-        return;
-    }
-    let place = line.here();
-    let written = line.number();
-    line.skip_digits();
-    if let Err(fault) = line.symbol(':') {
-        line.note_guess(line.here(), &fault.message);
-        return;
-    }
-    match written {
-        Err(fault) => line.note(place, &fault.message),
-        Ok(written) => {
-            let before = std::mem::replace(off, i32::from(written) - i32::from(number));
-            if *off != 0 && *off != before {
-                line.note(place, &format!("this line is record {number}"));
-            }
-        }
-    }
 }
 
 /// Faults of two sorts of lines, in the order of the lines.

@@ -1,10 +1,15 @@
-//! What the lines of a text say, so that later lines can refer to it.
+//! What the lines of a text say, or the records of a vocabulary, so that others can refer to it.
 
 use super::cursor::{Cursor, Fault};
+use crate::display::did_you_mean;
 use std::collections::{HashMap, HashSet};
 
 /// The deepest nesting of a term that is written out.
 const NESTING: usize = 16;
+/// The kind of names.
+const NAME: u8 = 3;
+/// The most names that a message lists.
+const LISTED: usize = 8;
 
 /// A term as a line says it: a kind with two numbers. Those that a faulty line leaves open are missing.
 #[derive(Clone, Copy, Debug, PartialEq, Eq, Hash)]
@@ -37,6 +42,11 @@ impl Term {
         (self.a.unwrap_or(0), self.b.unwrap_or(0))
     }
 
+    /// The label of a name.
+    pub fn label(self) -> Option<u16> {
+        self.a.filter(|_| self.kind == NAME)
+    }
+
     fn is_known(self) -> bool {
         self.a.is_some() && self.b.is_some()
     }
@@ -53,7 +63,23 @@ pub enum Says {
     Anything,
 }
 
-/// What the lines read so far say.
+/// What is done about a term that nothing says.
+#[derive(Clone, Copy, Debug, Default, PartialEq, Eq)]
+pub enum Unsaid {
+    /// It is a fault of a line, before which another has to say it.
+    #[default]
+    NoLine,
+    /// It is a fault of what is to be added to records, of which one has to say it.
+    NoRecord,
+    /// It is a fault of what is asked about records, of which one has to say it.
+    NotFound,
+    /// It is made.
+    Made,
+    /// It is made, but for names: a name that is not there is a fault.
+    MadeOfNames,
+}
+
+/// What is known to be said.
 #[derive(Default)]
 pub struct Said {
     first: HashMap<Term, u16>,
@@ -63,20 +89,58 @@ pub struct Said {
     /// The records of terms that faulty lines leave open.
     open: HashSet<u16>,
     anything: bool,
-    /// Whether it is records that say it, and no lines.
-    in_records: bool,
+    unsaid: Unsaid,
+    /// The terms that were made since the records of the last line.
+    made: Vec<Term>,
+    /// The number that the next record gets that is made.
+    next: usize,
+    /// How many records there are that can be named by their numbers, where that is known.
+    records: Option<usize>,
+    /// Whether it was left open what a line refers to, or whether it makes it.
+    is_unsure: bool,
 }
 
 impl Said {
-    /// What records say, of which none is added yet.
-    pub fn in_records() -> Said {
+    /// What is said by nothing yet.
+    pub fn new(unsaid: Unsaid) -> Said {
         Said {
-            in_records: true,
+            unsaid,
             ..Said::default()
         }
     }
 
-    /// Adds what the line of a record says.
+    /// What is said of so many records, of which none is added yet.
+    pub fn of_records(unsaid: Unsaid, records: usize) -> Said {
+        Said {
+            next: records,
+            // What is added may name what is not there: that is the library's to refuse.
+            records: Some(records).filter(|_| unsaid != Unsaid::NoRecord),
+            ..Said::new(unsaid)
+        }
+    }
+
+    /// Begins a line before which there are so many records.
+    pub fn begin(&mut self, records: usize) {
+        self.next = records;
+        self.is_unsure = false;
+    }
+
+    /// The terms that were made, which get the next records.
+    pub fn take_made(&mut self) -> Vec<Term> {
+        std::mem::take(&mut self.made)
+    }
+
+    /// Whether terms are made that nothing says.
+    pub fn makes(&self) -> bool {
+        matches!(self.unsaid, Unsaid::Made | Unsaid::MadeOfNames)
+    }
+
+    /// Whether the line may refer to a term that a faulty line says, or make it.
+    pub fn is_unsure(&self) -> bool {
+        self.is_unsure
+    }
+
+    /// Adds what a record says.
     pub fn add(&mut self, number: u16, says: Says) {
         match says {
             Says::Nothing => (),
@@ -101,20 +165,6 @@ impl Said {
         Some(first).filter(|_| !self.open.contains(&number))
     }
 
-    /// The first record that says a term.
-    fn number(&self, term: Term) -> Option<u16> {
-        self.first.get(&term).copied()
-    }
-
-    /// What is to be done about a term that nothing says.
-    fn missing(&self) -> &'static str {
-        if self.in_records {
-            "no record says this term; add it first"
-        } else {
-            "no earlier line says this term; give it a line of its own before"
-        }
-    }
-
     /// Whether a faulty line may have said a term.
     fn may_say(&self, term: Term) -> bool {
         let open = [
@@ -125,29 +175,99 @@ impl Said {
         self.anything || !term.is_known() || open.iter().any(|term| self.perhaps.contains(term))
     }
 
-    /// The record that a line refers to: by its number, as `example`, or by a term that an earlier line says, which `read`
-    /// takes. None is known where no line says the term, which is noted, unless a faulty line may have said it.
+    /// The record that a line refers to: by its number, as `example`, or by a term, which `read` takes. None is known where
+    /// nothing says the term and it is not made, which is noted, unless a faulty line may have said it.
     pub fn reference(
-        &self,
+        &mut self,
         line: &mut Cursor,
         nesting: usize,
         example: &str,
-        read: impl Fn(&mut Cursor) -> Result<Term, Fault>,
+        read: impl Fn(&mut Cursor, &mut Said) -> Result<Term, Fault>,
     ) -> Result<Option<u16>, Fault> {
         if line.peek() == Some('#') {
-            let expected = format!("a record, as {example}, is expected here");
-            return line.lettered('#', &expected).map(Some);
+            return self.numbered(line, example).map(Some);
         }
         if nesting > NESTING {
             let message = format!("terms are nested too deep here; name one by its record, as {example}");
             return Err(line.fault(&message));
         }
         let place = line.here();
-        let term = read(line)?;
-        let number = self.number(term);
-        if number.is_none() && !self.may_say(term) {
-            line.note(place, &format!("{}, or name a record, as {example}", self.missing()));
+        let term = read(line, self)?;
+        Ok(self.record_of(term, |said| line.note(place, &said.missing_term(term, example))))
+    }
+
+    /// The record that a line names by its number.
+    fn numbered(&self, line: &mut Cursor, example: &str) -> Result<u16, Fault> {
+        let place = line.here();
+        let number = line.lettered('#', &format!("a record, as {example}, is expected here"))?;
+        match self.records.filter(|records| usize::from(number) >= *records) {
+            None => Ok(number),
+            Some(records) => {
+                let last = records.saturating_sub(1);
+                let message = format!("there is no record {number}; the vocabulary ends at record {last}");
+                Err(line.fault_at(place, &message))
+            }
         }
-        Ok(number)
+    }
+
+    /// The record of a term: the first that says it, or one that is made. If there is none, that is to be told, unless a faulty
+    /// line may have said it.
+    pub fn record_of(&mut self, term: Term, tell: impl FnOnce(&Said)) -> Option<u16> {
+        if let Some(number) = self.first.get(&term) {
+            return Some(*number);
+        }
+        if self.may_say(term) {
+            self.is_unsure = true;
+            return None;
+        }
+        let is_made = self.makes() && (self.unsaid == Unsaid::Made || term.kind != NAME);
+        if !is_made {
+            tell(self);
+            return None;
+        }
+        self.make(term)
+    }
+
+    /// Makes a term: the number that its record gets. There is none after the last number.
+    fn make(&mut self, term: Term) -> Option<u16> {
+        self.made.push(term);
+        let number = u16::try_from(self.next).ok();
+        self.next += 1;
+        if let Some(number) = number {
+            self.add(number, Says::Term(term));
+        }
+        number
+    }
+
+    /// What is said of a term that nothing says.
+    fn missing_term(&self, term: Term, example: &str) -> String {
+        match (self.unsaid, term.label()) {
+            (Unsaid::MadeOfNames | Unsaid::NotFound, Some(label)) => self.missing_name(label),
+            (Unsaid::NotFound, _) => self.missing("this term"),
+            _ => format!("{}, or name a record, as {example}", self.missing("this term")),
+        }
+    }
+
+    /// What is said of something that nothing says.
+    pub fn missing(&self, what: &str) -> String {
+        match self.unsaid {
+            Unsaid::NoLine => format!("no earlier line says {what}; give it a line of its own before"),
+            Unsaid::NoRecord => format!("no record says {what}; add it first"),
+            _ => format!("no record says {what}"),
+        }
+    }
+
+    /// What is said of a name that records do not have.
+    fn missing_name(&self, label: u16) -> String {
+        let mut labels: Vec<u16> = self.first.keys().filter_map(|term| term.label()).collect();
+        labels.sort_unstable();
+        let name = format!("c{label}");
+        let names: Vec<String> = labels.iter().map(|label| format!("c{label}")).collect();
+        let has = match names.len() {
+            0 => "; it has no names".to_string(),
+            1..=LISTED => format!("; it has {}", names.join(", ")),
+            _ => did_you_mean(&name, names.iter().map(String::as_str)),
+        };
+        format!("the vocabulary has no name {name}{has}")
     }
 }

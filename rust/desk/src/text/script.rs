@@ -2,8 +2,8 @@
 
 use super::cursor::{Cursor, Fault};
 use super::records::{read_link, Form, Linked, Unread};
-use super::said::{Said, Says, Term};
-use super::{link_words, linked_line, whole, WRITTEN_OUT};
+use super::said::{Said, Says, Term, Unsaid};
+use super::{link_words, linked_line, whole, Line, WRITTEN_OUT};
 use crate::script::{bytes, chained, first_of, firsts, Entry, Extension, Words, HEADER_WORD};
 use base::chain::default_link;
 
@@ -146,18 +146,23 @@ const CONSTANT: u8 = 1;
 /// The kind of functions.
 const FUNCTION: u8 = 2;
 
-/// The bytes of a script's text, of whose header the first word is taken.
-pub fn read<'a>(header: Cursor<'a>, lines: impl Iterator<Item = Cursor<'a>>) -> Result<Vec<u8>, Vec<Fault>> {
+/// The bytes of a script's text, of whose header the first word is taken, and the line of each record. No term is made: a
+/// term may have several records, and steps name the one that is meant.
+pub fn read<'a>(
+    header: Cursor<'a>,
+    lines: impl Iterator<Item = Cursor<'a>>,
+) -> Result<(Vec<u8>, Vec<Line>), Vec<Fault>> {
     let form = Form {
         header: |line| read_header(line).map_err(Unread::no_term),
-        record: read_record,
+        record: |line, said| read_record(line, said).map(|record| vec![record]),
+        made: term_words,
         set_link: |[_, _, _, first, .., next]: &mut Words, number, link| match number {
             0 => *first = link,
             _ => *next = link,
         },
     };
-    let records = form.read(header, lines)?;
-    Ok(records.iter().flat_map(bytes).collect())
+    let (records, lines) = form.read(Said::new(Unsaid::NoLine), header, lines)?;
+    Ok((records.iter().flat_map(bytes).collect(), lines))
 }
 
 fn read_header(line: &mut Cursor) -> Result<Linked<Words>, Fault> {
@@ -187,7 +192,7 @@ fn read_raw(line: &mut Cursor) -> Result<Words, Fault> {
 }
 
 /// A record; `said` is what the lines before it say.
-fn read_record(line: &mut Cursor, said: &Said) -> Result<Linked<Words>, Unread> {
+fn read_record(line: &mut Cursor, said: &mut Said) -> Result<Linked<Words>, Unread> {
     if line.is_lettered('f') {
         return read_whole_function(line, said);
     }
@@ -207,7 +212,7 @@ fn read_record(line: &mut Cursor, said: &Said) -> Result<Linked<Words>, Unread> 
 }
 
 /// A function as a line of its own.
-fn read_whole_function(line: &mut Cursor, said: &Said) -> Result<Linked<Words>, Unread> {
+fn read_whole_function(line: &mut Cursor, said: &mut Said) -> Result<Linked<Words>, Unread> {
     let says = Says::Term(Term::of_kind(FUNCTION));
     let term = read_function(line, said, 1).map_err(|fault| Unread { fault, says })?;
     Ok(term_record(term, said))
@@ -215,9 +220,12 @@ fn read_whole_function(line: &mut Cursor, said: &Said) -> Result<Linked<Words>, 
 
 /// The record of a term.
 fn term_record(term: Term, said: &Said) -> Linked<Words> {
+    Linked::unchained(term_words(term), Says::Term(of_first(term, said)))
+}
+
+fn term_words(term: Term) -> Words {
     let (a, b) = term.numbers();
-    let words = [term.kind.into(), a, b, 0, 0, 0, 0, 0];
-    Linked::unchained(words, Says::Term(of_first(term, said)))
+    [term.kind.into(), a, b, 0, 0, 0, 0, 0]
 }
 
 /// What a record says that is given by its words.
@@ -240,7 +248,7 @@ fn of_first(term: Term, said: &Said) -> Term {
 }
 
 /// A step; its word is taken.
-fn read_step(line: &mut Cursor, said: &Said, word: &str, on: bool) -> Result<Linked<Words>, Fault> {
+fn read_step(line: &mut Cursor, said: &mut Said, word: &str, on: bool) -> Result<Linked<Words>, Fault> {
     let entry = match word {
         "start" => Entry::Start(line.number()?),
         "reduce" => Entry::Reduce(line.number()?),
@@ -256,7 +264,7 @@ fn read_step(line: &mut Cursor, said: &Said, word: &str, on: bool) -> Result<Lin
 }
 
 /// An extension; its word is taken.
-fn read_extension(line: &mut Cursor, said: &Said) -> Result<Extension, Fault> {
+fn read_extension(line: &mut Cursor, said: &mut Said) -> Result<Extension, Fault> {
     line.expect("owner")?;
     let owner = line.number()?;
     line.expect("column")?;
@@ -278,7 +286,7 @@ fn read_extension(line: &mut Cursor, said: &Said) -> Result<Extension, Fault> {
 }
 
 /// The function that stands here, at this nesting.
-fn read_function(line: &mut Cursor, said: &Said, nesting: usize) -> Result<Term, Fault> {
+fn read_function(line: &mut Cursor, said: &mut Said, nesting: usize) -> Result<Term, Fault> {
     let function = line.lettered('f', NO_TERM)?;
     line.symbol('(')?;
     let inner = term(line, said, nesting + 1)?;
@@ -291,8 +299,8 @@ fn read_function(line: &mut Cursor, said: &Said, nesting: usize) -> Result<Term,
 }
 
 /// The record of a term: `#2`, or the first that says a term, written out.
-fn term(line: &mut Cursor, said: &Said, nesting: usize) -> Result<Option<u16>, Fault> {
-    said.reference(line, nesting, "#2", |line| {
+fn term(line: &mut Cursor, said: &mut Said, nesting: usize) -> Result<Option<u16>, Fault> {
+    said.reference(line, nesting, "#2", |line, said| {
         if line.is_lettered('f') {
             return Ok(of_first(read_function(line, said, nesting)?, said));
         }

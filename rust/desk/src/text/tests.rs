@@ -349,10 +349,10 @@ const FAULTY: [(&str, usize, usize, &str); 19] = [
         "a term (c1, owl:Thing, ObjectUnionOf(..), ..) or a statement (SubClassOf(..)) is expected here",
     ),
     (
-        "vocabulary roles 0\nc1\nObjectComplementOf(c2)",
+        "vocabulary roles 0\nc1\n2: ObjectComplementOf(c2)",
         3,
-        20,
-        "no earlier line says this term; give it a line of its own before, or name a record, as #7",
+        1,
+        "this line is record 3; a term is made before it that no line says: c2",
     ),
     (
         "vocabulary roles 0\nc65536",
@@ -360,7 +360,12 @@ const FAULTY: [(&str, usize, usize, &str); 19] = [
         2,
         "a number from 0 to 65535 is expected here, without leading zeros",
     ),
-    ("vocabulary roles 0\noff c1", 2, 5, "'SubClassOf' is expected here"),
+    (
+        "vocabulary roles 0\noff c1",
+        2,
+        5,
+        "a statement (SubClassOf(..), EquivalentClasses(..), ..) is expected here",
+    ),
     (
         "script #1 within 2",
         1,

@@ -1,11 +1,13 @@
 //! Vocabularies as text, in OWL 2 functional syntax where a record has a form there.
 
+use super::axioms::{read_axiom, Statement, AXIOMS, NO_AXIOM};
 use super::cursor::{Cursor, Fault};
-use super::names::{Names, Sort};
+use super::names::Names;
 use super::quotes;
-use super::records::{read_link, Form, Linked, Unread};
-use super::said::{Said, Says, Term};
-use super::{find, link_words, linked_line, whole, WRITTEN_OUT};
+use super::records::{read_link, Form, Linked, Records, Unread};
+use super::said::{Said, Says, Term, Unsaid};
+use super::terms::{raw_says, read_term, read_word, record, shape, Begun, TERMS};
+use super::{find, link_words, linked_line, whole, Line, WRITTEN_OUT};
 use crate::display::plain;
 use crate::json::Json;
 use base::chain::default_link;
@@ -23,6 +25,8 @@ pub struct Written {
     names: Names,
     /// The text of each record as an operand with what its parts are called, where one of them is called something.
     named: Vec<Option<String>>,
+    /// How many records were given; those after them were added for a question.
+    given: usize,
 }
 
 impl Written {
@@ -30,6 +34,7 @@ impl Written {
     pub fn new(vocabulary: Vocabulary) -> Written {
         let mut written = Written {
             chained: vocabulary.chained(),
+            given: vocabulary.records.len(),
             vocabulary,
             operands: Vec::new(),
             words: Vec::new(),
@@ -70,6 +75,17 @@ impl Written {
     /// What people call its names and roles.
     pub fn names(&self) -> &Names {
         &self.names
+    }
+
+    /// The same where only so many bytes were given, and the records after them were added for a question.
+    pub fn of_given(self, bytes: &[u8]) -> Written {
+        let given = bytes.len() / judge::RECORD_BYTES;
+        Written { given, ..self }
+    }
+
+    /// The records that were added for a question.
+    pub fn added(&self) -> impl Iterator<Item = u16> {
+        (self.given..self.vocabulary.records.len()).map(|number| number as u16)
     }
 
     /// The vocabulary.
@@ -134,7 +150,9 @@ impl Written {
 
     /// A term with its number.
     pub fn term(&self, number: u16) -> String {
-        format!("term {number}, {}", self.called(number))
+        let is_added = usize::from(number) >= self.given;
+        let added = if is_added { " (added for this question)" } else { "" };
+        format!("term {number}{added}, {}", self.called(number))
     }
 
     /// The same for programs.
@@ -290,63 +308,26 @@ fn raw(record: Record) -> String {
     )
 }
 
-/// What comes after the word of a term.
-#[derive(Clone, Copy)]
-pub enum Operands {
-    /// Nothing.
-    None,
-    /// A label, as the name `c7` has it.
-    Label,
-    /// A term in parentheses.
-    Term,
-    /// Two terms in parentheses.
-    Terms,
-    /// A role and a term in parentheses.
-    RoleAndTerm,
-}
-
-/// The words of terms. Of two that are as near to a misspelt word, the first is suggested.
-const TERMS: [&str; 7] = [
-    "owl:Nothing",
-    "owl:Thing",
-    "ObjectComplementOf",
-    "ObjectIntersectionOf",
-    "ObjectUnionOf",
-    "ObjectSomeValuesFrom",
-    "ObjectAllValuesFrom",
-];
-/// The other words that a line begins with.
-pub const OTHERS: [&str; 5] = [RAW, "off", "SubClassOf", "name", "role"];
+/// The other words that a line begins with, beside those of terms and of axioms.
+const OTHERS: [&str; 4] = [RAW, "off", "name", "role"];
 /// The word of a record that is given by its fields.
 const RAW: &str = "raw";
 /// The words that may follow a header's number of roles.
 const EDITION: &str = "edition";
 const FIRST: &str = "first";
 /// What is said of a line that begins with none of them.
-pub const NO_RECORD: &str =
+const NO_RECORD: &str =
     "a term (c1, owl:Thing, ObjectUnionOf(..), ..) or a statement (SubClassOf(..)) is expected here";
-/// What is said where no term stands as an operand.
-pub const NO_TERM: &str = "a term (c1, #7, owl:Thing, ObjectUnionOf(..), ..) is expected here";
 
-/// The kind of a term by its word, and what comes after that. A name has no word.
-pub fn shape(word: &str) -> (u8, Operands) {
-    match word {
-        "owl:Thing" => (1, Operands::None),
-        "owl:Nothing" => (2, Operands::None),
-        "ObjectComplementOf" => (4, Operands::Term),
-        "ObjectIntersectionOf" => (5, Operands::Terms),
-        "ObjectUnionOf" => (6, Operands::Terms),
-        "ObjectSomeValuesFrom" => (7, Operands::RoleAndTerm),
-        "ObjectAllValuesFrom" => (8, Operands::RoleAndTerm),
-        _ => (3, Operands::Label),
-    }
-}
-
-/// The bytes of a vocabulary's text, of whose header the first word is taken.
-pub fn read<'a>(header: Cursor<'a>, lines: impl Iterator<Item = Cursor<'a>>) -> Result<Vec<u8>, Vec<Fault>> {
+/// The bytes of a vocabulary's text, of whose header the first word is taken, and the line of each record.
+pub fn read<'a>(
+    header: Cursor<'a>,
+    lines: impl Iterator<Item = Cursor<'a>>,
+) -> Result<(Vec<u8>, Vec<Line>), Vec<Fault>> {
     let form = Form {
         header: |line| read_header(line).map_err(Unread::no_term),
         record: read_record,
+        made: record,
         set_link: |record: &mut Record, number, link| match number {
             0 => record.a = link,
             _ => record.next = link,
@@ -354,14 +335,13 @@ pub fn read<'a>(header: Cursor<'a>, lines: impl Iterator<Item = Cursor<'a>>) -> 
     };
     // A header that is given by its fields has all of them.
     let is_raw = header.clone().keyword(RAW);
-    let mut vocabulary = Vocabulary {
-        records: form.read(header, lines)?,
-    };
+    let (records, lines) = form.read(Said::new(Unsaid::Made), header, lines)?;
+    let mut vocabulary = Vocabulary { records };
     let counted = with_atoms(vocabulary.get(0), &vocabulary);
     if let Some(header) = vocabulary.records.first_mut().filter(|_| !is_raw) {
         *header = counted;
     }
-    Ok(vocabulary.bytes())
+    Ok((vocabulary.bytes(), lines))
 }
 
 fn read_header(line: &mut Cursor) -> Result<Linked<Record>, Fault> {
@@ -412,135 +392,60 @@ fn read_raw(line: &mut Cursor) -> Result<Record, Fault> {
     Err(line.fault_at(place, message))
 }
 
-/// A record; `said` is what the lines before it say.
-fn read_record(line: &mut Cursor, said: &Said) -> Result<Linked<Record>, Unread> {
-    match read_word(line, &OTHERS, NO_RECORD)? {
+/// The records of a line.
+fn read_record(line: &mut Cursor, said: &mut Said) -> Records<Record> {
+    let place = line.here();
+    match read_beginning(line)? {
         RAW => {
             let record = read_raw(line)?;
-            Ok(Linked::unchained(record, raw_says(record)))
+            Ok(vec![Linked::unchained(record, raw_says(record))])
         }
         "off" => {
-            line.expect("SubClassOf")?;
-            statement(line, said, false).map_err(Unread::no_term)
+            let word = line.choose(&AXIOMS, NO_AXIOM)?;
+            statements(line, said, word, false).map_err(Unread::no_term)
         }
-        "SubClassOf" => statement(line, said, true).map_err(Unread::no_term),
+        word if AXIOMS.contains(&word) => statements(line, said, word, true).map_err(Unread::no_term),
         // Only after another record on one line: else such lines are read before.
         "name" | "role" => Err(Unread::no_term(line.fault(NO_RECORD))),
         word => {
-            let (kind, operands) = shape(word);
-            let says = Says::Term(Term::of_kind(kind));
-            let term = read_term(line, said, 1, (kind, operands)).map_err(|fault| Unread { fault, says })?;
-            Ok(Linked::unchained(record(term), Says::Term(term)))
+            let shape = shape(word);
+            let says = Says::Term(Term::of_kind(shape.0));
+            let begun = Begun {
+                place,
+                nesting: 1,
+                shape,
+            };
+            let term = read_term(line, said, begun).map_err(|fault| Unread { fault, says })?;
+            Ok(vec![Linked::unchained(record(term), Says::Term(term))])
         }
     }
 }
 
-/// The word that stands here, of a term or one of the others. The word of a name is empty: it stays, since its label is
-/// part of it.
-pub fn read_word(line: &mut Cursor, others: &[&'static str], expected: &str) -> Result<&'static str, Fault> {
-    if line.is_lettered('c') || line.peek() == Some('"') {
-        return Ok("");
-    }
-    line.choose(&[others, &TERMS].concat(), expected)
+/// The word that a line begins with.
+pub fn read_beginning(line: &mut Cursor) -> Result<&'static str, Fault> {
+    read_word(line, &[&OTHERS[..], &AXIOMS].concat(), NO_RECORD)
 }
 
 /// Whether this is a word of texts, be it of the wrong case.
 pub fn is_word(word: &str) -> bool {
-    let words = OTHERS.iter().chain(&TERMS);
+    let words = OTHERS.iter().chain(&AXIOMS).chain(&TERMS);
     words.into_iter().any(|known| known.eq_ignore_ascii_case(word))
 }
 
-/// The record of a term.
-fn record(term: Term) -> Record {
-    let (a, b) = term.numbers();
-    Record {
-        kind: term.kind,
-        a,
-        b,
-        ..Record::default()
-    }
-}
-
-/// What a record says that is given by its fields.
-pub fn raw_says(raw: Record) -> Says {
-    let term = Term::new(raw.kind, raw.a, raw.b);
-    if record(term) == raw {
-        Says::Term(term)
-    } else {
-        Says::Nothing
-    }
-}
-
-/// A statement; its word is taken.
-fn statement(line: &mut Cursor, said: &Said, on: bool) -> Result<Linked<Record>, Fault> {
-    let term = |line: &mut Cursor| operand(line, said, 1);
-    let (a, b) = pair(line, term, term)?;
+/// The statements of an axiom; its word is taken.
+fn statements(line: &mut Cursor, said: &mut Said, word: &str, on: bool) -> Result<Vec<Linked<Record>>, Fault> {
+    let statements = read_axiom(line, said, word)?;
+    let place = line.here();
     let link = read_link(line, "next")?;
-    let saying = Saying::Within(a.unwrap_or(0), b.unwrap_or(0));
-    Ok(Linked {
-        record: saying.record(link.unwrap_or(0)),
+    if link.is_some() && statements.len() > 1 {
+        let message = "this line is of several statements, which have no other links than the chain's";
+        return Err(line.fault_at(place, message));
+    }
+    let linked = |(a, b): Statement| Linked {
+        record: Saying::Within(a.unwrap_or(0), b.unwrap_or(0)).record(link.unwrap_or(0)),
         on,
         link,
         says: Says::Nothing,
-    })
-}
-
-/// Two things in parentheses.
-pub fn pair<T>(
-    line: &mut Cursor,
-    first: impl Fn(&mut Cursor) -> Result<T, Fault>,
-    second: impl Fn(&mut Cursor) -> Result<T, Fault>,
-) -> Result<(T, T), Fault> {
-    line.symbol('(')?;
-    let both = (first(line)?, second(line)?);
-    line.symbol(')')?;
-    Ok(both)
-}
-
-/// A term at this nesting, of which the word is taken.
-pub fn read_term(
-    line: &mut Cursor,
-    said: &Said,
-    nesting: usize,
-    (kind, operands): (u8, Operands),
-) -> Result<Term, Fault> {
-    let term = |line: &mut Cursor| operand(line, said, nesting + 1);
-    let role = |line: &mut Cursor| read_role(line).map(Some);
-    let (a, b) = match operands {
-        Operands::None => (Some(0), Some(0)),
-        Operands::Label => (Some(read_label(line)?), Some(0)),
-        Operands::Term => {
-            line.symbol('(')?;
-            let a = term(line)?;
-            line.symbol(')')?;
-            (a, Some(0))
-        }
-        Operands::Terms => pair(line, term, term)?,
-        Operands::RoleAndTerm => pair(line, role, term)?,
     };
-    Ok(Term { kind, a, b })
-}
-
-/// A role, as `r0` or by what it is called, in quotation marks.
-pub fn read_role(line: &mut Cursor) -> Result<u16, Fault> {
-    if line.peek() == Some('"') {
-        return line.called(Sort::Role);
-    }
-    line.lettered('r', "a role, as r0, is expected here")
-}
-
-/// The label of a name, as `c7` or by what it is called, in quotation marks.
-pub fn read_label(line: &mut Cursor) -> Result<u16, Fault> {
-    if line.peek() == Some('"') {
-        return line.called(Sort::Name);
-    }
-    line.lettered('c', NO_TERM)
-}
-
-/// The record of an operand: `#7`, or a term that an earlier record says.
-pub fn operand(line: &mut Cursor, said: &Said, nesting: usize) -> Result<Option<u16>, Fault> {
-    said.reference(line, nesting, "#7", |line| {
-        let word = read_word(line, &[], NO_TERM)?;
-        read_term(line, said, nesting, shape(word))
-    })
+    Ok(statements.into_iter().map(linked).collect())
 }

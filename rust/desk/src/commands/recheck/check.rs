@@ -1,7 +1,7 @@
 //! Lines against the library: whether what they claim holds.
 
 use super::kept::{Files, Kept, Known, Trouble};
-use super::line::{repeated, Claim, Field, Row, Text};
+use super::line::{repeated, Claim, Field, Malformed, Row, Text};
 use super::table::Line;
 use crate::cause;
 use crate::commands::within::room_words;
@@ -12,6 +12,9 @@ use crate::question::Within;
 use crate::refused;
 use crate::report::refusal_status;
 use crate::script;
+use crate::term::{self, Asked, Unasked};
+use crate::text::words::{Wrong, FORMS};
+use base::arguments::digits;
 use base::Status;
 use judge::{Comparison, Refusal, Verdict};
 
@@ -92,6 +95,14 @@ impl Outcome {
         }
     }
 
+    /// A line that does not have the form.
+    fn malformed(malformed: Malformed, text: &str) -> Outcome {
+        Outcome {
+            column: malformed.column(text),
+            ..Outcome::new(Sort::Malformed, Status::Refused, malformed.why)
+        }
+    }
+
     fn with_detail(self, detail: String) -> Outcome {
         Outcome { detail, ..self }
     }
@@ -143,10 +154,7 @@ impl Checker {
             return None;
         }
         let outcome = match text.read() {
-            Err(malformed) => Outcome {
-                column: malformed.column(&text.text),
-                ..Outcome::new(Sort::Malformed, Status::Refused, malformed.why)
-            },
+            Err(malformed) => Outcome::malformed(malformed, &text.text),
             Ok(row) => self.judge(&row, &text.text),
         };
         let text = match outcome.sort {
@@ -174,11 +182,26 @@ impl Checker {
             Ok(known) => known,
             Err(trouble) => return Outcome::trouble(trouble, row.vocabulary, text),
         };
+        let asked = match asked(known, row, text) {
+            Ok(asked) => asked,
+            Err(outcome) => return outcome,
+        };
+        // Of terms that no record says, a copy is asked about that has them.
+        let mut extended;
+        let known = match known.extended(&asked) {
+            Ok(None) => known,
+            Ok(Some(copy)) => {
+                extended = copy;
+                &mut extended
+            }
+            Err(refused) => return Outcome::new(Sort::Refused, Status::Refused, refused.words(&known.input)),
+        };
+        let pair = asked.pair;
         let judged = match (row.claim, script) {
-            (Claim::Proved(_), Some(script)) => proved(known, row.pair, &script, explain),
-            (Claim::Within | Claim::Proved(_), _) => within(known, row.pair, explain),
-            (Claim::Equal, _) => equal(known, row.pair, explain),
-            (Claim::Different, _) => different(known, row.pair, explain),
+            (Claim::Proved(_), Some(script)) => proved(known, pair, &script, explain),
+            (Claim::Within | Claim::Proved(_), _) => within(known, pair, explain),
+            (Claim::Equal, _) => equal(known, pair, explain),
+            (Claim::Different, _) => different(known, pair, explain),
         };
         match judged {
             Judged::Fails(outcome) => *outcome,
@@ -192,6 +215,45 @@ impl Checker {
                 Outcome::new(Sort::Vacuous, status, format!("holds only because {because}"))
             }
         }
+    }
+}
+
+/// The terms of a line.
+fn asked(known: &Known, row: &Row, text: &str) -> Result<Asked, Outcome> {
+    let words = row.pair.map(|field| field.text);
+    if let [Some(a), Some(b)] = words.map(digits) {
+        return Ok(Asked::numbers([a, b]));
+    }
+    let asked = term::ask(&known.input, words).map_err(|unasked| match unasked {
+        Unasked::Refused(refused) => Outcome::new(Sort::Refused, Status::Refused, refused.words(&known.input)),
+        Unasked::Words(wrong) => wrong_words(row, wrong, text),
+    })?;
+    if matches!(row.claim, Claim::Proved(_)) && !asked.added.is_empty() {
+        let why = "no record of the vocabulary says a term of this line, so that no script is about it";
+        return Err(Outcome::new(Sort::Refused, Status::Refused, why));
+    }
+    Ok(asked)
+}
+
+/// A line of which a word names no term.
+fn wrong_words(row: &Row, wrong: [Option<Wrong>; 2], text: &str) -> Outcome {
+    let mut malformed = Vec::new();
+    for (field, wrong) in row.pair.into_iter().zip(wrong) {
+        malformed.extend(wrong.map(|wrong| match wrong {
+            Wrong::NoTerm => {
+                let why = format!("'{}' is no term; A and B are each {FORMS}", repeated(field.text));
+                Malformed::in_field(field, 1, why)
+            }
+            Wrong::Faults(faults) => {
+                let fault = faults.into_iter().next();
+                let (column, why) = fault.map_or((1, String::new()), |fault| (fault.column, fault.message));
+                Malformed::in_field(field, column, why)
+            }
+        }));
+    }
+    match malformed.into_iter().next() {
+        Some(malformed) => Outcome::malformed(malformed, text),
+        None => Outcome::new(Sort::Malformed, Status::Defect, "no word of the line is wrong"),
     }
 }
 
@@ -268,7 +330,8 @@ fn within(known: &mut Known, pair: [u32; 2], explain: bool) -> Judged {
         Verdict::Equal if answer.survivors == 0 => Judged::Holds(Some(NO_SURVIVOR.to_string())),
         Verdict::Equal => Judged::Holds(within_nothing(known, pair)),
         Verdict::Different { element } => {
-            let why = format!("term {a} does not lie within term {b}, element {element}");
+            let [a, b] = pair.map(|number| known.called(number));
+            let why = format!("{a} does not lie within {b}, element {element}");
             told_apart(known, pair, element, Outcome::fails(why), explain).into()
         }
     }
@@ -276,7 +339,9 @@ fn within(known: &mut Known, pair: [u32; 2], explain: bool) -> Judged {
 
 /// Why one term lies within another whatever that is.
 fn within_nothing(known: &mut Known, [a, _]: [u32; 2]) -> Option<String> {
-    known.is_empty(a).then(|| format!("nothing can belong to term {a}"))
+    known
+        .is_empty(a)
+        .then(|| format!("nothing can belong to {}", known.called(a)))
 }
 
 fn proved(known: &mut Known, pair: [u32; 2], script: &Input, explain: bool) -> Judged {

@@ -9,6 +9,7 @@ use crate::files::Access;
 use crate::input::{self, Input};
 use crate::question::Questions;
 use crate::report::{Stop, Style};
+use crate::term::{self, Asked, Refused};
 use crate::text::vocabulary::Written;
 use base::vocabulary::Vocabulary;
 use base::Status;
@@ -102,6 +103,25 @@ impl Known {
         }
     }
 
+    /// A copy with the terms that were asked about and that no record says, where there are some.
+    pub fn extended(&self, asked: &Asked) -> Result<Option<Known>, Refused> {
+        if asked.added.is_empty() {
+            return Ok(None);
+        }
+        let mut input = self.input.clone();
+        term::extend(&mut input, asked)?;
+        Ok(Some(Known::new(input, self.words.clone())))
+    }
+
+    /// A term as a reason names it: by its number, or written out where it has none but for the question.
+    pub fn called(&mut self, number: u32) -> String {
+        let is_given = self.input.given().len() / judge::RECORD_BYTES > number as usize;
+        match u16::try_from(number) {
+            Ok(number) if !is_given => self.written().called(number),
+            _ => format!("term {number}"),
+        }
+    }
+
     /// Whether no interpretation satisfies the statements; false where that cannot be asked.
     pub fn is_contradictory(&mut self) -> bool {
         self.questions.is_contradictory().unwrap_or(false)
@@ -114,11 +134,12 @@ impl Known {
 
     /// The vocabulary written out, with the words for its records where there are some.
     pub fn written(&mut self) -> &Written {
-        let (input, words) = (&self.input, &mut self.words);
+        let (input, words) = (&self.input, &self.words);
         self.written.get_or_insert_with(|| {
-            let written = Written::new(Vocabulary::read(&input.bytes)).with_names(input.names.clone());
-            match words.take() {
-                Some(words) => written.with_words(words),
+            let written = Written::new(Vocabulary::read(&input.bytes)).of_given(input.given());
+            let written = written.with_names(input.names.clone());
+            match words {
+                Some(words) => written.with_words(words.clone()),
                 None => written,
             }
         })

@@ -2,7 +2,6 @@
 
 use super::table::{Line, LINE_BYTES};
 use crate::display::{did_you_mean, grouped};
-use base::arguments::digits;
 use std::borrow::Cow;
 
 /// The most characters of a line that are repeated in the report.
@@ -36,8 +35,8 @@ pub enum Claim<'a> {
 pub struct Row<'a> {
     /// The file of the vocabulary.
     pub vocabulary: Field<'a>,
-    /// The records of the terms.
-    pub pair: [u32; 2],
+    /// The words for the terms.
+    pub pair: [Field<'a>; 2],
     /// The claim.
     pub claim: Claim<'a>,
 }
@@ -53,6 +52,12 @@ pub struct Malformed {
 impl Malformed {
     fn new(start: usize, why: impl Into<String>) -> Malformed {
         Malformed { start, why: why.into() }
+    }
+
+    /// What is wrong at a column of a field.
+    pub fn in_field(field: Field, column: usize, why: impl Into<String>) -> Malformed {
+        let before = field.text.chars().take(column.saturating_sub(1));
+        Malformed::new(field.start + before.map(char::len_utf8).sum::<usize>(), why)
     }
 
     /// A reason, with how a line is made.
@@ -131,7 +136,7 @@ pub fn repeated(text: &str) -> String {
 }
 
 fn row(text: &str) -> Result<Row<'_>, Malformed> {
-    let fields = fields(text);
+    let fields = fields(text)?;
     if let Some(empty) = fields.iter().find(|field| field.text.is_empty()) {
         return Err(Malformed::form(empty.start, "a field is empty"));
     }
@@ -141,34 +146,79 @@ fn row(text: &str) -> Result<Row<'_>, Malformed> {
     };
     Ok(Row {
         vocabulary,
-        pair: [number(a)?, number(b)?],
+        pair: [a, b],
         claim: read_claim(claim, end)?,
     })
 }
 
 /// The fields, set apart by tabs if there are any, else by blanks.
-fn fields(text: &str) -> Vec<Field<'_>> {
+fn fields(text: &str) -> Result<Vec<Field<'_>>, Malformed> {
+    if text.trim().contains('\t') {
+        Ok(fields_by_tabs(text))
+    } else {
+        fields_by_blanks(text)
+    }
+}
+
+fn fields_by_tabs(text: &str) -> Vec<Field<'_>> {
     let mut at = text.len() - text.trim_start().len();
-    let text = text.trim();
-    let has_tabs = text.contains('\t');
-    let is_separator = |next: char| if has_tabs { next == '\t' } else { next.is_whitespace() };
     let mut fields = Vec::new();
-    for part in text.split_inclusive(is_separator) {
+    for part in text.trim().split_inclusive('\t') {
         let word = part.trim();
-        if !word.is_empty() {
-            let start = at + part.len() - part.trim_start().len();
-            fields.push(Field { text: word, start });
-        } else if has_tabs {
-            fields.push(Field { text: word, start: at });
-        }
+        let blanks = if word.is_empty() {
+            0
+        } else {
+            part.len() - part.trim_start().len()
+        };
+        fields.push(Field {
+            text: word,
+            start: at + blanks,
+        });
         at += part.len();
     }
     fields
 }
 
-fn number(field: Field) -> Result<u32, Malformed> {
-    let why = || format!("'{}' is no record number", repeated(field.text));
-    digits(field.text).ok_or_else(|| Malformed::form(field.start, &why()))
+/// A term may have blanks in quotation marks and in parentheses. Names of files have none, but may have such marks.
+fn fields_by_blanks(text: &str) -> Result<Vec<Field<'_>>, Malformed> {
+    let mut fields = Vec::new();
+    let mut rest = text.trim_start();
+    while !rest.is_empty() {
+        let start = text.len() - rest.len();
+        let is_term = matches!(fields.len(), 1 | 2);
+        let end = match is_term && rest.contains(['"', '(']) {
+            true => term_end(rest).map_err(|(at, why)| Malformed::form(start + at, why))?,
+            false => rest.find(char::is_whitespace).unwrap_or(rest.len()),
+        };
+        let (word, after) = rest.split_at_checked(end).unwrap_or((rest, ""));
+        fields.push(Field { text: word, start });
+        rest = after.trim_start();
+    }
+    Ok(fields)
+}
+
+/// Where a term ends: at a blank outside quotation marks and parentheses. Else which of them is not closed.
+fn term_end(text: &str) -> Result<usize, (usize, &'static str)> {
+    let (mut quoted, mut open) = (None, Vec::new());
+    let mut characters = text.char_indices();
+    while let Some((at, character)) = characters.next() {
+        match (quoted, character) {
+            (Some(_), '"') => quoted = None,
+            // What is escaped ends no quotation.
+            (Some(_), '\\') => drop(characters.next()),
+            (Some(_), _) => {}
+            (None, '"') => quoted = Some(at),
+            (None, '(') => open.push(at),
+            (None, ')') => drop(open.pop()),
+            (None, _) if character.is_whitespace() && open.is_empty() => return Ok(at),
+            (None, _) => {}
+        }
+    }
+    match (quoted, open.last()) {
+        (Some(at), _) => Err((at, "this quotation mark is not closed")),
+        (None, Some(at)) => Err((*at, "this parenthesis is not closed")),
+        (None, None) => Ok(text.len()),
+    }
 }
 
 /// The claim; `end` is where the line ends.
@@ -202,7 +252,7 @@ fn no_claim(start: usize, word: &str) -> Malformed {
 
 #[cfg(test)]
 mod tests {
-    #![allow(clippy::unwrap_used)]
+    #![allow(clippy::unwrap_used, clippy::indexing_slicing)]
 
     use super::{repeated, Claim, Row, Text};
     use crate::commands::recheck::table::Line;
@@ -240,7 +290,11 @@ mod tests {
                 pair,
                 claim,
             } = read.read().unwrap();
-            assert_eq!((vocabulary.text, pair), (file, [4, 3]), "{text}");
+            assert_eq!(
+                (vocabulary.text, pair.map(|field| field.text)),
+                (file, ["4", "3"]),
+                "{text}"
+            );
             assert!(
                 matches!(claim, Claim::Proved(field) if field.text == script),
                 "{text}: {claim:?}"
@@ -256,15 +310,38 @@ mod tests {
     }
 
     #[test]
+    fn a_term_may_have_blanks() {
+        for (text, a, b) in [
+            ("v \"a b\" c3 equal", "\"a b\"", "c3"),
+            (
+                "v ObjectUnionOf(c1 \"a ) b\") \"a \\\" b\" equal",
+                "ObjectUnionOf(c1 \"a ) b\")",
+                "\"a \\\" b\"",
+            ),
+            ("v\u{a0}f(g(a b) c)\u{a0} h() equal", "f(g(a b) c)", "h()"),
+            ("v( a) b equal", "a)", "b"),
+            ("v\ta b\t\"c d\"\tequal", "a b", "\"c d\""),
+            ("v\tf(a\tb)\tequal", "f(a", "b)"),
+        ] {
+            let line = line(text.as_bytes());
+            let read = Text::of(&line);
+            let row = read.read().unwrap();
+            assert_eq!(row.pair.map(|field| field.text), [a, b], "{text}");
+            assert_eq!(row.claim, Claim::Equal);
+            let [_, b_field] = row.pair;
+            assert!(read.text[b_field.start..].starts_with(b), "{text}");
+        }
+    }
+
+    #[test]
     fn what_is_wrong_has_its_column() {
         let form = "; a line is VOCABULARY A B and equal, different, within or within SCRIPT";
         for (text, column, why) in [
             (&b"v"[..], 2, "a field is missing"),
             (b"v 4 3  ", 6, "the claim is missing"),
-            (b" v four 3 equal", 4, "'four' is no record number"),
-            ("é 4 ü equal".as_bytes(), 5, "'ü' is no record number"),
-            (b"v 4 -3 equal", 5, "'-3' is no record number"),
-            (b"v 4 4294967296 equal", 5, "'4294967296' is no record number"),
+            ("é 4 \"ü equal".as_bytes(), 5, "this quotation mark is not closed"),
+            (b"v 4 \"a\\\" equal", 5, "this quotation mark is not closed"),
+            (b"v f(g(4 3) equal", 4, "this parenthesis is not closed"),
             (b"v\t4\t\tequal", 5, "a field is empty"),
             (b"v\t\t4\tequal", 3, "a field is empty"),
             (b"v 4 3 sames", 7, "'sames' is no claim"),

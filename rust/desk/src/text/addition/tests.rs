@@ -144,7 +144,7 @@ fn what_cannot_be_read_is_told_with_its_word_and_column() {
         (
             "term",
             &["c9 -- sample"],
-            &[("c9 -- sample", 4, "the bytes of a vocabulary have no comments")],
+            &[("c9 -- sample", 4, "no comment is expected here")],
         ),
         ("term", &["zzz", "c1"], &[("zzz", 1, NO_TERM)]),
         ("term", &["4", "zzz"], &[("zzz", 1, NO_TERM)]),

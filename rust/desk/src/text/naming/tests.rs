@@ -138,10 +138,7 @@ fn only_what_is_wrong_by_itself_is_told() {
 /// Of very many faults those are kept that come first, whichever sort of lines they are of.
 #[test]
 fn reading_ends_after_so_many_faults() {
-    let text = format!(
-        "vocabulary roles 0\n{}",
-        "name c1 \"\"\nc1 c1\n".repeat(900)
-    );
+    let text = format!("vocabulary roles 0\n{}", "name c1 \"\"\nc1 c1\n".repeat(900));
     let told = faults(&text);
     assert_eq!(told.len(), 1_001);
     assert_eq!(told[0], "2:9: a name has at least one character");

@@ -7,17 +7,20 @@ use crate::display::is_followed;
 use std::collections::BTreeSet;
 use std::time::{Duration, Instant};
 
-/// What is said of a term that no line says.
-const UNSAID: &str = "no earlier line says this term; give it a line of its own before, or name a record, as #7";
-/// The same in a script.
+/// What is said of a term that no line of a script says.
 const UNSAID_IN_SCRIPT: &str =
     "no earlier line says this term; give it a line of its own before, or name a record, as #2";
 const NO_NUMBER: &str = "a number from 0 to 65535 is expected here, without leading zeros";
 const NO_RECORD: &str =
     "a term (c1, owl:Thing, ObjectUnionOf(..), ..) or a statement (SubClassOf(..)) is expected here";
 const NO_TERM: &str = "a term (c1, #7, owl:Thing, ObjectUnionOf(..), ..) is expected here";
+const NO_AXIOM: &str = "a statement (SubClassOf(..), EquivalentClasses(..), ..) is expected here";
+const TOO_FEW: &str = "a second term is expected here; there are two or more in such a list";
+const NO_LINK: &str = "this line is of several statements, which have no other links than the chain's";
 const NO_SCRIPT_TERM: &str = "a term (a, f7(a), #2, ..) is expected here";
 const NO_MORE: &str = "nothing more is expected on this line";
+
+const TOO_MANY: &str = "this is one record too many; their numbers end at 65535";
 
 /// A text and all its faults: line, column, message.
 type Told = (&'static str, &'static [(usize, usize, &'static str)]);
@@ -30,7 +33,7 @@ const VOCABULARIES: &[Told] = &[
         &[
             (2, 1, NO_RECORD),
             (4, 4, NO_MORE),
-            (5, 5, "'SubClassOf' is expected here"),
+            (5, 5, NO_AXIOM),
             (6, 15, "'(' is expected here"),
         ],
     ),
@@ -79,32 +82,91 @@ const VOCABULARIES: &[Told] = &[
         "ObjectComplementOf(SubclassOf(#1 #1))\nstart 0\nSubClassOf(#1 #1) first 3",
         &[(2, 20, NO_TERM), (3, 1, NO_RECORD), (4, 19, NO_MORE)],
     ),
-    // A term that no line says is told on each line that refers to it, but not where a faulty line may have said it.
+    // A term that no line says is made. Where a faulty line may have said it, or numbers are off, none is told of that.
+    ("ObjectComplementOf(c1)\nObjectComplementOf(c2)\nc1\nc2", &[]),
+    ("ObjectUnionOf(c8 zzz)", &[(2, 18, NO_TERM)]),
     (
-        "ObjectComplementOf(c1)\nObjectComplementOf(c2)\nc1\nc2",
-        &[(2, 20, UNSAID), (3, 20, UNSAID)],
-    ),
-    ("ObjectUnionOf(c8 c9)", &[(2, 15, UNSAID), (2, 18, UNSAID)]),
-    ("ObjectUnionOf(c8 zzz)", &[(2, 15, UNSAID), (2, 18, NO_TERM)]),
-    (
-        "zzz(c1)\nSubClassOf(c1 c2)\nyyy",
-        &[(2, 1, NO_RECORD), (4, 1, NO_RECORD)],
-    ),
-    (
-        "c01\nObjectComplementOf(c1)\nObjectComplementOf(owl:Thing)",
-        &[(2, 2, NO_NUMBER), (4, 20, UNSAID)],
+        "zzz(c1)\nSubClassOf(c1 c2)\n3: c3\nyyy\n9: c4\n10: c5\n12: c6",
+        &[
+            (2, 1, NO_RECORD),
+            (5, 1, NO_RECORD),
+            (8, 1, "this line is record 7"),
+        ],
     ),
     (
-        "c1\nObjectComplementOf(zzz)\nSubClassOf(ObjectComplementOf(c1) ObjectUnionOf(c1 c1))",
-        &[(3, 20, NO_TERM), (4, 35, UNSAID)],
+        "c01\n2: ObjectComplementOf(c1)\n3: ObjectComplementOf(owl:Thing)",
+        &[(2, 2, NO_NUMBER), (4, 1, "this line is record 4; a term is made before it that no line says")],
     ),
     (
-        "c1\nc2\nObjectUnionOf(c1 c3)\nSubClassOf(ObjectUnionOf(c1 c2) ObjectUnionOf(c2 c2))",
-        &[(4, 18, UNSAID), (5, 33, UNSAID)],
+        "c1\nObjectComplementOf(zzz)\n3: SubClassOf(ObjectComplementOf(c1) ObjectUnionOf(c1 c1))\n4: c2",
+        &[(3, 20, NO_TERM)],
     ),
     (
-        "SubClassOf(zzz)\nObjectComplementOf(c1)",
-        &[(2, 12, NO_TERM), (3, 20, UNSAID)],
+        "1: c1\n2: c2\n3: ObjectUnionOf(c1 c3)\n4: SubClassOf(ObjectUnionOf(c1 c2) ObjectUnionOf(c2 c2))\n5: c3",
+        &[(4, 1, "this line is record 4; a term is made before it that no line says: c3")],
+    ),
+    (
+        "SubClassOf(zzz)\nObjectComplementOf(c1)\n2: c2\n3: ObjectUnionOf(c2 c3)",
+        &[
+            (2, 12, NO_TERM),
+            (5, 1, "this line is record 6; a term is made before it that no line says: c3"),
+        ],
+    ),
+    (
+        "c1\n3: SubClassOf(c2 ObjectUnionOf(c3 c2))\n4: c4",
+        &[(
+            3,
+            1,
+            "this line is record 5; 3 terms are made before it that no line says: c2, c3",
+        )],
+    ),
+    // Lists, and axioms.
+    (
+        "ObjectUnionOf(c1)\nObjectIntersectionOf()\nObjectUnionOf(c1 c2 zzz)\nObjectUnionOf(c1 c2 c3",
+        &[
+            (2, 17, TOO_FEW),
+            (3, 22, NO_TERM),
+            (4, 21, NO_TERM),
+            (5, 23, "')' is expected here"),
+        ],
+    ),
+    (
+        "EquivalentClasses(c1)\nDisjointClasses(c1 c2 c3) next 4\nDisjointClasses(c1 c2) next 4\noff c1\nObjectPropertyDomain(c1 r0)",
+        &[
+            (2, 21, TOO_FEW),
+            (3, 27, NO_LINK),
+            (5, 5, NO_AXIOM),
+            (6, 22, "a role, as r0, is expected here"),
+        ],
+    ),
+    (
+        "EquivalentClases(c1 c2)\nObjectPropertyRnage(r0 c1)\noff Disjointclasses(c1 c2)",
+        &[
+            (
+                2,
+                1,
+                "'EquivalentClases' is not expected here; did you mean 'EquivalentClasses'?",
+            ),
+            (
+                3,
+                1,
+                "'ObjectPropertyRnage' is not expected here; did you mean 'ObjectPropertyRange'?",
+            ),
+            (
+                4,
+                5,
+                "'Disjointclasses' is not expected here; did you mean 'DisjointClasses'?",
+            ),
+        ],
+    ),
+    // The number of a line of several statements is that of the first.
+    (
+        "1: c1\n2: c2\n3: EquivalentClasses(c1 c2)\n5: ObjectPropertyDomain(r0 c1)",
+        &[(
+            5,
+            1,
+            "this line is record 7; 2 terms are made before it that no line says",
+        )],
     ),
     ("raw 3 0 1\nObjectComplementOf(c1)", &[(2, 10, NO_NUMBER)]),
     (
@@ -115,12 +177,19 @@ const VOCABULARIES: &[Told] = &[
             "five numbers are expected here: kind and second byte, up to 255, A, B and next",
         )],
     ),
-    ("raw 3 0 1 0 0\nraw 3 0 2 0 1\nSubClassOf(c1 c2)", &[(4, 15, UNSAID)]),
-    ("1: c1 2: c2\nSubClassOf(c2 c3)", &[(2, 7, NO_MORE), (3, 15, UNSAID)]),
+    (
+        "raw 3 0 1 0 0\nraw 3 0 2 0 1\n3: SubClassOf(c1 c2)",
+        &[(
+            4,
+            1,
+            "this line is record 4; a term is made before it that no line says: c2",
+        )],
+    ),
+    ("1: c1 2: c2\n2: SubClassOf(c2 c1)", &[(2, 7, NO_MORE)]),
     // Parentheses left open at the end of a line.
     (
         "c1\nObjectComplementOf(ObjectUnionOf(#1 #1",
-        &[(3, 20, UNSAID), (3, 39, "')' is expected here")],
+        &[(3, 39, "')' is expected here")],
     ),
     (
         "c1\nObjectComplementOf(c1\nSubClassOf(c1 ObjectComplementOf(c1))",
@@ -134,11 +203,7 @@ const VOCABULARIES: &[Told] = &[
     ),
     (
         "1: c1\n20: c2\n3: c3\n5: zzz",
-        &[
-            (3, 1, "this line is record 2"),
-            (5, 1, "this line is record 4"),
-            (5, 4, NO_RECORD),
-        ],
+        &[(3, 1, "this line is record 2"), (5, 4, NO_RECORD)],
     ),
     (
         "70000: c1\n02: c2\nSubClassOf(c1 c2)\n5: c3",
@@ -254,19 +319,13 @@ const HEADERS: &[Told] = &[
     ),
     (
         "vocabulary zzz 0\nc1\nSubClassOf(c1 c2)",
-        &[(1, 12, "'roles' is expected here"), (3, 15, UNSAID)],
+        &[(1, 12, "'roles' is expected here")],
     ),
     (
         "vocabluary zzz 0\nc1\nSubClassOf(c1 c2)",
-        &[
-            (1, 1, "'vocabluary' is not expected here; did you mean 'vocabulary'?"),
-            (3, 15, UNSAID),
-        ],
+        &[(1, 1, "'vocabluary' is not expected here; did you mean 'vocabulary'?")],
     ),
-    (
-        "vocabulary roles 0 c1\nSubClassOf(c1 c2)",
-        &[(1, 20, NO_MORE), (2, 15, UNSAID)],
-    ),
+    ("vocabulary roles 0 c1\nSubClassOf(c1 c2)", &[(1, 20, NO_MORE)]),
     (
         "script zzz\na\nzzz",
         &[
@@ -316,6 +375,10 @@ const RIGHT: [&str; 4] = [
 10: off SubClassOf(c1 owl:Thing) next 9
 11: raw 4 0 8 0 0
 12: ObjectComplementOf(ObjectComplementOf(ObjectAllValuesFrom(r0 #6)))
+13: off EquivalentClasses(c1 owl:Thing)
+16: DisjointClasses(c1 owl:Nothing c1)
+off ObjectPropertyDomain(r0 c1)
+ObjectPropertyRange(r0 c1) next 3
 ",
     "vocabulary raw 16 1 0 0 0\nc1\nObjectComplementOf(c1)\n",
     "script #4 within #3 first 4
@@ -384,10 +447,14 @@ fn words(text: &str) -> Vec<(usize, usize)> {
 }
 
 /// The words of the texts that can be misspelt; those with a number are not among them.
-const WORDS: [&str; 24] = [
+const WORDS: [&str; 28] = [
+    "DisjointClasses",
+    "EquivalentClasses",
     "ObjectAllValuesFrom",
     "ObjectComplementOf",
     "ObjectIntersectionOf",
+    "ObjectPropertyDomain",
+    "ObjectPropertyRange",
     "ObjectSomeValuesFrom",
     "ObjectUnionOf",
     "SubClassOf",
@@ -466,7 +533,10 @@ fn unsaid(before: &str, word: &str) -> Option<String> {
     let is_operand = before.ends_with(['(', ' ']) && (before.contains('(') || before.contains(" x"));
     match word {
         "a" if is_operand => Some("f60000(a)".to_string()),
-        name if is_operand && name.starts_with('c') && name != "column" => Some("c60000".to_string()),
+        name if is_operand && name.starts_with('c') && name != "column" => {
+            let number = before.split(':').next().and_then(|number| number.parse::<usize>().ok());
+            Some(format!("c{}", 60_000 + number.unwrap_or_default()))
+        }
         _ => None,
     }
 }
@@ -496,12 +566,14 @@ fn damaged_lines_are_told_and_those_that_refer_to_them_are_not() {
         }
         let text = lines.join("\n");
         let told = faults(&text);
-        let told_lines: Vec<usize> = told.iter().map(|fault| fault.line).collect();
-        assert_eq!(
-            told_lines,
-            damaged.iter().copied().collect::<Vec<_>>(),
-            "{told:?} in\n{text}"
-        );
+        let told_lines: BTreeSet<usize> = told.iter().map(|fault| fault.line).collect();
+        if case % 2 == 0 || text.starts_with("script") {
+            assert_eq!(told_lines, damaged, "{told:?} in\n{text}");
+        } else {
+            // The numbers of later lines may be open, so that a term that is made for them shows nowhere.
+            assert!(told_lines.is_subset(&damaged), "{told:?} in\n{text}");
+            assert_eq!(told_lines.first(), damaged.first(), "{told:?} in\n{text}");
+        }
         assert!(
             !told.iter().any(|fault| fault.message.contains(is_followed)),
             "{told:?}"
@@ -543,7 +615,7 @@ fn repeated(line: &str, count: usize) -> String {
 fn reading_ends_at_a_thousand_faults() {
     let most = in_time(&repeated("zzz", FAULTS));
     assert!(most.len() == FAULTS && most.iter().all(|fault| fault.message == NO_RECORD));
-    for (line, last) in [("x", FAULTS + 3), ("ObjectUnionOf(c8 c9)", FAULTS / 2 + 3)] {
+    for (line, last) in [("x", FAULTS + 3), ("ObjectUnoinOf(c1 C1)", FAULTS / 2 + 3)] {
         let all = in_time(&repeated(line, 500_000));
         let (ends, others) = all.split_last().unwrap();
         assert_eq!(others.len(), FAULTS);
@@ -560,10 +632,9 @@ fn a_record_too_many_is_told_once() {
     let most = repeated("ObjectComplementOf(c1)", 65_534);
     assert_eq!(in_time(&most), []);
     assert_eq!(assemble(&most).unwrap().0.len(), 8 * 65_536);
-    let too_many = "this is one record too many; their numbers end at 65535";
     for more in [1, 2, 1_000] {
         let text = repeated("ObjectComplementOf(c1)", 65_534 + more);
-        assert_eq!(in_time(&text), [Fault::at(65_537, 1, too_many)]);
+        assert_eq!(in_time(&text), [Fault::at(65_537, 1, TOO_MANY)]);
     }
 }
 
@@ -579,11 +650,14 @@ fn long_lines_end_in_time() {
         let inner = (1..depth).fold(leaf.to_string(), |term, _| format!("ObjectUnionOf({term} {term})"));
         repeated(&format!("SubClassOf({inner} c1)"), 1)
     };
-    for (leaf, column) in [("c9", 11 + 14 * 14 + 1), ("zzz", 11 + 14 * 14 + 1)] {
-        let all = in_time(&tree(15, leaf));
-        assert_eq!(all[0].column, column);
-        assert!(all.len() <= 2, "{all:?}");
-    }
+    let all = in_time(&tree(15, "zzz"));
+    assert_eq!((all[0].column, all.len()), (11 + 14 * 14 + 1, 1));
+    assert_eq!(in_time(&tree(15, "c9")), []);
+    let list = format!(
+        "ObjectUnionOf({})",
+        (0..60_000).map(|label| format!("c{label} ")).collect::<String>()
+    );
+    assert_eq!(in_time(&repeated(&list, 1)), [Fault::at(3, 1, TOO_MANY)]);
     assert_eq!(
         in_time(&repeated(&"c1 ".repeat(350_000), 1)),
         [Fault::at(3, 4, NO_MORE)]
