@@ -19,7 +19,6 @@ use std::path::Path;
 const FIRST: [&str; 2] = ["names", "sha256"];
 
 /// A file of names that fits its vocabulary.
-#[derive(Clone)]
 pub struct Beside {
     path: OsString,
     bytes: Vec<u8>,

@@ -4,13 +4,12 @@
 mod tests;
 
 use crate::cause;
-use crate::display::{counted, did_you_mean, plain};
+use crate::display::{counted, plain};
 use crate::input::Input;
 use crate::json::Json;
 use crate::refused;
 use crate::report::{Report, Stop, Style};
 use crate::text::cursor::{quoted, Fault};
-use crate::text::names::Sort;
 use crate::text::said::Term;
 use crate::text::terms::record;
 use crate::text::words::{Words, Wrong, FORMS};

@@ -112,7 +112,8 @@ pub fn assemble(text: &str) -> Result<Assembled, Vec<Fault>> {
 /// The bytes of a vocabulary's text, of whose header the first word is taken, the line of each record, and what its names are
 /// called. All lines that give a name are read before the others, which may use it.
 fn read_vocabulary(header: Cursor, text: &str) -> Result<(Vec<u8>, Vec<Line>, Names), Vec<Fault>> {
-    let giving = lines(text).skip(1).filter(|line| naming::sort_of(line).is_some());
+    let after_header = || lines(text).skip(1);
+    let giving = after_header().filter(|line| naming::sort_of(line).is_some());
     let naming = Naming::read(giving);
     let lacks_names = !naming.faults.is_empty();
     let others = after_header().filter(|line| naming::sort_of(line).is_none());
