@@ -74,7 +74,7 @@ impl Input {
             id: self.id,
             names: self.names.clone(),
             beside: None,
-            length: self.length.clone(),
+            length: self.length,
             lines: self.lines.clone(),
             given: self.given.clone(),
         }

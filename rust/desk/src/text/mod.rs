@@ -112,10 +112,11 @@ pub fn assemble(text: &str) -> Result<Assembled, Vec<Fault>> {
 /// The bytes of a vocabulary's text, of whose header the first word is taken, the line of each record, and what its names are
 /// called. All lines that give a name are read before the others, which may use it.
 fn read_vocabulary(header: Cursor, text: &str) -> Result<(Vec<u8>, Vec<Line>, Names), Vec<Fault>> {
-    let giving = lines(text).skip(1).filter(|line| naming::sort_of(line).is_some());
+    let after_header = || lines(text).skip(1);
+    let giving = after_header().filter(|line| naming::sort_of(line).is_some());
     let naming = Naming::read(giving);
     let lacks_names = !naming.faults.is_empty();
-    let others = record_lines(text, Kind::Vocabulary).skip(1);
+    let others = after_header().filter(|line| naming::sort_of(line).is_none());
     let others = others.map(|line| line.with_names(&naming.names).lacking_names(lacks_names));
     let read = lines::read(header, others);
     let strangers = match &read {
@@ -138,14 +139,6 @@ pub fn names(text: &str, vocabulary: &Vocabulary) -> Result<Names, Fault> {
         Some(fault) => Err(fault),
         None => Ok(naming.names),
     }
-}
-
-/// The lines that say something, one for each record. Of a vocabulary's those that give a name make none.
-fn record_lines(text: &str, kind: Kind) -> impl Iterator<Item = Cursor<'_>> {
-    let makes_record = move |line: &Cursor| kind == Kind::Script || naming::sort_of(line).is_none();
-    let numbered = lines(text).enumerate();
-    let kept = numbered.filter(move |(number, line)| *number == 0 || makes_record(line));
-    kept.map(|(_, line)| line)
 }
 
 /// Takes the first word of a text, which says what it is of. Where it is no such word, what follows it may say that.

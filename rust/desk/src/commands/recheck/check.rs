@@ -1,5 +1,6 @@
 //! Lines against the library: whether what they claim holds.
 
+use super::asked::{asked, Unfit};
 use super::kept::{Files, Kept, Known, Trouble};
 use super::line::{repeated, Claim, Field, Malformed, Row, Text};
 use super::table::Line;
@@ -12,9 +13,6 @@ use crate::question::Within;
 use crate::refused;
 use crate::report::refusal_status;
 use crate::script;
-use crate::term::{self, Asked, Unasked};
-use crate::text::words::{Wrong, FORMS};
-use base::arguments::digits;
 use base::Status;
 use judge::{Comparison, Refusal, Verdict};
 
@@ -81,6 +79,11 @@ impl Outcome {
             Sort::DoesNotHold
         };
         Outcome::new(sort, status, refused::words(input, refusal, None))
+    }
+
+    /// The refusal of what words ask about.
+    fn unfit(why: String) -> Outcome {
+        Outcome::new(Sort::Refused, Status::Refused, why)
     }
 
     /// What is wrong with the file of a field.
@@ -182,26 +185,16 @@ impl Checker {
             Ok(known) => known,
             Err(trouble) => return Outcome::trouble(trouble, row.vocabulary, text),
         };
-        let asked = match asked(known, row, text) {
+        let asked = match asked(known, row) {
             Ok(asked) => asked,
-            Err(outcome) => return outcome,
+            Err(Unfit::Refused(why)) => return Outcome::unfit(why),
+            Err(Unfit::Malformed(malformed)) => return Outcome::malformed(malformed, text),
         };
         // Of terms that no record says, a copy is asked about that has them.
-        let mut extended;
-        let known = match known.extended(&asked) {
-            Ok(None) => known,
-            Ok(Some(copy)) => {
-                extended = copy;
-                &mut extended
-            }
-            Err(refused) => return Outcome::new(Sort::Refused, Status::Refused, refused.words(&known.input)),
-        };
-        let pair = asked.pair;
-        let judged = match (row.claim, script) {
-            (Claim::Proved(_), Some(script)) => proved(known, pair, &script, explain),
-            (Claim::Within | Claim::Proved(_), _) => within(known, pair, explain),
-            (Claim::Equal, _) => equal(known, pair, explain),
-            (Claim::Different, _) => different(known, pair, explain),
+        let judged = match known.extended(&asked) {
+            Ok(None) => judged(known, row.claim, asked.pair, script, explain),
+            Ok(Some(mut copy)) => judged(&mut copy, row.claim, asked.pair, script, explain),
+            Err(refused) => Outcome::unfit(refused.words(&known.input)).into(),
         };
         match judged {
             Judged::Fails(outcome) => *outcome,
@@ -218,42 +211,13 @@ impl Checker {
     }
 }
 
-/// The terms of a line.
-fn asked(known: &Known, row: &Row, text: &str) -> Result<Asked, Outcome> {
-    let words = row.pair.map(|field| field.text);
-    if let [Some(a), Some(b)] = words.map(digits) {
-        return Ok(Asked::numbers([a, b]));
-    }
-    let asked = term::ask(&known.input, words).map_err(|unasked| match unasked {
-        Unasked::Refused(refused) => Outcome::new(Sort::Refused, Status::Refused, refused.words(&known.input)),
-        Unasked::Words(wrong) => wrong_words(row, wrong, text),
-    })?;
-    if matches!(row.claim, Claim::Proved(_)) && !asked.added.is_empty() {
-        let why = "no record of the vocabulary says a term of this line, so that no script is about it";
-        return Err(Outcome::new(Sort::Refused, Status::Refused, why));
-    }
-    Ok(asked)
-}
-
-/// A line of which a word names no term.
-fn wrong_words(row: &Row, wrong: [Option<Wrong>; 2], text: &str) -> Outcome {
-    let mut malformed = Vec::new();
-    for (field, wrong) in row.pair.into_iter().zip(wrong) {
-        malformed.extend(wrong.map(|wrong| match wrong {
-            Wrong::NoTerm(meant) => {
-                let why = format!("'{}' is no term; A and B are each {FORMS}{meant}", repeated(field.text));
-                Malformed::in_field(field, 1, why)
-            }
-            Wrong::Faults(faults) => {
-                let fault = faults.into_iter().next();
-                let (column, why) = fault.map_or((1, String::new()), |fault| (fault.column, fault.message));
-                Malformed::in_field(field, column, why)
-            }
-        }));
-    }
-    match malformed.into_iter().next() {
-        Some(malformed) => Outcome::malformed(malformed, text),
-        None => Outcome::new(Sort::Malformed, Status::Defect, "no word of the line is wrong"),
+/// How the claim of a line comes out.
+fn judged(known: &mut Known, claim: Claim, pair: [u32; 2], script: Option<Input>, explain: bool) -> Judged {
+    match (claim, script) {
+        (Claim::Proved(_), Some(script)) => proved(known, pair, &script, explain),
+        (Claim::Within | Claim::Proved(_), _) => within(known, pair, explain),
+        (Claim::Equal, _) => equal(known, pair, explain),
+        (Claim::Different, _) => different(known, pair, explain),
     }
 }
 

@@ -1,5 +1,6 @@
 //! `desk recheck`.
 
+mod asked;
 mod check;
 mod kept;
 mod line;
