@@ -165,6 +165,39 @@ fn a_counter_has_a_model_of_as_many_elements_as_it_counts() {
     assert_eq!(model.elements.len(), 8, "{model:?}");
 }
 
+/// An element that needs six names of its witnesses, which can have 1 to 4, or 1, 3 and 5, or 2, 4 and 6. Who begins with the
+/// first of these needs three.
+#[test]
+fn two_witnesses_are_found_where_the_first_choice_would_need_three() {
+    let and = Saying::And;
+    let mut terms: Vec<Saying> = (1..=6).map(Saying::Name).collect();
+    terms.extend((1..=6).map(|name| Saying::Some(0, name)));
+    terms.extend([
+        Saying::Bottom,
+        and(7, 8),
+        and(14, 9),
+        and(15, 10),
+        and(16, 11),
+        and(17, 12),
+    ]);
+    terms.extend([and(5, 2), and(5, 4), and(5, 6), and(6, 1), and(6, 3)]);
+    let statements: Vec<(u16, u16)> = (19..24).map(|term| (term, 13)).collect();
+    let bytes = vocabulary(&terms, &statements);
+    let mut survivors = [0; SURVIVOR_BYTES];
+    let answer = judge::compare(&bytes, 18, 13, &mut survivors).unwrap();
+    let Verdict::Different { element } = answer.verdict else {
+        panic!("{answer:?}")
+    };
+    let model = Model::around(element, [18, 13], &Vocabulary::read(&bytes), &survivors).unwrap();
+    assert_eq!(model.elements, [element, 0b010101, 0b101010]);
+    let edges = model.elements.iter().skip(1).map(|to| Edge {
+        from: element,
+        role: 0,
+        to: *to,
+    });
+    assert_eq!(model.edges, edges.collect::<Vec<Edge>>());
+}
+
 #[test]
 fn what_is_no_counter_model_is_a_defect() {
     // Name 1; some role 0 to 1; bottom; 1 within 2.
