@@ -198,8 +198,7 @@ fn stopped(input: &Input, words: [(&str, &str); 2], unasked: Unasked) -> Stop {
 }
 
 fn no_term(input: &Input, name: &str, word: &str) -> Failure {
-    let names = input.names.all(Sort::Name).map(|(_, called)| called);
-    let hint = did_you_mean(word, names);
+    let hint = did_you_mean(word, input.names.meant(Sort::Name, word));
     Failure::usage(format!(
         "{name} is {FORMS}, and '{}' is none{}",
         plain(word),
