@@ -23,8 +23,9 @@ pub const FLAGS: &[Flag] = &[WORDS];
 
 pub fn run(arguments: &Arguments, console: &mut Console) -> Result<Status, Stop> {
     let (path, owner) = read_arguments(arguments)?;
-    let input = read_vocabulary(path, console.style)?;
+    let mut input = read_vocabulary(path, console.style)?;
     let words = read_words(arguments, console.style)?;
+    input.take_names(words.as_ref());
     if let Err(refusal) = judge::check_vocabulary(&input.bytes) {
         return Ok(console.answer(refused::report(console.style, &input, refusal, None))?);
     }

@@ -169,8 +169,14 @@ impl<'a> Cursor<'a> {
     }
 
     /// What stands here as a word, be it misspelt: all up to a blank or a parenthesis.
-    pub fn written(&self) -> &'a str {
+    fn written(&self) -> &'a str {
         self.run(|c| !c.is_whitespace() && c != '(' && c != ')')
+    }
+
+    /// Whether what stands here as a word may be one of these, be it misspelt.
+    pub fn may_be(&self, words: &[&str]) -> bool {
+        let written = self.written();
+        words.contains(&written) || meant(written, words).is_some()
     }
 
     /// Moves past what stands here as a word.
@@ -287,8 +293,8 @@ impl<'a> Cursor<'a> {
         self.names.find(sort, &called).ok_or_else(|| {
             // It may be the one that is missing.
             self.guessed |= self.lacks_names;
-            let names = self.names.all(sort).map(|(_, name)| name);
-            let hint = nearest(&called, names).map(|meant| format!("; did you mean {}?", quoted(meant)));
+            let meant = self.names.meant(sort, &called);
+            let hint = meant.map(|meant| format!("; did you mean {}?", quoted(meant)));
             let (word, called) = (sort.word(), quoted(&called));
             self.fault_at(
                 place,

@@ -94,29 +94,29 @@ pub fn assemble(text: &str) -> Result<Assembled, Vec<Fault>> {
         return Err(vec![Fault::at(1, 1, message)]);
     };
     let kind = read_kind(&mut header).map_err(|fault| vec![fault])?;
-    let (bytes, lines, names) = match kind {
-        Kind::Vocabulary => read_vocabulary(header, text)?,
-        Kind::Script => {
-            let (bytes, lines) = script::read(header, cursors)?;
-            (bytes, lines, Names::default())
-        }
-    };
+    if kind == Kind::Vocabulary {
+        return read_vocabulary(header, text);
+    }
+    let (bytes, lines) = script::read(header, cursors)?;
     Ok(Assembled {
         kind,
         bytes,
         lines,
-        names,
+        names: Names::default(),
     })
 }
 
 /// The bytes of a vocabulary's text, of whose header the first word is taken, the line of each record, and what its names are
 /// called. All lines that give a name are read before the others, which may use it.
-fn read_vocabulary(header: Cursor, text: &str) -> Result<(Vec<u8>, Vec<Line>, Names), Vec<Fault>> {
+fn read_vocabulary(header: Cursor, text: &str) -> Result<Assembled, Vec<Fault>> {
     let after_header = || lines(text).skip(1);
     let giving = after_header().filter(|line| naming::sort_of(line).is_some());
     let naming = Naming::read(giving);
     let lacks_names = !naming.faults.is_empty();
-    let others = after_header().filter(|line| naming::sort_of(line).is_none());
+    // Where they have too many faults, reading ends.
+    let last = naming.faults.get(records::FAULTS).map(|fault| fault.line);
+    let others = after_header().take_while(|line| last.is_none_or(|last| line.fault("").line <= last));
+    let others = others.filter(|line| naming::sort_of(line).is_none());
     let others = others.map(|line| line.with_names(&naming.names).lacking_names(lacks_names));
     let read = lines::read(header, others);
     let strangers = match &read {
@@ -124,7 +124,12 @@ fn read_vocabulary(header: Cursor, text: &str) -> Result<(Vec<u8>, Vec<Line>, Na
         Err(_) => Vec::new(),
     };
     match (read, [&naming.faults[..], &strangers].concat()) {
-        (Ok((bytes, lines)), faults) if faults.is_empty() => Ok((bytes, lines, naming.names)),
+        (Ok((bytes, lines)), faults) if faults.is_empty() => Ok(Assembled {
+            kind: Kind::Vocabulary,
+            bytes,
+            lines,
+            names: naming.names,
+        }),
         (read, faults) => Err(records::merged(read.err().unwrap_or_default(), faults)),
     }
 }

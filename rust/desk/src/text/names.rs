@@ -2,7 +2,7 @@
 
 use super::quotes;
 use crate::display::counted;
-use base::vocabulary::{Saying, Vocabulary};
+use base::spelling::nearest;
 use std::collections::BTreeMap;
 
 /// What can be called something.
@@ -38,32 +38,57 @@ impl Sort {
 /// What people call the names and the roles of a vocabulary, as far as they call them something.
 #[derive(Clone, Debug, Default, PartialEq, Eq)]
 pub struct Names {
-    /// By label.
-    terms: BTreeMap<u16, String>,
-    /// By role.
-    roles: BTreeMap<u16, String>,
+    terms: Called,
+    roles: Called,
+}
+
+/// What is called something, by number, and the numbers by what they are called.
+#[derive(Clone, Debug, Default, PartialEq, Eq)]
+struct Called {
+    names: BTreeMap<u16, String>,
+    numbers: BTreeMap<String, u16>,
+}
+
+impl Called {
+    const fn new() -> Called {
+        Called {
+            names: BTreeMap::new(),
+            numbers: BTreeMap::new(),
+        }
+    }
+
+    fn name(&self, number: u16) -> Option<&str> {
+        self.names.get(&number).map(String::as_str)
+    }
 }
 
 /// Where nothing is called anything.
 pub static NO_NAMES: Names = Names {
-    terms: BTreeMap::new(),
-    roles: BTreeMap::new(),
+    terms: Called::new(),
+    roles: Called::new(),
 };
 
 impl Names {
+    fn of(&self, sort: Sort) -> &Called {
+        match sort {
+            Sort::Name => &self.terms,
+            Sort::Role => &self.roles,
+        }
+    }
+
     /// Whether nothing is called anything.
     pub fn is_empty(&self) -> bool {
-        self.terms.is_empty() && self.roles.is_empty()
+        SORTS.into_iter().all(|sort| self.of(sort).names.is_empty())
     }
 
     /// What the name of a label is called.
     pub fn term(&self, label: u16) -> Option<&str> {
-        self.terms.get(&label).map(String::as_str)
+        self.terms.name(label)
     }
 
     /// What a role is called.
     pub fn role(&self, role: u16) -> Option<&str> {
-        self.roles.get(&role).map(String::as_str)
+        self.roles.name(role)
     }
 
     /// The label of the name that is called so.
@@ -78,26 +103,32 @@ impl Names {
 
     /// What is called so, of a sort.
     pub fn find(&self, sort: Sort, called: &str) -> Option<u16> {
-        let mut all = self.all(sort).filter(|(_, name)| *name == called);
-        all.next().map(|(number, _)| number)
+        self.of(sort).numbers.get(called).copied()
     }
 
     /// All that is called something, of a sort, by number.
     pub fn all(&self, sort: Sort) -> impl Iterator<Item = (u16, &str)> {
-        let names = match sort {
-            Sort::Name => &self.terms,
-            Sort::Role => &self.roles,
-        };
-        names.iter().map(|(number, called)| (*number, called.as_str()))
+        let names = self.of(sort).names.iter();
+        names.map(|(number, called)| (*number, called.as_str()))
     }
 
-    /// Calls one so.
+    /// What may have been meant by a word that nothing of a sort is called by. Of very many names, and of those of another
+    /// length, none is looked at, so that it takes little time.
+    pub fn meant(&self, sort: Sort, word: &str) -> Option<&str> {
+        let length = word.chars().count();
+        let is_near = |name: &&str| name.chars().count().abs_diff(length) <= 3;
+        let names = self.all(sort).take(judge::RECORDS).map(|(_, name)| name);
+        nearest(word, names.filter(is_near))
+    }
+
+    /// Calls one so, which is called nothing yet.
     pub fn call(&mut self, sort: Sort, number: u16, called: &str) {
-        let names = match sort {
+        let all = match sort {
             Sort::Name => &mut self.terms,
             Sort::Role => &mut self.roles,
         };
-        names.insert(number, called.to_string());
+        all.names.insert(number, called.to_string());
+        all.numbers.insert(called.to_string(), number);
     }
 
     /// The lines that say so, as texts have them.
@@ -114,13 +145,5 @@ impl Names {
         SORTS
             .map(|sort| counted(self.all(sort).count() as u64, sort.word()))
             .join(" and ")
-    }
-}
-
-/// Whether a vocabulary has this name, or this role.
-pub fn has(vocabulary: &Vocabulary, sort: Sort, number: u16) -> bool {
-    match sort {
-        Sort::Name => vocabulary.sayings().any(|(_, saying)| saying == Saying::Name(number)),
-        Sort::Role => number < vocabulary.get(0).b,
     }
 }

@@ -6,10 +6,11 @@ mod tests;
 
 use super::cursor::{quoted, Cursor, Fault};
 use super::lines::{first_word, is_word};
-use super::names::{has, Names, Sort, SORTS};
+use super::names::{Names, Sort, SORTS};
+use super::records::FAULTS;
 use crate::display::counted;
-use base::spelling::nearest;
-use base::vocabulary::Vocabulary;
+use base::vocabulary::{Saying, Vocabulary};
+use std::collections::BTreeSet;
 
 /// The most characters that something is called by.
 const LONGEST: usize = 200;
@@ -29,9 +30,8 @@ pub struct Naming {
 pub fn sort_of(line: &Cursor) -> Option<Sort> {
     let mut ahead = line.clone();
     skip_number(&mut ahead);
-    // Most lines are told from these at once, without a search for what may be meant.
-    let (word, words) = (ahead.written(), SORTS.map(Sort::word));
-    if !words.contains(&word) && nearest(word, words).is_none() {
+    // Most lines are told apart by this, which is quick.
+    if !ahead.may_be(&SORTS.map(Sort::word)) {
         return None;
     }
     let word = first_word(&mut ahead).ok()?;
@@ -56,6 +56,9 @@ impl Naming {
                 line.stop(fault);
             }
             naming.faults.append(&mut line.into_faults());
+            if naming.faults.len() > FAULTS {
+                break;
+            }
         }
         naming
     }
@@ -103,33 +106,35 @@ impl Naming {
     /// That another is called so already.
     fn taken(&self, sort: Sort, called: &str) -> Option<String> {
         let number = self.names.find(sort, called)?;
-        let place = self.places.iter().find(|(of, at, _)| (*of, *at) == (sort, number));
-        let line = place.map_or(0, |(_, _, fault)| fault.line);
-        Some(format!(
-            "{}{number} is called so already, in line {line}",
-            sort.letter()
-        ))
+        Some(format!("{}{number} is called so already", sort.letter()))
     }
 
     /// What is called something and is not in the vocabulary.
     pub fn strangers(&self, vocabulary: &Vocabulary) -> Vec<Fault> {
-        let strange = self
-            .places
-            .iter()
-            .filter(|(sort, number, _)| !has(vocabulary, *sort, *number));
-        let fault = |(sort, number, place): &(Sort, u16, Fault)| Fault {
-            message: match sort {
-                Sort::Name => format!("no record is the name c{number}"),
-                Sort::Role => format!("there is no role r{number}; the header says {}", roles(vocabulary)),
-            },
-            ..place.clone()
+        let label = |(_, saying): (u16, Saying)| match saying {
+            Saying::Name(label) => Some(label),
+            _ => None,
         };
-        strange.map(fault).collect()
+        let labels: BTreeSet<u16> = vocabulary.sayings().filter_map(label).collect();
+        let roles = vocabulary.get(0).b;
+        let fault = |(sort, number, place): &(Sort, u16, Fault)| {
+            let message = match sort {
+                Sort::Name if !labels.contains(number) => format!("no record is the name c{number}"),
+                Sort::Role if *number >= roles => {
+                    format!(
+                        "there is no role r{number}; the header says {}",
+                        counted(roles.into(), "role")
+                    )
+                }
+                _ => return None,
+            };
+            Some(Fault {
+                message,
+                ..place.clone()
+            })
+        };
+        self.places.iter().filter_map(fault).take(FAULTS + 1).collect()
     }
-}
-
-fn roles(vocabulary: &Vocabulary) -> String {
-    counted(vocabulary.get(0).b.into(), "role")
 }
 
 /// Why nothing can be called so. Where a term is asked for, it would be taken for something else, or could hardly be told

@@ -49,10 +49,10 @@ impl Words<'_> {
         self.term_of_text(label.as_deref().unwrap_or(word))
     }
 
-    /// What people call a name that a word may mean.
+    /// What people call a name that a word may mean, to go behind a message.
     fn meant(&self, word: &str) -> String {
-        let names = self.names.all(Sort::Name).map(|(_, called)| called);
-        plain(&did_you_mean(word.trim(), names))
+        let word = word.trim();
+        plain(&did_you_mean(word, self.names.meant(Sort::Name, word)))
     }
 
     /// The record of the term of a text.

@@ -130,7 +130,7 @@ fn only_what_is_wrong_by_itself_is_told() {
         [
             "2:6: no record is the name c9",
             "3:6: there is no role r1; the header says 1 role",
-            "5:9: c9 is called so already, in line 2"
+            "5:9: c9 is called so already"
         ]
     );
 }
@@ -143,4 +143,26 @@ fn reading_ends_after_so_many_faults() {
     assert_eq!(told.len(), 1_001);
     assert_eq!(told[0], "2:9: a name has at least one character");
     assert_eq!(told[1_000], "1002:9: reading ends here, after 1,000 faults");
+}
+
+/// Large texts of names, good or bad, are read in time.
+#[test]
+fn many_names_take_little_time() {
+    let start = std::time::Instant::now();
+    let line = |i: usize| format!("name c{i} \"number {i}, of many\"\n");
+    let names: String = (0..30_000).map(line).collect();
+    let unknown = "ObjectComplementOf(\"nmuber 15, of manny\")\n".repeat(1_000);
+    let told = faults(&format!("vocabulary roles 0\n{names}{unknown}"));
+    assert_eq!(told.len(), 1_000);
+    assert!(told[0].ends_with("no name is called 'nmuber 15, of manny'; did you mean 'number 15, of many'?"));
+    assert_eq!(faults(&format!("vocabulary roles 0\n{names}")).len(), 1_001);
+    assert_eq!(
+        faults(&format!("vocabulary roles 0\n{}", "nmae c1 x\n".repeat(100_000))).len(),
+        1_001
+    );
+    assert_eq!(
+        faults(&format!("vocabulary roles 0\n{}", "\"".repeat(1_000_000))).len(),
+        1
+    );
+    assert!(start.elapsed().as_secs() < 10, "{:?}", start.elapsed());
 }
