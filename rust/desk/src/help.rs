@@ -245,7 +245,7 @@ exit status: 0 converted or unchanged, 2 refused, 66 FILE cannot be read or is a
 ";
 
 const RECHECK: &str = "\
-usage: desk recheck TABLE [-j N] [--strict] [--explain] [--words TEXT] [--json]
+usage: desk recheck TABLE [-j N] [--strict] [--explain] [--words TEXT] [--html FILE] [--json]
 
 Rechecks a filed table ('desk help tables'). Each line that does not hold is printed when it is found, in the order of the
 lines, as TABLE:LINE:COLUMN with the reason below it; then a summary. Lines that hold only because nothing satisfies the
@@ -256,6 +256,9 @@ terminal.
   --strict         lines that are so marked fail, with status 1
   --explain        explains each line that does not hold, as 'desk compare' does, and why a script is refused
   --words TEXT     the text of a vocabulary, for lines whose vocabulary has its bytes; implies --explain
+  --html FILE      writes a page to file: the date, the versions, the summary, each file with its size and SHA-256, and each
+                   line with its verdict and its terms; of those that do not hold what tells the terms apart, drawn. It is
+                   written when all lines are judged, whole or not at all. SOURCE_DATE_EPOCH sets the date
 
 --json writes an object for each such line, and a last one with the summary.
 

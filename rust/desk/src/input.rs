@@ -131,6 +131,14 @@ fn is_text(bytes: &[u8]) -> bool {
     bytes.starts_with(b"--") || words.contains(&word.as_ref()) || nearest(&word, words).is_some()
 }
 
+/// The file of a vocabulary or of a script, as it is.
+pub fn source(path: &OsStr, access: Access, kind: Kind) -> Result<Source, Failure> {
+    match kind {
+        Kind::Vocabulary => read(path, access, judge::VOCABULARY_BYTES),
+        Kind::Script => read(path, access, judge::SCRIPT_BYTES),
+    }
+}
+
 /// Reads a vocabulary or a script; `most` is the length from which the library refuses it.
 fn read(path: &OsStr, access: Access, most: usize) -> Result<Source, Failure> {
     files::read(
@@ -143,7 +151,7 @@ fn read(path: &OsStr, access: Access, most: usize) -> Result<Source, Failure> {
 
 /// A vocabulary, from its bytes or its text.
 pub fn vocabulary(path: &OsStr, access: Access, style: Style) -> Result<Input, Stop> {
-    of_kind(read(path, access, judge::VOCABULARY_BYTES)?, Kind::Vocabulary, style)
+    of_kind(source(path, access, Kind::Vocabulary)?, Kind::Vocabulary, style)
 }
 
 /// A vocabulary that is to be changed, from its bytes alone, and its file, which no other run changes while it is open. For
@@ -164,14 +172,14 @@ pub fn vocabulary_to_change(path: &OsStr, advice: &str) -> Result<(Input, Opened
 
 /// A script, from its bytes or its text.
 pub fn script(path: &OsStr, access: Access, style: Style) -> Result<Input, Stop> {
-    of_kind(read(path, access, judge::SCRIPT_BYTES)?, Kind::Script, style)
+    of_kind(source(path, access, Kind::Script)?, Kind::Script, style)
 }
 
 /// A vocabulary or a script, and which of the two, from its bytes or its text. Bytes that begin as a script are one.
 pub fn either(path: &OsStr, style: Style) -> Result<(Input, Kind), Stop> {
     let source = read(path, Access::Any, judge::SCRIPT_BYTES)?;
     if is_text(&source.bytes) {
-        return read_text(source, style);
+        return of_text(source, style);
     }
     let kind = match source.bytes.as_slice() {
         [32, 0, ..] => Kind::Script,
@@ -182,7 +190,12 @@ pub fn either(path: &OsStr, style: Style) -> Result<(Input, Kind), Stop> {
 
 /// A text, and what it is of.
 pub fn text(path: &OsStr, style: Style) -> Result<(Input, Kind), Stop> {
-    read_text(files::read(path, Access::Any, TEXT_BYTES, |_| TEXT_BYTES)?, style)
+    of_text(text_source(path)?, style)
+}
+
+/// The file of a text, as it is.
+pub fn text_source(path: &OsStr) -> Result<Source, Failure> {
+    files::read(path, Access::Any, TEXT_BYTES, |_| TEXT_BYTES)
 }
 
 fn of_bytes(source: Source) -> Input {
@@ -196,11 +209,12 @@ fn of_bytes(source: Source) -> Input {
     }
 }
 
-fn of_kind(source: Source, wanted: Kind, style: Style) -> Result<Input, Stop> {
+/// What a file has that is to be a vocabulary, or a script.
+pub fn of_kind(source: Source, wanted: Kind, style: Style) -> Result<Input, Stop> {
     if !is_text(&source.bytes) {
         return Ok(of_bytes(source));
     }
-    let (input, kind) = read_text(source, style)?;
+    let (input, kind) = of_text(source, style)?;
     if kind != wanted {
         let (name, is, wanted) = (&input.name, kind.word(), wanted.word());
         let message = format!("{name}: is the text of a {is}, and a {wanted} is needed");
@@ -209,7 +223,8 @@ fn of_kind(source: Source, wanted: Kind, style: Style) -> Result<Input, Stop> {
     Ok(input)
 }
 
-fn read_text(source: Source, style: Style) -> Result<(Input, Kind), Stop> {
+/// What a text has, and what it is of.
+pub fn of_text(source: Source, style: Style) -> Result<(Input, Kind), Stop> {
     let Source { name, bytes, id, .. } = source;
     let text = files::text_of(&name, bytes, TEXT_BYTES)?;
     match text::assemble(&text) {
