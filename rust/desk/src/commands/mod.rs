@@ -6,6 +6,7 @@ mod check;
 mod classify;
 mod columns;
 mod compare;
+mod diff;
 mod edition;
 mod new;
 mod pair;
@@ -45,7 +46,7 @@ const fn command(
 }
 
 /// The commands, in the order of the help.
-const COMMANDS: [Command; 13] = [
+const COMMANDS: [Command; 14] = [
     command("check", &[], check::run),
     command("show", &[], show::run),
     command("record", &[], record::run),
@@ -59,6 +60,7 @@ const COMMANDS: [Command; 13] = [
     command("add", &[], add::run),
     command("edition", &[], edition::run),
     command("recheck", recheck::FLAGS, recheck::run),
+    command("diff", &[], diff::run),
 ];
 
 /// The options of every command.

@@ -63,7 +63,7 @@ impl Page {
 /// The text before the next tag, that tag without its brackets, and what is after it.
 fn next_tag(text: &str) -> Option<(&str, &str, &str)> {
     let (before, rest) = text.split_once('<')?;
-    let (tag, after) = rest.split_once('>').expect("a tag ends");
+    let (tag, after) = rest.split_once('>').unwrap();
     Some((before, tag, after))
 }
 
@@ -117,7 +117,7 @@ fn attributes(tag: &str) -> Vec<(&str, &str)> {
     let mut rest = tag;
     while let Some((before, after)) = rest.split_once("=\"") {
         let name = before.rsplit([' ', '\n']).next().unwrap();
-        let (value, after) = after.split_once('"').expect("a value ends");
+        let (value, after) = after.split_once('"').unwrap();
         found.push((name, value));
         rest = after;
     }

@@ -118,7 +118,7 @@ fn read_words(arguments: &Arguments, style: Style) -> Result<Option<Words>, Stop
 }
 
 /// The directory in which the table's files are looked for.
-fn directory(table: &OsStr) -> PathBuf {
+pub fn directory(table: &OsStr) -> PathBuf {
     Path::new(table).parent().map(Path::to_path_buf).unwrap_or_default()
 }
 

@@ -39,10 +39,18 @@ impl Sort {
             Sort::NotReadable => "not readable",
         }
     }
+
+    /// The same as the end of a sentence.
+    pub fn clause(self) -> String {
+        match self {
+            Sort::Holds | Sort::Vacuous | Sort::DoesNotHold => self.words().to_string(),
+            Sort::Refused | Sort::Malformed | Sort::NotReadable => format!("is {}", self.words()),
+        }
+    }
 }
 
 /// How a line came out.
-#[derive(Debug)]
+#[derive(Clone, Debug)]
 pub struct Outcome {
     /// Its sort.
     pub sort: Sort,
