@@ -22,6 +22,14 @@ pub fn is_followed(character: char) -> bool {
     character.is_control() || directs || separates
 }
 
+/// The beginning of what may be too long: so many characters, and a mark.
+pub fn beginning(text: &str, most: usize) -> String {
+    match text.char_indices().nth(most) {
+        Some((end, _)) => format!("{} ..", text.get(..end).unwrap_or_default()),
+        None => text.to_string(),
+    }
+}
+
 /// A number with its thousands set apart.
 pub fn grouped(number: u64) -> String {
     let digits = number.to_string();

@@ -22,9 +22,10 @@ pub fn escaped(text: &str) -> String {
     escaped
 }
 
-/// The same set apart from what stands around it, which it may not turn to its direction of writing.
+/// The same set apart from what stands around it, which it may not turn to its direction of writing. It is read from left to
+/// right, as paths, terms and sentences are, whatever the names in it.
 pub fn isolated(text: &str) -> String {
-    format!("<bdi>{}</bdi>", escaped(text))
+    format!("<bdi dir=\"ltr\">{}</bdi>", escaped(text))
 }
 
 #[cfg(test)]

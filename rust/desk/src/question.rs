@@ -17,6 +17,8 @@ pub struct Questions {
     empty: BTreeMap<u32, Option<bool>>,
     /// Whether no comparison had a survivor, once there was one.
     contradictory: Option<bool>,
+    /// What the last comparison wrote.
+    survivors: [u8; judge::SURVIVOR_BYTES],
 }
 
 /// Whether one term lies within another.
@@ -36,12 +38,18 @@ impl Questions {
             vocabulary: Vocabulary::read(bytes),
             empty: BTreeMap::new(),
             contradictory: None,
+            survivors: [0; judge::SURVIVOR_BYTES],
         }
+    }
+
+    /// The survivors, once a question was answered. They do not hang on the terms that were asked about.
+    pub fn survivors(&self) -> &[u8; judge::SURVIVOR_BYTES] {
+        &self.survivors
     }
 
     /// Whether two terms are equal.
     pub fn compare(&mut self, a: u32, b: u32) -> Result<Comparison, Refusal> {
-        let answer = ask(&self.bytes, a, b)?;
+        let answer = judge::compare(&self.bytes, a, b, &mut self.survivors)?;
         self.contradictory = Some(answer.survivors == 0);
         Ok(answer)
     }
@@ -58,7 +66,7 @@ impl Questions {
         } else if let Some(either) = self.find([or(first, second), or(second, first)]) {
             self.compare(either, b)?
         } else if let Some((copy, both)) = self.with(and(first, second)) {
-            ask(&copy, a, both)?
+            judge::compare(&copy, a, both, &mut self.survivors)?
         } else {
             // Equal terms lie within each other; it is refused here, too, if that is for another reason than the room.
             match self.compare(a, b)? {
@@ -86,7 +94,7 @@ impl Questions {
         } else if let Some(bottom) = self.find([Saying::Bottom]) {
             self.compare(term, bottom)?
         } else if let Some((copy, bottom)) = self.with(Saying::Bottom) {
-            ask(&copy, term, bottom)?
+            judge::compare(&copy, term, bottom, &mut self.survivors)?
         } else {
             self.compare(term, term)?;
             return Ok(None);
@@ -130,9 +138,4 @@ impl Questions {
         copy.extend(saying.record(0).bytes());
         (records < judge::RECORDS).then_some((copy, records as u32))
     }
-}
-
-/// The comparison, for its answer alone.
-fn ask(vocabulary: &[u8], a: u32, b: u32) -> Result<Comparison, Refusal> {
-    judge::compare(vocabulary, a, b, &mut [0; judge::SURVIVOR_BYTES])
 }

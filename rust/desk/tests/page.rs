@@ -69,7 +69,10 @@ fn the_page_is_well_formed_and_has_each_line() {
     // What files say is text, and no markup; nor is it followed by what shows it.
     assert!(text.contains("&lt;/td&gt;&lt;/table&gt;&lt;script&gt;alert(1)&lt;/script&gt;"));
     assert!(text.contains("\\u{1b}[31m") && !text.contains('\u{1b}'));
-    assert!(!text.contains("onclick='"));
+    assert!(!text.contains("<b ") && !text.contains("<i>"));
+    // Of the lines that do not hold, those by terms that differ have a drawing each.
+    assert_eq!(text.matches("<svg ").count(), 3);
+    assert_eq!(text.matches(">element 4</text>").count(), 2);
     for word in [
         "does not hold",
         "holds vacuously",

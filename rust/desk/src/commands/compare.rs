@@ -1,7 +1,8 @@
 //! `desk compare`.
 
 use super::pair::{Answered, Emptiness, Wording};
-use super::{read_vocabulary, read_words, written, WORDS};
+use super::pictures::{Pictures, DOT, SVG};
+use super::{output, read_vocabulary, read_words, written, WORDS};
 use crate::console::Console;
 use crate::files;
 use crate::question::Questions;
@@ -9,10 +10,11 @@ use crate::refused;
 use crate::report::Stop;
 use crate::term;
 use base::arguments::{Arguments, Flag};
-use base::{Failure, Status};
+use base::Status;
 
 /// The options.
-pub const FLAGS: &[Flag] = &[WORDS, Flag::valued("--survivors")];
+pub const FLAGS: &[Flag] = &[WORDS, SURVIVORS, DOT, SVG];
+const SURVIVORS: Flag = Flag::valued("--survivors");
 
 const WORDING: Wording = Wording {
     holds: ["equal", "equal"],
@@ -21,27 +23,28 @@ const WORDING: Wording = Wording {
 
 pub fn run(arguments: &Arguments, console: &mut Console) -> Result<Status, Stop> {
     let [path, a, b] = arguments.words(["VOCABULARY", "A", "B"])?;
-    if arguments.value("--survivors").is_some_and(|path| path == "-") {
-        return Err(Failure::usage("--survivors takes a file, and '-' is none").into());
-    }
+    let (survivors, pictures) = (output(arguments, SURVIVORS)?, Pictures::wanted(arguments)?);
     let mut input = read_vocabulary(path, console.style)?;
     let words = read_words(arguments, console.style)?;
     let pair = term::pair(&mut input, [a, b])?;
-    let mut survivors = [0; judge::SURVIVOR_BYTES];
     let [a, b] = pair;
     let refused = |refusal| Stop::from(refused::of_vocabulary(console.style, &input, refusal));
-    let answer = judge::compare(&input.bytes, a, b, &mut survivors).map_err(refused)?;
-    let empty = Emptiness::ask(&mut Questions::new(&input.bytes), pair, answer).map_err(refused)?;
+    let mut questions = Questions::new(&input.bytes);
+    let answer = questions.compare(a, b).map_err(refused)?;
+    let empty = Emptiness::ask(&mut questions, pair, answer).map_err(refused)?;
     let answered = Answered {
         written: written(&input, words.as_ref())?,
         pair,
         answer,
+        survivors: *questions.survivors(),
         empty,
     };
-    let report = answered.report(console.style, &input, &WORDING)?;
-    if let Some(path) = arguments.value("--survivors") {
-        let inputs = [input.id, words.and_then(|words| words.id)];
-        files::write(path, &survivors, &inputs)?;
+    let explained = answered.explained()?;
+    let mut report = answered.report(console.style, &input, &WORDING, explained.as_ref());
+    let inputs = [input.id, words.and_then(|words| words.id)];
+    if let Some(path) = survivors {
+        files::write(path, &answered.survivors, &inputs)?;
     }
+    pictures.draw(explained.as_ref(), &inputs, &mut report)?;
     Ok(console.answer(report)?)
 }

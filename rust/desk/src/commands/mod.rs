@@ -10,6 +10,7 @@ mod diff;
 mod edition;
 mod new;
 mod pair;
+mod pictures;
 mod recheck;
 mod record;
 mod show;
@@ -164,6 +165,14 @@ fn read_words(arguments: &Arguments, style: Style) -> Result<Option<Input>, Stop
     let path = arguments.value(WORDS.name);
     path.map(|path| input::text(path, style).map(|(input, _)| input))
         .transpose()
+}
+
+/// The file that an option names for an output.
+fn output(arguments: &Arguments, flag: Flag) -> Result<Option<&OsStr>, Failure> {
+    match arguments.value(flag.name) {
+        Some(path) if path == "-" => Err(Failure::usage(format!("{} takes a file, and '-' is none", flag.name))),
+        path => Ok(path),
+    }
 }
 
 /// The refusal of a script whatever its vocabulary: its length or its header (13 and 14), which the check looks at

@@ -9,7 +9,7 @@ use crate::report::{Report, Style};
 use crate::term::Pair;
 use crate::text::vocabulary::Written;
 use base::{Failure, Status};
-use judge::{Comparison, Refusal, Verdict};
+use judge::{Comparison, Refusal, Verdict, SURVIVOR_BYTES};
 
 /// How an answer is worded, for people and for programs.
 pub struct Wording {
@@ -27,13 +27,15 @@ pub struct Answered {
     pub pair: Pair,
     /// What the comparison said.
     pub answer: Comparison,
+    /// What it wrote.
+    pub survivors: [u8; SURVIVOR_BYTES],
     /// Whether nothing can belong to the terms.
     pub empty: Emptiness,
 }
 
 impl Answered {
-    /// The report on a vocabulary.
-    pub fn report(&self, style: Style, input: &Input, wording: &Wording) -> Result<Report, Failure> {
+    /// The report on a vocabulary, with the element that tells the terms apart, where one does.
+    pub fn report(&self, style: Style, input: &Input, wording: &Wording, explained: Option<&Explained>) -> Report {
         let (status, [word, verdict]) = match self.answer.verdict {
             Verdict::Equal => (Status::Holds, wording.holds),
             Verdict::Different { .. } => (Status::DoesNotHold, wording.fails),
@@ -45,20 +47,21 @@ impl Answered {
         ];
         json.extend(self.heading_json());
         json.extend(self.empty.json());
-        if let Some(explained) = self.explained() {
-            let in_a = explained.is_in_first(self.pair)?;
-            json.push(("element", explained.json(if in_a { "a" } else { "b" })));
-            text.push_str(&explained.text(if in_a { ["A", "B"] } else { ["B", "A"] }));
+        if let Some(explained) = explained {
+            json.extend(explained.json());
+            text.push_str(&explained.text());
         }
         text.push_str(&self.empty.text(self.answer.verdict));
-        Ok(Report::new(status, text, json))
+        Report::new(status, text, json)
     }
 
     /// The element that tells the terms apart, where one does.
-    pub fn explained(&self) -> Option<Explained<'_>> {
+    pub fn explained(&self) -> Result<Option<Explained<'_>>, Failure> {
         match self.answer.verdict {
-            Verdict::Equal => None,
-            Verdict::Different { element } => Some(Explained::new(&self.written, element)),
+            Verdict::Equal => Ok(None),
+            Verdict::Different { element } => {
+                Explained::new(&self.written, self.pair, element, &self.survivors).map(Some)
+            }
         }
     }
 

@@ -1,6 +1,7 @@
 //! `desk within`.
 
 use super::pair::{Answered, Emptiness, Wording};
+use super::pictures::{Pictures, DOT, SVG};
 use super::{read_vocabulary, read_words, written, WORDS};
 use crate::console::Console;
 use crate::display::grouped;
@@ -13,7 +14,7 @@ use base::arguments::{Arguments, Flag};
 use base::{Failure, Status};
 
 /// The options.
-pub const FLAGS: &[Flag] = &[WORDS];
+pub const FLAGS: &[Flag] = &[WORDS, DOT, SVG];
 
 const WORDING: Wording = Wording {
     holds: ["A lies within B", "within"],
@@ -22,6 +23,7 @@ const WORDING: Wording = Wording {
 
 pub fn run(arguments: &Arguments, console: &mut Console) -> Result<Status, Stop> {
     let [path, a, b] = arguments.words(["VOCABULARY", "A", "B"])?;
+    let pictures = Pictures::wanted(arguments)?;
     let mut input = read_vocabulary(path, console.style)?;
     let words = read_words(arguments, console.style)?;
     let pair = term::pair(&mut input, [a, b])?;
@@ -37,13 +39,18 @@ pub fn run(arguments: &Arguments, console: &mut Console) -> Result<Status, Stop>
         written: written(&input, words.as_ref())?,
         pair,
         answer,
+        survivors: *questions.survivors(),
         empty,
     };
-    if answered.explained().is_some_and(|element| !element.is_in(a as usize)) {
+    let explained = answered.explained()?;
+    if explained.as_ref().is_some_and(|element| !element.is_in_first()) {
         let message = "the element does not belong to A, against what is proved";
         return Err(Failure::new(Status::Defect, message).into());
     }
-    Ok(console.answer(answered.report(console.style, &input, &WORDING)?)?)
+    let mut report = answered.report(console.style, &input, &WORDING, explained.as_ref());
+    let inputs = [input.id, words.and_then(|words| words.id)];
+    pictures.draw(explained.as_ref(), &inputs, &mut report)?;
+    Ok(console.answer(report)?)
 }
 
 /// Why there is no answer where the vocabulary is full.

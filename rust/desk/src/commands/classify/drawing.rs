@@ -3,6 +3,7 @@
 #[cfg(test)]
 mod tests;
 
+use crate::drawing::dot::{self, quoted, LINE};
 use crate::files::Name;
 use crate::taxonomy::{Class, Taxonomy};
 use crate::text::vocabulary::Written;
@@ -18,9 +19,8 @@ digraph taxonomy {
 /// What marks the box of names to which nothing can belong, as editors do.
 const EMPTY: &str = ", color=red, fontcolor=red";
 
-/// The most characters of a line of a label. Graphviz refuses a label of over 16,384 bytes; a box has at most 14 lines, and
-/// no character takes over 5 bytes.
-const LINE: usize = 200;
+/// What stands between the names in a box.
+const EQUAL: &str = "\\n= ";
 
 /// A drawing of taxonomies.
 pub struct Drawing {
@@ -64,7 +64,7 @@ impl Drawing {
             self.text.extend(lines.iter().map(|line| format!("  {line}\n")));
             return;
         }
-        let label = quoted(&[ending(file.as_str())]);
+        let label = quoted(&[ending(file.as_str())], EQUAL);
         self.text
             .push_str(&format!("  subgraph cluster_{} {{\n    label={label};\n", self.count));
         self.text.extend(lines.iter().map(|line| format!("    {line}\n")));
@@ -101,7 +101,7 @@ impl Nodes<'_> {
         }
         let full = self.taxonomy.classes.iter().filter(|class| class.full);
         names.extend(full.flat_map(|class| self.called(class)));
-        format!("{}thing [label={}{mark}];", self.prefix, quoted(&names))
+        format!("{}thing [label={}{mark}];", self.prefix, quoted(&names, EQUAL))
     }
 
     /// The node of a class.
@@ -112,7 +112,7 @@ impl Nodes<'_> {
             mark = EMPTY;
         }
         names.extend(self.called(class));
-        format!("{} [label={}{mark}];", self.name(class), quoted(&names))
+        format!("{} [label={}{mark}];", self.name(class), quoted(&names, EQUAL))
     }
 
     /// The arrows from a class to the nearest broader ones, or to owl:Thing.
@@ -137,15 +137,7 @@ impl Nodes<'_> {
     }
 
     fn called<'a>(&'a self, class: &'a Class) -> impl Iterator<Item = String> + 'a {
-        class.names.iter().map(|name| beginning(&self.written.called(*name)))
-    }
-}
-
-/// The beginning of what may be too long for a line.
-fn beginning(text: &str) -> String {
-    match text.char_indices().nth(LINE) {
-        Some((end, _)) => format!("{} ..", text.get(..end).unwrap_or_default()),
-        None => text.to_string(),
+        class.names.iter().map(|name| dot::line(&self.written.called(*name)))
     }
 }
 
@@ -157,12 +149,4 @@ fn ending(path: &str) -> String {
         0 => end,
         _ => format!(".. {end}"),
     }
-}
-
-/// The label of what is equal, a line for each. In it Graphviz takes backslashes and character references for more than
-/// they are.
-fn quoted(equal: &[String]) -> String {
-    let escaped = |text: &String| text.replace('\\', "\\\\").replace('"', "\\\"").replace('&', "&amp;");
-    let lines: Vec<String> = equal.iter().map(escaped).collect();
-    format!("\"{}\"", lines.join("\\n= "))
 }

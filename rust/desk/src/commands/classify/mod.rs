@@ -4,7 +4,8 @@ mod drawing;
 mod summary;
 mod tree;
 
-use super::{read_vocabulary, read_words, tell, written, WORDS};
+use super::pictures::DOT;
+use super::{output, read_vocabulary, read_words, tell, written, WORDS};
 use crate::console::Console;
 use crate::files::{self, FileId, Name};
 use crate::input::Input;
@@ -18,14 +19,11 @@ use std::ffi::OsStr;
 use summary::Tally;
 
 /// The options.
-pub const FLAGS: &[Flag] = &[WORDS, Flag::valued("--dot")];
+pub const FLAGS: &[Flag] = &[WORDS, DOT];
 
 pub fn run(arguments: &Arguments, console: &mut Console) -> Result<Status, Stop> {
     let paths = arguments.some_words("VOCABULARY")?;
-    let output = arguments.value("--dot");
-    if output.is_some_and(|path| path == "-") {
-        return Err(Failure::usage("--dot takes a file, and '-' is none").into());
-    }
+    let output = output(arguments, DOT)?;
     let words = read_words(arguments, console.style)?;
     let several = paths.len() > 1;
     let drawing = output.map(|_| Drawing::new(several));

@@ -6,6 +6,7 @@ use super::outcome::{Outcome, Shown, Sort, Told};
 use super::table::Line;
 use crate::cause;
 use crate::commands::within::room_words;
+use crate::drawing::{svg, Graph};
 use crate::explain::Explained;
 use crate::input::Input;
 use crate::question::Within;
@@ -284,16 +285,21 @@ fn told_apart(known: &mut Known, pair: [u32; 2], element: u16, outcome: Outcome,
         return outcome;
     }
     let terms = terms(known, pair);
-    let explained = Explained::new(known.written(), element);
-    let [a, _] = pair;
-    let (belongs, names) = if explained.is_in(a as usize) {
-        ("a", ["A", "B"])
-    } else {
-        ("b", ["B", "A"])
-    };
-    Outcome {
-        element: Some(explained.json(belongs)),
-        drawing: manner.draw.then(String::new).filter(|drawing| !drawing.is_empty()),
-        ..outcome.with_detail(terms, explained.text(names))
+    let survivors = *known.questions.survivors();
+    match Explained::new(known.written(), pair, element, &survivors) {
+        Err(failure) => Outcome::new(Sort::DoesNotHold, failure.status, failure.message),
+        Ok(explained) => Outcome {
+            explained: explained.json().into(),
+            drawing: manner.draw.then(|| drawn(&explained)),
+            ..outcome.with_detail(terms, explained.text())
+        },
     }
+}
+
+/// The counter-model as it stands below its line, which has the terms already.
+fn drawn(explained: &Explained) -> String {
+    svg::element(&Graph {
+        captions: Vec::new(),
+        ..explained.graph()
+    })
 }

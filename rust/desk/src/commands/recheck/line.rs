@@ -1,7 +1,7 @@
 //! A line of a table: its fields, and what it claims.
 
 use super::table::{Line, LINE_BYTES};
-use crate::display::{did_you_mean, grouped};
+use crate::display::{beginning, did_you_mean, grouped};
 use base::arguments::digits;
 use std::borrow::Cow;
 
@@ -123,11 +123,7 @@ impl Text<'_> {
 
 /// A line or a word of the table as the report repeats it.
 pub fn repeated(text: &str) -> String {
-    let text = text.trim();
-    match text.char_indices().nth(REPEATED) {
-        Some((end, _)) => format!("{} ..", text.get(..end).unwrap_or_default()),
-        None => text.to_string(),
-    }
+    beginning(text.trim(), REPEATED)
 }
 
 fn row(text: &str) -> Result<Row<'_>, Malformed> {

@@ -246,10 +246,9 @@ fn json(name: &Name, told: Told) -> Vec<(&'static str, Json)> {
         ("why", Json::from(outcome.why)),
     ];
     let detail = outcome.terms + &outcome.detail;
-    match outcome.element {
-        Some(element) => json.push(("element", element)),
-        None if !detail.is_empty() => json.push(("detail", Json::from(detail.trim_end()))),
-        None => {}
+    if outcome.explained.is_empty() && !detail.is_empty() {
+        json.push(("detail", Json::from(detail.trim_end())));
     }
+    json.extend(outcome.explained);
     json
 }

@@ -64,8 +64,8 @@ pub struct Outcome {
     pub terms: String,
     /// More about the reason, in lines.
     pub detail: String,
-    /// The element that tells the terms apart.
-    pub element: Option<Json>,
+    /// The element that tells the terms apart, with the counter-model around it.
+    pub explained: Vec<(&'static str, Json)>,
     /// A drawing of that, as SVG.
     pub drawing: Option<String>,
 }
@@ -80,7 +80,7 @@ impl Outcome {
             why: why.into(),
             terms: String::new(),
             detail: String::new(),
-            element: None,
+            explained: Vec::new(),
             drawing: None,
         }
     }
@@ -134,7 +134,7 @@ impl Outcome {
     /// The same with the reason alone.
     pub fn in_short(self) -> Outcome {
         Outcome {
-            element: None,
+            explained: Vec::new(),
             ..self.with_detail(String::new(), String::new())
         }
     }

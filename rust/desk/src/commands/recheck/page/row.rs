@@ -3,7 +3,7 @@
 use super::super::kept::Seen;
 use super::super::outcome::{Outcome, Shown, Sort, Told};
 use super::head::size;
-use crate::html::{escaped, isolated};
+use crate::html::isolated;
 
 /// The class of a sort, for its colour; the words say it as well.
 pub fn class(sort: Sort) -> &'static str {
@@ -19,19 +19,14 @@ pub fn class(sort: Sort) -> &'static str {
 pub fn html(told: &Told, shown: &Shown, others: &[&Seen]) -> String {
     let (number, outcome) = (told.number, &told.outcome);
     format!(
-        "<tbody id=\"line-{number}\" class=\"{}\">\n<tr><th scope=\"row\">{number}</th>\n<td>{}{}</td>\n<td>{}</td></tr>\n{}\
-         </tbody>\n",
+        "<tbody id=\"line-{number}\" class=\"{}\">\n<tr><th scope=\"row\">{number}</th>\n<td><code>{}</code>{}</td>\n<td>{}</td></tr>\n\
+         {}</tbody>\n",
         class(outcome.sort),
-        line(&told.text),
+        isolated(&told.text),
         terms(shown),
         verdict(outcome, others),
         more(outcome, shown),
     )
-}
-
-/// The line as the table has it. It is read from left to right, whatever its files are called.
-fn line(text: &str) -> String {
-    format!("<code><bdi dir=\"ltr\">{}</bdi></code>", escaped(text))
 }
 
 fn terms(shown: &Shown) -> String {
@@ -67,11 +62,10 @@ fn verdict(outcome: &Outcome, others: &[&Seen]) -> String {
 
 /// What explains a line that does not hold, in a row of its own below.
 fn more(outcome: &Outcome, shown: &Shown) -> String {
-    let detail = shown.detail.trim_end();
-    let words = match detail {
-        "" => String::new(),
-        detail => format!("<pre><bdi>{}</bdi></pre>", escaped_lines(detail)),
-    };
+    let lines = shown.detail.lines();
+    let words: String = lines
+        .map(|line| format!("\n<p class=\"detail\">{}</p>", isolated(line)))
+        .collect();
     let html = match &outcome.drawing {
         Some(drawing) => format!(
             "<figure>\n{}\n<figcaption>{words}</figcaption>\n</figure>",
@@ -83,10 +77,4 @@ fn more(outcome: &Outcome, shown: &Shown) -> String {
         "" => html,
         _ => format!("<tr class=\"more\"><td></td><td colspan=\"2\">{html}</td></tr>\n"),
     }
-}
-
-/// Lines, escaped each.
-fn escaped_lines(text: &str) -> String {
-    let lines: Vec<String> = text.lines().map(escaped).collect();
-    lines.join("\n")
 }
