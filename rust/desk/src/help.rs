@@ -99,22 +99,25 @@ exit status: 0 printed, 2 refused (1: length, 9: past the end)
 ";
 
 const COMPARE: &str = "\
-usage: desk compare VOCABULARY A B [--words TEXT] [--survivors FILE] [--json]
+usage: desk compare VOCABULARY A B [--words TEXT] [--survivors FILE] [--dot FILE] [--svg FILE] [--json]
 
 Whether the terms of records A and B, of a vocabulary of at most 12 atoms, are equal in every finite interpretation that
 satisfies the statements. If they are different, an element of such an interpretation tells them apart: the names and
-restrictions that hold at it are listed, and which of the two terms it belongs to. It is said where nothing can belong to
-A, to B or to either in such an interpretation, and where there is none.
+restrictions that hold at it are listed, and which of the two terms it belongs to. Where a restriction tells the terms
+apart, lines as 'by r0 to element 2: c2, not c3' lead from element to element to what does, in a small counter-model. It
+is said where nothing can belong to A, to B or to either in such an interpretation, and where there is none.
 
   --words TEXT       the text of the vocabulary, whose comments say what each record is called
   --survivors FILE   writes the 512 bytes that describe the interpretation: bit t mod 8 of byte t div 8 is 1 for a
                      survivor t (nothing is written where the input is refused)
+  --dot FILE         draws the counter-model for Graphviz ('dot -Tsvg FILE')
+  --svg FILE         draws it for a browser; equal terms have none, and then no drawing is written
 
 exit status: 0 equal, 1 different, 2 refused
 ";
 
 const WITHIN: &str = "\
-usage: desk within VOCABULARY A B [--words TEXT] [--json]
+usage: desk within VOCABULARY A B [--words TEXT] [--dot FILE] [--svg FILE] [--json]
 
 Whether the term of record A lies within the term of record B, of a vocabulary of at most 12 atoms, in every finite
 interpretation that satisfies the statements. No script is needed. If it does not, an element of A outside B is named and
@@ -126,6 +129,8 @@ tested, not proved. A vocabulary of 512 records has no room for another: if none
 is the answer, with status 2.
 
   --words TEXT   the text of the vocabulary, whose comments say what each record is called
+  --dot FILE     draws the counter-model for Graphviz, as by 'compare'
+  --svg FILE     draws it for a browser
 
 exit status: 0 within, 1 not within, 2 refused
 ";

@@ -24,10 +24,11 @@ pub struct Pictures<'a> {
 impl<'a> Pictures<'a> {
     /// Those that the command line names.
     pub fn wanted(arguments: &'a Arguments) -> Result<Pictures<'a>, Failure> {
-        Ok(Pictures {
-            dot: output(arguments, DOT)?,
-            svg: output(arguments, SVG)?,
-        })
+        let (dot, svg) = (output(arguments, DOT)?, output(arguments, SVG)?);
+        if dot.is_some() && dot == svg {
+            return Err(Failure::usage("--dot and --svg name one file"));
+        }
+        Ok(Pictures { dot, svg })
     }
 
     /// Draws what tells the terms apart, each file whole or not at all, and never over an input. Where nothing does, the

@@ -3,15 +3,21 @@
 /// The height of the letters.
 pub const FONT: i32 = 14;
 
-/// The width of a text, on the safe side: widths of Verdana and DejaVu Sans, which are among the widest.
+/// The width of a text, on the safe side: widths of Verdana and DejaVu Sans, which are among the widest. It is even, so that
+/// there is a middle.
 pub fn width(text: &str) -> i32 {
     let hundredths: i32 = text.chars().map(hundredths).sum();
-    (hundredths * FONT).div_euclid(100) + 1
+    even(hundredths * FONT / 100)
 }
 
 /// The same of bold letters.
 pub fn bold(text: &str) -> i32 {
-    width(text) * 6 / 5
+    even(width(text) * 6 / 5)
+}
+
+/// The next even number.
+fn even(number: i32) -> i32 {
+    number + 2 - number % 2
 }
 
 /// The width of a character, in hundredths of the height of the letters.

@@ -80,19 +80,23 @@ impl Restrictions {
         Restrictions { all, some, roles }
     }
 
-    /// The profile of an element, then one of each other profile that a survivor has: of those with it the one with the
-    /// fewest atoms that hold.
+    /// The profile of an element, then one of each other profile that a survivor has: those with the fewest demands first,
+    /// and of those with one profile the one with the fewest atoms that hold.
     fn profiles(&self, element: u16, vocabulary: &Vocabulary, survivors: &[u8; SURVIVOR_BYTES]) -> Vec<Profile> {
         let survives = |element: &u16| {
-            (survivors.get(usize::from(element / 8))).is_some_and(|byte| byte >> (element % 8) & 1 == 1)
+            let byte = survivors.get(usize::from(element / 8));
+            byte.is_some_and(|byte| byte >> (element % 8) & 1 == 1)
         };
-        let mut elements: Vec<u16> = (0..SURVIVOR_BYTES as u16 * 8).filter(survives).collect();
-        elements.sort_by_key(|other| (*other != element, other.count_ones(), *other));
-        let profiles = elements.into_iter().map(|element| self.profile(element, vocabulary));
+        let elements = (0..SURVIVOR_BYTES as u16 * 8).filter(survives);
+        let mut profiles: Vec<Profile> = elements.map(|element| self.profile(element, vocabulary)).collect();
+        profiles.sort_by_key(|profile| {
+            let other = profile.element;
+            let demands = self.demands(*profile).count_ones();
+            (other != element, demands, other.count_ones(), other)
+        });
         let mut known = BTreeSet::new();
+        profiles.retain(|profile| known.insert((profile.holds, profile.fills)));
         profiles
-            .filter(|profile| known.insert((profile.holds, profile.fills)))
-            .collect()
     }
 
     fn profile(&self, element: u16, vocabulary: &Vocabulary) -> Profile {
