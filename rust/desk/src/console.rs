@@ -3,6 +3,7 @@
 use crate::display::plain;
 use crate::files::reason;
 use crate::json::Json;
+use crate::notes;
 use crate::report::{Report, Style};
 use crate::streams;
 use base::{Failure, Status};
@@ -64,7 +65,16 @@ impl Console {
                 complain(&report.aside);
             }
         }
+        self.tell_notes();
         Ok(report.status)
+    }
+
+    /// Says what was noted on inputs, unless nothing is to be said.
+    pub fn tell_notes(&self) {
+        let notes = notes::take();
+        if !self.quiet {
+            complain(&notes);
+        }
     }
 
     /// The fields with which each JSON object of the command begins.

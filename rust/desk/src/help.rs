@@ -200,7 +200,11 @@ column. Of a script the length and the header are checked here (13 and 14); the 
                            file is replaced whole or not at all
   --force                  writes what is refused, too (for tests)
 
-exit status: 0 written, 2 refused, or a fault in the text
+What the text calls names and roles is written beside FILE, as FILE.names, with the SHA-256 of FILE's bytes in its first
+line. Every command that reads FILE finds it there, and uses it only where that fits. A text that gives no names lets a
+FILE.names stay that fits, and removes one of other bytes.
+
+exit status: 0 written, 2 refused, or a fault in the text, 73 FILE or FILE.names cannot be made
 ";
 
 const NEW: &str = "\
@@ -305,9 +309,12 @@ to 65535. A text has at most 1,048,576 bytes.
   ObjectAllValuesFrom(r0 T)       all, of role 0
   SubClassOf(T T)                 a statement: the first lies within the second
   raw KIND SECOND A B NEXT        any record, by its fields; the header as 'vocabulary raw ..'
+  name c7 \"returned sample\"       what the name labelled 7 is called; these lines make no record, and may stand anywhere
+  role r0 \"is accompanied by\"     what role 0 is called
 
 T is #4, the term of record 4, or a term written out, to a nesting of 16, which stands for the first earlier record that
-says it: there has to be one.
+says it: there has to be one. In a term \"returned sample\" stands for the name, and \"is accompanied by\" for the role, that
+is called so. In the quotes \\\" is a double quote, \\\\ a backslash, \\u{e4} a character by its number.
 
   script #4 within #3             the header: the query, by records of the vocabulary
   a, f6(T)                        the constant, which has to be record 1; the function of record 6 of the vocabulary

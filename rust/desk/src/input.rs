@@ -1,5 +1,6 @@
 //! Vocabularies and scripts, from their bytes or from their texts.
 
+use crate::beside::{self, Beside};
 use crate::display::counted;
 use crate::files::{self, Access, FileId, Length, Name, Opened, Source};
 use crate::json::Json;
@@ -25,8 +26,9 @@ pub struct Input {
     /// Which file it is, if it is a regular one.
     pub id: Option<FileId>,
     /// What people call its names and roles.
-    #[allow(dead_code)] // until it is used
     pub names: Names,
+    /// The file that has them, if it is one beside a vocabulary's bytes.
+    pub beside: Option<Beside>,
     length: Length,
     /// Of a text, the line of each record.
     lines: Option<Vec<Line>>,
@@ -41,6 +43,7 @@ impl Input {
             bytes: assembled.bytes,
             id,
             names: assembled.names,
+            beside: None,
             lines: Some(assembled.lines),
         }
     }
@@ -52,9 +55,31 @@ impl Input {
             bytes: Vec::new(),
             id: None,
             names: Names::default(),
+            beside: None,
             length: Length::of(&[]),
             lines: None,
         }
+    }
+
+    /// What people call its names and roles; where nothing is known of that, what the text calls them that --words names.
+    pub fn names_or<'a>(&'a self, words: Option<&'a Input>) -> &'a Names {
+        match words {
+            Some(text) if self.names.is_empty() && self.is_said_by(text) => &text.names,
+            _ => &self.names,
+        }
+    }
+
+    /// Takes the names of the text that --words names, where none are known.
+    pub fn take_names(&mut self, words: Option<&Input>) {
+        self.names = self.names_or(words).clone();
+    }
+
+    /// Gives the vocabulary that was read from this path other bytes. The names beside it fit before and after.
+    pub fn replace(&self, path: &OsStr, bytes: &[u8]) -> Result<(), Failure> {
+        if let Some(beside) = &self.beside {
+            beside.renew(&self.bytes, bytes)?;
+        }
+        files::renew(path, &self.bytes, bytes)
     }
 
     /// The comment on the line of each record, where there is a text.
@@ -151,7 +176,40 @@ fn read(path: &OsStr, access: Access, most: usize) -> Result<Source, Failure> {
 
 /// A vocabulary, from its bytes or its text.
 pub fn vocabulary(path: &OsStr, access: Access, style: Style) -> Result<Input, Stop> {
-    of_kind(source(path, access, Kind::Vocabulary)?, Kind::Vocabulary, style)
+    from(
+        source(path, access, Kind::Vocabulary)?,
+        path,
+        access,
+        Kind::Vocabulary,
+        style,
+    )
+}
+
+/// What the file of a vocabulary, or of a script, has; a vocabulary with the names beside it.
+pub fn from(source: Source, path: &OsStr, access: Access, kind: Kind, style: Style) -> Result<Input, Stop> {
+    let input = of_kind(source, kind, style)?;
+    Ok(match kind {
+        Kind::Vocabulary => with_names(input, path, access),
+        Kind::Script => input,
+    })
+}
+
+/// A vocabulary with the names beside it, if it was read from the bytes of a regular file.
+fn with_names(input: Input, path: &OsStr, access: Access) -> Input {
+    let is_standard_input = path == "-" && access == Access::Any;
+    // A longer one was not read whole, and is refused.
+    let is_whole = input.bytes.len() <= judge::VOCABULARY_BYTES;
+    if input.lines.is_some() || input.id.is_none() || is_standard_input || !is_whole {
+        return input;
+    }
+    match beside::find(path, &input.bytes) {
+        Some((names, beside)) => Input {
+            names,
+            beside: Some(beside),
+            ..input
+        },
+        None => input,
+    }
 }
 
 /// A vocabulary that is to be changed, from its bytes alone, and its file, which no other run changes while it is open. For
@@ -167,7 +225,7 @@ pub fn vocabulary_to_change(path: &OsStr, advice: &str) -> Result<(Input, Opened
         let message = format!("{}: is a text; {advice}", source.name);
         return Err(Failure::new(Status::NoInput, message));
     }
-    Ok((of_bytes(source), opened))
+    Ok((with_names(of_bytes(source), path, Access::Regular), opened))
 }
 
 /// A script, from its bytes or its text.
@@ -185,7 +243,11 @@ pub fn either(path: &OsStr, style: Style) -> Result<(Input, Kind), Stop> {
         [32, 0, ..] => Kind::Script,
         _ => Kind::Vocabulary,
     };
-    Ok((of_bytes(source), kind))
+    let input = of_bytes(source);
+    Ok(match kind {
+        Kind::Script => (input, kind),
+        Kind::Vocabulary => (with_names(input, path, Access::Any), kind),
+    })
 }
 
 /// A text, and what it is of.
@@ -204,13 +266,13 @@ fn of_bytes(source: Source) -> Input {
         bytes: source.bytes,
         id: source.id,
         names: Names::default(),
+        beside: None,
         length: source.length,
         lines: None,
     }
 }
 
-/// What a file has that is to be a vocabulary, or a script.
-pub fn of_kind(source: Source, wanted: Kind, style: Style) -> Result<Input, Stop> {
+fn of_kind(source: Source, wanted: Kind, style: Style) -> Result<Input, Stop> {
     if !is_text(&source.bytes) {
         return Ok(of_bytes(source));
     }

@@ -2,6 +2,7 @@
 
 #![deny(unsafe_code)]
 
+mod beside;
 mod cause;
 mod columns;
 mod commands;
@@ -16,6 +17,7 @@ mod html;
 mod input;
 mod json;
 mod model;
+mod notes;
 mod question;
 mod refused;
 mod report;

@@ -3,13 +3,13 @@
 use crate::cause;
 use crate::console::Console;
 use crate::display::{counted, did_you_mean};
-use crate::files;
 use crate::input::{self, Input};
 use crate::json::Json;
 use crate::refused;
 use crate::report::{Report, Stop, Style};
 use crate::text::addition::{self, Addition, Unfit};
 use crate::text::cursor::{quoted, Fault};
+use crate::text::names::Names;
 use crate::text::vocabulary::Written;
 use base::arguments::Arguments;
 use base::vocabulary::{Record, Vocabulary, STATEMENT_KIND};
@@ -18,7 +18,7 @@ use judge::{Builder, Refusal};
 use std::ffi::OsStr;
 
 /// How the words of an addition are read.
-type Reading = fn(&Vocabulary, &[&str]) -> Result<Addition, Unfit>;
+type Reading = fn(&Vocabulary, &Names, &[&str]) -> Result<Addition, Unfit>;
 
 /// What can be added.
 const SORTS: [(&str, Reading); 2] = [("term", addition::term), ("statement", addition::statement)];
@@ -36,7 +36,7 @@ pub fn run(arguments: &Arguments, console: &mut Console) -> Result<Status, Stop>
         Addition::Statement(a, b) => builder.statement(a, b),
     };
     let number = added.map_err(|refusal| refused_addition(style, &input, addition, refusal))?;
-    files::renew(path, &input.bytes, builder.as_bytes())?;
+    input.replace(path, builder.as_bytes())?;
     Ok(console.answer(report(style, &input, builder.as_bytes(), number))?)
 }
 
@@ -68,7 +68,7 @@ fn begin(bytes: &[u8]) -> Result<Builder<Vec<u8>>, Refusal> {
 /// What the words say, of a vocabulary that is accepted.
 fn read(input: &Input, reading: Reading, words: &[String], style: Style) -> Result<Addition, Stop> {
     let words: Vec<&str> = words.iter().map(String::as_str).collect();
-    reading(&Vocabulary::read(&input.bytes), &words).map_err(|unfit| match unfit {
+    reading(&Vocabulary::read(&input.bytes), &input.names, &words).map_err(|unfit| match unfit {
         Unfit::Words(failure) => failure.into(),
         Unfit::Faults(faults) => faulty(style, input, &faults).into(),
     })
@@ -128,23 +128,28 @@ fn report(style: Style, input: &Input, bytes: &[u8], number: u16) -> Report {
     let same = vocabulary.sayings().find(|(_, earlier)| Some(*earlier) == saying);
     let same = same.map(|(same, _)| same).filter(|same| *same != number);
     let records = vocabulary.records.len();
-    let line = Written::new(vocabulary).line(number.into());
+    let written = Written::new(vocabulary).with_names(input.names.clone());
+    let line = written.line(number.into());
     let mut text = format!(
-        "{}: {}; a vocabulary of {}\n  {number}: {line}\n",
+        "{}: {}; a vocabulary of {}\n  {number}: {}\n",
         input.name,
         style.paint(Status::Holds, "added"),
-        counted(records as u64, "record")
+        counted(records as u64, "record"),
+        written.called_line(number)
     );
     if let Some(same) = same {
         text.push_str(&format!("  record {same} says the same\n"));
     }
-    let json = vec![
+    let mut json = vec![
         ("file", Json::from(input.name.as_str())),
         ("verdict", Json::from("added")),
         ("number", Json::from(number)),
+    ];
+    json.extend(written.name_field(number));
+    json.extend([
         ("text", Json::from(line)),
         ("records", Json::from(records)),
         ("same", Json::from(same)),
-    ];
+    ]);
     Report::new(Status::Holds, text, json)
 }

@@ -1,6 +1,7 @@
 //! `desk assemble`.
 
 use super::refused_script;
+use crate::beside::{self, Kept};
 use crate::console::Console;
 use crate::display::counted;
 use crate::files::{self, Name};
@@ -9,6 +10,7 @@ use crate::json::Json;
 use crate::refused;
 use crate::report::{Report, Stop};
 use crate::streams;
+use crate::text::names::Names;
 use crate::text::Kind;
 use base::arguments::{Arguments, Flag};
 use base::vocabulary::{Saying, Vocabulary};
@@ -39,11 +41,31 @@ pub fn run(arguments: &Arguments, console: &mut Console) -> Result<Status, Stop>
         rebuild(&mut input)?;
     }
     if output == "-" || streams::is_output(Path::new(output)) {
+        beside::note_unwritten(&input.names);
         console.bytes(&input.bytes)?;
         return Ok(Status::Holds);
     }
-    files::write(output, &input.bytes, &[input.id])?;
-    Ok(console.answer(written(&Name::new(output), kind, input.bytes.len()))?)
+    let inputs = [input.id];
+    beside::check(output, &input.names, &inputs)?;
+    files::write(output, &input.bytes, &inputs)?;
+    let kept = beside::keep(output, &input.bytes, &input.names, &inputs)?;
+    let mut report = written(&Name::new(output), kind, input.bytes.len());
+    if let Some(kept) = kept {
+        tell_names(&mut report, &Name::new(&beside::path_of(output)), kept, &input.names);
+    }
+    Ok(console.answer(report)?)
+}
+
+/// Tells what came of the file of names.
+fn tell_names(report: &mut Report, name: &Name, kept: Kept, names: &Names) {
+    let (verdict, words) = match kept {
+        Kept::Written => ("written", format!("what {} are called", names.tally())),
+        Kept::Kept => ("kept", "stays, since it is of the same bytes".to_string()),
+        Kept::Removed => ("removed", "is removed, since it was of other bytes".to_string()),
+    };
+    report.text.push_str(&format!("  {name}: {words}\n"));
+    let fields = [("file", Json::from(name.as_str())), ("verdict", Json::from(verdict))];
+    report.json.push(("names", Json::object(fields)));
 }
 
 /// Takes the bytes of an accepted vocabulary from the library's writer, where it can write them. They are the same.

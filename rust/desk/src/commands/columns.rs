@@ -162,11 +162,9 @@ impl Owner<'_> {
             ])
         };
         let words = self.written.words(self.number).filter(|_| self.number > 0);
-        let mut fields = vec![
-            ("owner", Json::from(self.number)),
-            ("text", Json::from(self.expression())),
-            ("words", Json::from(words)),
-        ];
+        let mut fields = vec![("owner", Json::from(self.number))];
+        fields.extend(self.written.name_field(self.number));
+        fields.extend([("text", Json::from(self.expression())), ("words", Json::from(words))]);
         fields.extend(self.chained.map(|chained| ("chained", Json::from(chained))));
         fields.push(("columns", Json::list(self.columns.iter().enumerate().map(column))));
         Json::Object(fields)

@@ -26,6 +26,7 @@ pub fn run(arguments: &Arguments, console: &mut Console) -> Result<Status, Stop>
     let (survivors, pictures) = (output(arguments, SURVIVORS)?, Pictures::wanted(arguments)?);
     let mut input = read_vocabulary(path, console.style)?;
     let words = read_words(arguments, console.style)?;
+    input.take_names(words.as_ref());
     let pair = term::pair(&mut input, [a, b])?;
     let [a, b] = pair;
     let refused = |refusal| Stop::from(refused::of_vocabulary(console.style, &input, refusal));

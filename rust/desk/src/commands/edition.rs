@@ -24,7 +24,7 @@ pub fn run(arguments: &Arguments, console: &mut Console) -> Result<Status, Stop>
     let mut bytes = input.bytes.clone();
     if changes {
         judge::set_edition(&mut bytes, wanted).map_err(refused)?;
-        files::renew(path, &input.bytes, &bytes)?;
+        input.replace(path, &bytes)?;
     }
     let outcome = Outcome {
         edition: wanted,

@@ -96,7 +96,9 @@ pub fn run(command: &Command, words: Vec<OsString>, console: &mut Console) -> Re
         _ => return Err(Failure::usage("--color takes auto, always or never").into()),
     };
     *console = Console::new(command.name, arguments.has("--json"), arguments.has("--quiet"), colour);
-    (command.run)(&arguments, console)
+    let done = (command.run)(&arguments, console);
+    console.tell_notes();
+    done
 }
 
 /// Answers about several files, one after the other; the greatest status. One that cannot be read does not keep the others
@@ -145,7 +147,7 @@ fn read_script(path: &OsStr, style: Style) -> Result<Input, Stop> {
 
 /// A vocabulary written out, with the words of its text: its own, or the one that --words names.
 fn written(input: &Input, words: Option<&Input>) -> Result<Written, Failure> {
-    let written = Written::new(Vocabulary::read(&input.bytes));
+    let written = Written::new(Vocabulary::read(&input.bytes)).with_names(input.names_or(words).clone());
     let comments = match words {
         Some(text) if !input.is_said_by(text) => {
             let message = format!("{}: is not the text of {}", text.name, input.name);

@@ -30,20 +30,23 @@ fn found(input: &Input, number: u32, part: &[u8]) -> Report {
         b,
         next,
     } = Record::read(part);
-    let written = Written::new(Vocabulary::read(&input.bytes));
-    let line = if number == 0 {
-        written.header()
+    let written = Written::new(Vocabulary::read(&input.bytes)).with_names(input.names.clone());
+    let (line, called) = if number == 0 {
+        (written.header(), written.header())
     } else {
-        written.line(number as usize)
+        (written.line(number as usize), written.called_line(number as u16))
     };
     let hexadecimal: Vec<String> = part.iter().map(|byte| format!("{byte:02x}")).collect();
     let bytes = hexadecimal.join(" ");
     let text =
-        format!("{number}: {line}\nkind {kind}, second byte {second}, A {a}, B {b}, next {next}\nbytes {bytes}\n");
-    let json = vec![
+        format!("{number}: {called}\nkind {kind}, second byte {second}, A {a}, B {b}, next {next}\nbytes {bytes}\n");
+    let mut json = vec![
         ("file", Json::from(input.name.as_str())),
         ("verdict", Json::from("found")),
         ("number", Json::from(number)),
+    ];
+    json.extend(written.name_field(number as u16));
+    json.extend([
         ("text", Json::from(line)),
         ("kind", Json::from(u32::from(kind))),
         ("second", Json::from(u32::from(second))),
@@ -51,6 +54,6 @@ fn found(input: &Input, number: u32, part: &[u8]) -> Report {
         ("b", Json::from(b)),
         ("next", Json::from(next)),
         ("bytes", Json::from(bytes)),
-    ];
+    ]);
     Report::new(Status::Holds, text, json)
 }

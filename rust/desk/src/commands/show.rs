@@ -35,7 +35,8 @@ fn show(style: Style, input: &Input, kind: Kind) -> Report {
             shown(input, kind, "shown", text, refusal)
         }
         (_, Kind::Vocabulary) => {
-            let text = text::vocabulary::Written::new(Vocabulary::read(&input.bytes)).text();
+            let written = text::vocabulary::Written::new(Vocabulary::read(&input.bytes));
+            let text = written.with_names(input.names.clone()).text();
             shown(input, kind, "accepted", text, refusal)
         }
     }

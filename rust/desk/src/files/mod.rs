@@ -6,7 +6,7 @@ mod replace;
 mod write;
 
 pub use draft::Draft;
-pub use write::{create, renew, write};
+pub use write::{check, create, renew, unwritten, write};
 
 use crate::display::{grouped, plain};
 use crate::streams;

@@ -68,7 +68,7 @@ fn put(
 }
 
 /// What is known of the old file, if there is one. It has to be one that may be written, though it is not written to.
-fn old_file(path: &Path) -> io::Result<Option<Metadata>> {
+pub fn old_file(path: &Path) -> io::Result<Option<Metadata>> {
     match File::options().write(true).open(path) {
         Ok(file) => file.metadata().map(Some),
         Err(error) if error.kind() == ErrorKind::NotFound => Ok(None),

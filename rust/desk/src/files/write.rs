@@ -42,6 +42,21 @@ pub fn write_from(path: &OsStr, source: &mut dyn Read, inputs: &[Option<FileId>]
     }
 }
 
+/// Says why a path could not be written, before anything is: what stands there is an input, or is no regular file, or may
+/// not be written.
+pub fn check(path: &OsStr, inputs: &[Option<FileId>]) -> Result<(), Failure> {
+    let (name, path) = (Name::new(path), Path::new(path));
+    let end = follow(path);
+    match look(&name, path, &end)? {
+        None => Ok(()),
+        Some(about) if !about.is_file() => Err(unwritten(&name, "is no regular file")),
+        Some(about) if inputs.contains(&FileId::of(&about)) => Err(unwritten(&name, INPUT)),
+        Some(_) => replace::old_file(&end)
+            .map(|_| ())
+            .map_err(|error| unwritable(&name, &error)),
+    }
+}
+
 /// Makes a file, but never in the place of another.
 pub fn create(path: &OsStr, bytes: &[u8]) -> Result<(), Failure> {
     let (name, path) = (Name::new(path), Path::new(path));

@@ -5,6 +5,8 @@
 mod tests;
 
 use super::cursor::{Cursor, Fault};
+use super::names::Names;
+use super::quotes::split_comment;
 use super::said::Said;
 use super::vocabulary::{operand, pair, raw_says, read_label, read_role, read_term, read_word, shape, NO_TERM};
 use base::arguments::digits;
@@ -39,8 +41,8 @@ impl From<Failure> for Unfit {
 }
 
 /// The term that words say: a kind, by its number or its word, and its operands; or the whole text of a term.
-pub fn term(vocabulary: &Vocabulary, words: &[&str]) -> Result<Addition, Unfit> {
-    let mut reader = Reader::new(vocabulary);
+pub fn term(vocabulary: &Vocabulary, names: &Names, words: &[&str]) -> Result<Addition, Unfit> {
+    let mut reader = Reader::new(vocabulary, names);
     let addition = match words {
         [] => return Err(missing("KIND").into()),
         [kind, operands @ ..] if digits(kind).is_some() => reader.term_by_fields(kind, operands)?,
@@ -51,8 +53,8 @@ pub fn term(vocabulary: &Vocabulary, words: &[&str]) -> Result<Addition, Unfit> 
 }
 
 /// The statement that words say: A and B, or the whole text of a statement.
-pub fn statement(vocabulary: &Vocabulary, words: &[&str]) -> Result<Addition, Unfit> {
-    let mut reader = Reader::new(vocabulary);
+pub fn statement(vocabulary: &Vocabulary, names: &Names, words: &[&str]) -> Result<Addition, Unfit> {
+    let mut reader = Reader::new(vocabulary, names);
     let addition = match words {
         [text] if Cursor::new(1, text).expect(STATEMENT).is_ok() => reader.whole_statement(text),
         [a, b] => {
@@ -90,20 +92,23 @@ fn fields_of(kind: u8) -> &'static [Field] {
 }
 
 /// Reads words, and keeps what is wrong with them.
-struct Reader {
+struct Reader<'a> {
     said: Said,
+    /// What names and roles are called.
+    names: &'a Names,
     faults: Vec<(String, Fault)>,
 }
 
-impl Reader {
+impl Reader<'_> {
     /// A reader of words that name records of a vocabulary.
-    fn new(vocabulary: &Vocabulary) -> Reader {
+    fn new<'a>(vocabulary: &Vocabulary, names: &'a Names) -> Reader<'a> {
         let mut said = Said::in_records();
         for (number, record) in vocabulary.numbered() {
             said.add(number as u16, raw_says(record));
         }
         Reader {
             said,
+            names,
             faults: Vec::new(),
         }
     }
@@ -118,7 +123,7 @@ impl Reader {
 
     /// What a word says, all of which has to be read. What is wrong with it is kept.
     fn read<T: Default>(&mut self, text: &str, read: impl FnOnce(&mut Cursor, &Said) -> Result<T, Fault>) -> T {
-        let mut line = Cursor::new(1, text);
+        let mut line = Cursor::new(1, text).with_names(self.names);
         let value = read(&mut line, &self.said).and_then(|value| line.end().map(|()| value));
         let value = value.unwrap_or_else(|fault| {
             line.stop(fault);
@@ -205,7 +210,8 @@ impl Reader {
 
 /// That a text has a comment, which would be lost.
 fn comment(text: &str) -> Option<Fault> {
-    let (before, _) = text.split_once("--")?;
+    let (before, comment) = split_comment(text);
+    comment?;
     let column = before.chars().count() + 1;
     Some(Fault::at(1, column, "the bytes of a vocabulary have no comments"))
 }

@@ -1,6 +1,7 @@
 //! A place in a line of a text.
 
-use super::Line;
+use super::names::{Names, Sort, NO_NAMES};
+use super::{quotes, Line};
 use crate::display::{did_you_mean, plain};
 use base::spelling::nearest;
 
@@ -44,20 +45,35 @@ pub struct Cursor<'a> {
     comment: &'a str,
     faults: Vec<Fault>,
     guessed: bool,
+    names: &'a Names,
+    /// Whether a line that gives a name is faulty, so that some name may be missing.
+    lacks_names: bool,
 }
 
 impl<'a> Cursor<'a> {
     /// The start of a line, of which a comment is no part. A comment begins with `--`.
     pub fn new(number: usize, line: &'a str) -> Cursor<'a> {
-        let (line, comment) = line.split_once("--").unwrap_or((line, ""));
+        let (line, comment) = quotes::split_comment(line);
         Cursor {
             number,
             line,
             rest: line.trim(),
-            comment: comment.trim(),
+            comment: comment.unwrap_or_default().trim(),
             faults: Vec::new(),
             guessed: false,
+            names: &NO_NAMES,
+            lacks_names: false,
         }
+    }
+
+    /// The same where names and roles are called so.
+    pub fn with_names(self, names: &'a Names) -> Cursor<'a> {
+        Cursor { names, ..self }
+    }
+
+    /// The same where some name may be missing, since a line that gives one is faulty.
+    pub fn lacking_names(self, lacks_names: bool) -> Cursor<'a> {
+        Cursor { lacks_names, ..self }
     }
 
     /// Where the line stands, and the comment at its end.
@@ -250,6 +266,34 @@ impl<'a> Cursor<'a> {
         }
         self.rest = self.rest.get(letter.len_utf8()..).unwrap_or_default();
         self.number()
+    }
+
+    /// Takes a text in quotation marks, as `"returned sample"`.
+    pub fn quoted(&mut self, expected: &str) -> Result<String, Fault> {
+        if self.peek() != Some('"') {
+            return Err(self.fault(expected));
+        }
+        let place = |byte: usize| Here(self.rest.len().saturating_sub(byte));
+        let (text, bytes) = quotes::read(self.rest).map_err(|(byte, why)| self.fault_at(place(byte), why))?;
+        self.advance(bytes);
+        Ok(text)
+    }
+
+    /// Takes what people call a name, or a role, in quotation marks, and answers which one it is.
+    pub fn called(&mut self, sort: Sort) -> Result<u16, Fault> {
+        let place = self.here();
+        let called = self.quoted("")?;
+        self.names.find(sort, &called).ok_or_else(|| {
+            // It may be the one that is missing.
+            self.guessed |= self.lacks_names;
+            let names = self.names.all(sort).map(|(_, name)| name);
+            let hint = nearest(&called, names).map(|meant| format!("; did you mean {}?", quoted(meant)));
+            let (word, called) = (sort.word(), quoted(&called));
+            self.fault_at(
+                place,
+                &format!("no {word} is called {called}{}", hint.unwrap_or_default()),
+            )
+        })
     }
 
     /// Takes `count` numbers.

@@ -4,6 +4,8 @@
 pub mod addition;
 pub mod cursor;
 pub mod names;
+pub mod naming;
+pub mod quotes;
 mod records;
 mod said;
 pub mod script;
@@ -11,8 +13,10 @@ pub mod script;
 mod tests;
 pub mod vocabulary;
 
+use base::vocabulary::Vocabulary;
 use cursor::{Cursor, Fault};
 use names::Names;
+use naming::Naming;
 
 /// The most bytes of a text; no vocabulary or script needs as many.
 pub const TEXT_BYTES: usize = 1 << 20;
@@ -70,16 +74,55 @@ pub fn assemble(text: &str) -> Result<Assembled, Vec<Fault>> {
         return Err(vec![Fault::at(1, 1, message)]);
     };
     let kind = read_kind(&mut header).map_err(|fault| vec![fault])?;
-    let bytes = match kind {
-        Kind::Vocabulary => vocabulary::read(header, cursors),
-        Kind::Script => script::read(header, cursors),
-    }?;
+    let (bytes, names) = match kind {
+        Kind::Vocabulary => read_vocabulary(header, text)?,
+        Kind::Script => (script::read(header, cursors)?, Names::default()),
+    };
     Ok(Assembled {
         kind,
         bytes,
-        lines: lines(text).map(|line| line.place()).collect(),
-        names: Names::default(),
+        lines: record_lines(text, kind).map(|line| line.place()).collect(),
+        names,
     })
+}
+
+/// The bytes of a vocabulary's text, of whose header the first word is taken, and what its names are called. All lines that
+/// give a name are read before the others, which may use it.
+fn read_vocabulary(header: Cursor, text: &str) -> Result<(Vec<u8>, Names), Vec<Fault>> {
+    let giving = lines(text).skip(1).filter(|line| naming::sort_of(line).is_some());
+    let naming = Naming::read(giving);
+    let lacks_names = !naming.faults.is_empty();
+    let others = record_lines(text, Kind::Vocabulary).skip(1);
+    let others = others.map(|line| line.with_names(&naming.names).lacking_names(lacks_names));
+    let read = vocabulary::read(header, others);
+    let strangers = match &read {
+        Ok(bytes) => naming.strangers(&Vocabulary::read(bytes)),
+        Err(_) => Vec::new(),
+    };
+    match (read, [&naming.faults[..], &strangers].concat()) {
+        (Ok(bytes), faults) if faults.is_empty() => Ok((bytes, naming.names)),
+        (read, faults) => Err(records::merged(read.err().unwrap_or_default(), faults)),
+    }
+}
+
+/// What a file of names calls the names and roles of a vocabulary, or what is wrong first. Its first line is no part of it.
+pub fn names(text: &str, vocabulary: &Vocabulary) -> Result<Names, Fault> {
+    let numbered = text.lines().enumerate().skip(1);
+    let lines = numbered.map(|(i, line)| Cursor::new(i + 1, line));
+    let mut naming = Naming::read(lines.filter(|line| !line.at_end()));
+    naming.faults.extend(naming.strangers(vocabulary));
+    match naming.faults.into_iter().min_by_key(|fault| fault.line) {
+        Some(fault) => Err(fault),
+        None => Ok(naming.names),
+    }
+}
+
+/// The lines that say something, one for each record. Of a vocabulary's those that give a name make none.
+fn record_lines(text: &str, kind: Kind) -> impl Iterator<Item = Cursor<'_>> {
+    let makes_record = move |line: &Cursor| kind == Kind::Script || naming::sort_of(line).is_none();
+    let numbered = lines(text).enumerate();
+    let kept = numbered.filter(move |(number, line)| *number == 0 || makes_record(line));
+    kept.map(|(_, line)| line)
 }
 
 /// Takes the first word of a text, which says what it is of. Where it is no such word, what follows it may say that.
@@ -113,7 +156,7 @@ fn kind_by_header(header: &Cursor) -> Option<Kind> {
     }
 }
 
-/// The lines that say something, one for each record.
+/// The lines that say something.
 fn lines(text: &str) -> impl Iterator<Item = Cursor<'_>> {
     let all = text.lines().enumerate().map(|(i, line)| Cursor::new(i + 1, line));
     all.filter(|line| !line.at_end())

@@ -193,6 +193,13 @@ fn own_number(line: &mut Cursor, number: u16, off: &mut i32) {
     }
 }
 
+/// Faults of two sorts of lines, in the order of the lines.
+pub fn merged(mut faults: Vec<Fault>, mut others: Vec<Fault>) -> Vec<Fault> {
+    faults.append(&mut others);
+    faults.sort_by_key(|fault| (fault.line, fault.column));
+    shortened(faults)
+}
+
 /// The faults that are kept; the last says that there are more.
 fn shortened(mut faults: Vec<Fault>) -> Vec<Fault> {
     faults.truncate(FAULTS + 1);

@@ -1,6 +1,8 @@
 //! Vocabularies as text, in OWL 2 functional syntax where a record has a form there.
 
 use super::cursor::{Cursor, Fault};
+use super::names::{Names, Sort};
+use super::quotes;
 use super::records::{read_link, Form, Linked, Unread};
 use super::said::{Said, Says, Term};
 use super::{find, link_words, linked_line, whole, WRITTEN_OUT};
@@ -17,6 +19,10 @@ pub struct Written {
     operands: Vec<String>,
     /// What people call each record, as far as it is known.
     words: Vec<String>,
+    /// What people call its names and roles.
+    names: Names,
+    /// The text of each record as an operand with what its parts are called, where one of them is called something.
+    named: Vec<Option<String>>,
 }
 
 impl Written {
@@ -27,6 +33,8 @@ impl Written {
             vocabulary,
             operands: Vec::new(),
             words: Vec::new(),
+            names: Names::default(),
+            named: Vec::new(),
         };
         for number in 0..written.vocabulary.records.len() {
             let text = written.operand_text(number).unwrap_or_else(|| format!("#{number}"));
@@ -38,6 +46,30 @@ impl Written {
     /// The same with what people call each record.
     pub fn with_words(self, words: Vec<String>) -> Written {
         Written { words, ..self }
+    }
+
+    /// The same with what people call its names and roles.
+    pub fn with_names(self, names: Names) -> Written {
+        if names.is_empty() {
+            return self;
+        }
+        let mut written = Written {
+            names,
+            named: Vec::new(),
+            ..self
+        };
+        for number in 0..written.operands.len() {
+            // What is not written out by its labels is not by its names, so that both have the same form.
+            let is_out = written.operands.get(number).is_some_and(|text| !text.starts_with('#'));
+            let named = written.named(number).filter(|_| is_out);
+            written.named.push(named);
+        }
+        written
+    }
+
+    /// What people call its names and roles.
+    pub fn names(&self) -> &Names {
+        &self.names
     }
 
     /// The vocabulary.
@@ -54,9 +86,9 @@ impl Written {
         self.expression(number).filter(|text| text.len() <= WRITTEN_OUT)
     }
 
-    /// Whether people call some record something.
+    /// Whether people call some record, or some name or role, something.
     pub fn has_words(&self) -> bool {
-        self.words.iter().skip(1).any(|words| !words.is_empty())
+        !self.names.is_empty() || self.words.iter().skip(1).any(|words| !words.is_empty())
     }
 
     /// What people call a record.
@@ -65,18 +97,39 @@ impl Written {
         words.filter(|words| !words.is_empty())
     }
 
-    /// A term, and what people call it.
+    /// What a record says, and what people call it: by its names first, if it has some.
     pub fn called(&self, number: u16) -> String {
-        let text = self.expression(usize::from(number)).unwrap_or_default();
+        let text = self.both(number);
         match self.words(number) {
             Some(words) => format!("{text} ({})", plain(words)),
             None => text,
         }
     }
 
+    /// What a record says: by its names, if it has some, and in OWL 2 functional syntax.
+    pub fn both(&self, number: u16) -> String {
+        let text = self.expression(usize::from(number)).unwrap_or_default();
+        self.beside_name(number, text)
+    }
+
+    /// The line of a record after what it says by its names, if it has some.
+    pub fn called_line(&self, number: u16) -> String {
+        self.beside_name(number, self.line(usize::from(number)))
+    }
+
+    fn beside_name(&self, number: u16, text: String) -> String {
+        match self.named(usize::from(number)) {
+            Some(named) => format!("{named} ({text})"),
+            None => text,
+        }
+    }
+
     /// A role, and what people call it.
     pub fn role(&self, role: u16) -> String {
-        format!("r{role}")
+        match self.names.role(role) {
+            Some(called) => format!("{} (r{role})", quotes::write(called)),
+            None => format!("r{role}"),
+        }
     }
 
     /// A term with its number.
@@ -90,32 +143,70 @@ impl Written {
     }
 
     /// The fields of that.
-    pub fn term_fields(&self, number: u16) -> [(&'static str, Json); 3] {
-        [
-            ("record", Json::from(number)),
+    pub fn term_fields(&self, number: u16) -> Vec<(&'static str, Json)> {
+        let mut fields = vec![("record", Json::from(number))];
+        fields.extend(self.name_field(number));
+        fields.extend([
             ("text", Json::from(self.expression(usize::from(number)))),
             ("words", Json::from(self.words(number))),
-        ]
+        ]);
+        fields
+    }
+
+    /// What a record says by its names, for programs: of a name, what it is called. Where nothing is called anything there
+    /// is no such field.
+    pub fn name_field(&self, number: u16) -> Option<(&'static str, Json)> {
+        let number = usize::from(number);
+        let name = match self.saying(number) {
+            Some(Saying::Name(label)) => self.names.term(label).map(str::to_string),
+            _ => self.named(number),
+        };
+        (!self.names.is_empty()).then(|| ("name", Json::from(name)))
     }
 
     /// What a record says, in OWL 2 functional syntax; nothing for a record that has no form.
     pub fn expression(&self, number: usize) -> Option<String> {
-        // Operands of a record that is refused may not come before it.
-        let operand = |operand: u16| match self.operands.get(usize::from(operand)) {
+        let saying = self.saying(number)?;
+        Some(spelt(
+            saying,
+            |role| format!("r{role}"),
+            |operand| self.operand(number, operand),
+        ))
+    }
+
+    /// The same by what names and roles are called, where one of them is called something.
+    fn named(&self, number: usize) -> Option<String> {
+        let saying = self.saying(number)?;
+        if let Saying::Name(label) = saying {
+            return self.names.term(label).map(quotes::write);
+        }
+        let named = |operand: u16| {
+            let named = self.named.get(usize::from(operand))?.as_deref();
+            named.filter(|_| usize::from(operand) < number)
+        };
+        let role_called = match saying {
+            Saying::Some(role, _) | Saying::All(role, _) => self.names.role(role),
+            _ => None,
+        };
+        if role_called.is_none() && saying.operands().into_iter().all(|operand| named(operand).is_none()) {
+            return None;
+        }
+        let operand = |operand| named(operand).map_or_else(|| self.operand(number, operand), str::to_string);
+        let role = |role| role_called.map_or_else(|| format!("r{role}"), quotes::write);
+        Some(spelt(saying, role, operand))
+    }
+
+    /// What a record says, unless it is the header or has no form.
+    fn saying(&self, number: usize) -> Option<Saying> {
+        self.vocabulary.get(number).saying().filter(|_| number > 0)
+    }
+
+    /// The text of an operand of a record. Those of a record that is refused may not come before it.
+    fn operand(&self, number: usize, operand: u16) -> String {
+        match self.operands.get(usize::from(operand)) {
             Some(text) if usize::from(operand) < number => text.clone(),
             _ => format!("#{operand}"),
-        };
-        Some(match self.vocabulary.get(number).saying().filter(|_| number > 0)? {
-            Saying::Top => "owl:Thing".to_string(),
-            Saying::Bottom => "owl:Nothing".to_string(),
-            Saying::Name(label) => format!("c{label}"),
-            Saying::Not(a) => format!("ObjectComplementOf({})", operand(a)),
-            Saying::And(a, b) => format!("ObjectIntersectionOf({} {})", operand(a), operand(b)),
-            Saying::Or(a, b) => format!("ObjectUnionOf({} {})", operand(a), operand(b)),
-            Saying::Some(role, b) => format!("ObjectSomeValuesFrom({} {})", self.role(role), operand(b)),
-            Saying::All(role, b) => format!("ObjectAllValuesFrom({} {})", self.role(role), operand(b)),
-            Saying::Within(a, b) => format!("SubClassOf({} {})", operand(a), operand(b)),
-        })
+        }
     }
 
     /// The line of the header. One that is not as its edition asks, as with a wrong number of atoms, has no form.
@@ -144,11 +235,28 @@ impl Written {
         linked_line(&text, &self.chained, number, record.next)
     }
 
-    /// The whole text.
+    /// The whole text. What names and roles are called stands after the header.
     pub fn text(&self) -> String {
-        whole(&self.header(), self.vocabulary.records.len(), |number| {
+        let header = format!("{}\n{}", self.header(), self.names.lines());
+        whole(header.trim_end(), self.vocabulary.records.len(), |number| {
             self.line(number)
         })
+    }
+}
+
+/// What a record says in OWL 2 functional syntax, by the texts of its role and of its operands.
+fn spelt(saying: Saying, role: impl Fn(u16) -> String, operand: impl Fn(u16) -> String) -> String {
+    let two = |word: &str, first: String, second: String| format!("{word}({first} {second})");
+    match saying {
+        Saying::Top => "owl:Thing".to_string(),
+        Saying::Bottom => "owl:Nothing".to_string(),
+        Saying::Name(label) => format!("c{label}"),
+        Saying::Not(a) => format!("ObjectComplementOf({})", operand(a)),
+        Saying::And(a, b) => two("ObjectIntersectionOf", operand(a), operand(b)),
+        Saying::Or(a, b) => two("ObjectUnionOf", operand(a), operand(b)),
+        Saying::Some(r, b) => two("ObjectSomeValuesFrom", role(r), operand(b)),
+        Saying::All(r, b) => two("ObjectAllValuesFrom", role(r), operand(b)),
+        Saying::Within(a, b) => two("SubClassOf", operand(a), operand(b)),
     }
 }
 
@@ -208,14 +316,14 @@ const TERMS: [&str; 7] = [
     "ObjectAllValuesFrom",
 ];
 /// The other words that a line begins with.
-const OTHERS: [&str; 3] = [RAW, "off", "SubClassOf"];
+pub const OTHERS: [&str; 5] = [RAW, "off", "SubClassOf", "name", "role"];
 /// The word of a record that is given by its fields.
 const RAW: &str = "raw";
 /// The words that may follow a header's number of roles.
 const EDITION: &str = "edition";
 const FIRST: &str = "first";
 /// What is said of a line that begins with none of them.
-const NO_RECORD: &str =
+pub const NO_RECORD: &str =
     "a term (c1, owl:Thing, ObjectUnionOf(..), ..) or a statement (SubClassOf(..)) is expected here";
 /// What is said where no term stands as an operand.
 pub const NO_TERM: &str = "a term (c1, #7, owl:Thing, ObjectUnionOf(..), ..) is expected here";
@@ -316,6 +424,8 @@ fn read_record(line: &mut Cursor, said: &Said) -> Result<Linked<Record>, Unread>
             statement(line, said, false).map_err(Unread::no_term)
         }
         "SubClassOf" => statement(line, said, true).map_err(Unread::no_term),
+        // Only after another record on one line: else such lines are read before.
+        "name" | "role" => Err(Unread::no_term(line.fault(NO_RECORD))),
         word => {
             let (kind, operands) = shape(word);
             let says = Says::Term(Term::of_kind(kind));
@@ -328,10 +438,16 @@ fn read_record(line: &mut Cursor, said: &Said) -> Result<Linked<Record>, Unread>
 /// The word that stands here, of a term or one of the others. The word of a name is empty: it stays, since its label is
 /// part of it.
 pub fn read_word(line: &mut Cursor, others: &[&'static str], expected: &str) -> Result<&'static str, Fault> {
-    if line.is_lettered('c') {
+    if line.is_lettered('c') || line.peek() == Some('"') {
         return Ok("");
     }
     line.choose(&[others, &TERMS].concat(), expected)
+}
+
+/// Whether this is a word of texts, be it of the wrong case.
+pub fn is_word(word: &str) -> bool {
+    let words = OTHERS.iter().chain(&TERMS);
+    words.into_iter().any(|known| known.eq_ignore_ascii_case(word))
 }
 
 /// The record of a term.
@@ -405,13 +521,19 @@ pub fn read_term(
     Ok(Term { kind, a, b })
 }
 
-/// A role, as `r0`.
+/// A role, as `r0` or by what it is called, in quotation marks.
 pub fn read_role(line: &mut Cursor) -> Result<u16, Fault> {
+    if line.peek() == Some('"') {
+        return line.called(Sort::Role);
+    }
     line.lettered('r', "a role, as r0, is expected here")
 }
 
-/// The label of a name, as `c7`.
+/// The label of a name, as `c7` or by what it is called, in quotation marks.
 pub fn read_label(line: &mut Cursor) -> Result<u16, Fault> {
+    if line.peek() == Some('"') {
+        return line.called(Sort::Name);
+    }
     line.lettered('c', NO_TERM)
 }
 

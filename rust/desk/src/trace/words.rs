@@ -125,6 +125,10 @@ impl Words<'_> {
                 (sentence, vec![t])
             }
             Literal::Pair(_, role, s, t) => {
+                let role = match self.vocabulary.names().role(role) {
+                    Some(_) => self.vocabulary.role(role),
+                    None => role.to_string(),
+                };
                 let sentence = format!("the pair ({}, {}) {is} in role {role}", self.term(s), self.term(t));
                 (sentence, if s == t { vec![t] } else { vec![s, t] })
             }

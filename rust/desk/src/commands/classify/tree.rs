@@ -83,8 +83,7 @@ impl Tree<'_> {
         let others = self.taxonomy.above(number).into_iter();
         let others = others.filter(|other| Some(*other) != above);
         let first = |other: usize| self.taxonomy.classes.get(other)?.names.first().copied();
-        let name = |record: u16| self.written.expression(usize::from(record));
-        let others: Vec<String> = others.filter_map(first).filter_map(name).collect();
+        let others: Vec<String> = others.filter_map(first).map(|name| self.written.both(name)).collect();
         if others.is_empty() {
             return String::new();
         }
@@ -94,7 +93,7 @@ impl Tree<'_> {
     /// A name, for programs.
     fn name_json(&self, name: u16, class: &Class) -> Json {
         let equal = class.names.iter().copied().filter(|other| *other != name);
-        let mut fields = self.written.term_fields(name).to_vec();
+        let mut fields = self.written.term_fields(name);
         fields.extend([
             ("equal", Json::list(equal)),
             ("broader", Json::list(self.taxonomy.broader_names(class))),

@@ -56,13 +56,19 @@ pub fn find(inputs: [&Input; 2], old: &Side, new: &Side) -> Vec<Renamed> {
         let called = [first, second].map(|names: &Names| names.role(role));
         renamed.extend(Renamed::new(format!("r{role}"), called));
     }
-    if old.written.has_words() && new.written.has_words() {
+    if has_comments(old) && has_comments(new) {
         for (a, b) in matched(old, new).pairs {
             let called = [old.written.words(a), new.written.words(b)];
             renamed.extend(Renamed::new(format!("record {b}"), called));
         }
     }
     renamed
+}
+
+/// Whether the text of a vocabulary has comments on its records.
+fn has_comments(side: &Side) -> bool {
+    let mut sayings = side.written.vocabulary().sayings();
+    sayings.any(|(number, _)| side.written.words(number).is_some())
 }
 
 /// The labels of a vocabulary's names.

@@ -6,6 +6,7 @@
 //! open; a file that is written over while it is read may be seen in part. What is noted of a file is of the bytes by which
 //! the line was judged.
 
+use crate::beside;
 use crate::files::{Access, Digest, FileId};
 use crate::input::{self, Input};
 use crate::question::Questions;
@@ -51,15 +52,15 @@ pub struct Seen {
     /// Its name, as the table has it.
     pub name: String,
     /// What it is to be.
-    pub kind: Kind,
+    pub what: &'static str,
     /// Which file it is, if it is a regular one.
     pub id: Option<FileId>,
     /// Its bytes, where it can be read.
     pub digest: Option<Digest>,
 }
 
-/// What came of a file, and what is noted of it, if something is to be.
-pub type Noted<T> = (Option<Arc<Seen>>, Result<T, Trouble>);
+/// What came of a file, and what is noted of it, and of the names beside it, if something is to be.
+pub type Noted<T> = (Vec<Arc<Seen>>, Result<T, Trouble>);
 
 /// Where files are looked for, and what is known of them beside.
 #[derive(Clone)]
@@ -80,9 +81,10 @@ impl Files {
     }
 
     /// A vocabulary that is read, with its words.
-    pub fn known(&self, input: Input) -> Known {
-        let same = self.words.as_ref().filter(|words| input.is_said_by(words));
-        let words = same.map(|words| words.as_ref()).unwrap_or(&input).comments();
+    pub fn known(&self, mut input: Input) -> Known {
+        let same = self.words.as_deref().filter(|words| input.is_said_by(words));
+        let words = same.unwrap_or(&input).comments();
+        input.take_names(same);
         Known::new(input, words)
     }
 
@@ -92,18 +94,29 @@ impl Files {
     }
 
     fn read(&self, file: &str, kind: Kind) -> Noted<Input> {
-        let source = input::source(&self.path(file), Access::Regular, kind);
-        let seen = self.notes.then(|| {
+        let (path, style) = (self.path(file), Style { colour: false });
+        let source = input::source(&path, Access::Regular, kind);
+        let mut seen = Vec::new();
+        if self.notes {
             let read = source.as_ref().ok();
-            Arc::new(Seen {
+            seen.push(Arc::new(Seen {
                 name: file.to_string(),
-                kind,
+                what: kind.word(),
                 id: read.and_then(|source| source.id),
                 digest: read.map(|source| source.digest()),
-            })
-        });
+            }));
+        }
         let input = source.map_err(Stop::from);
-        let input = input.and_then(|source| input::of_kind(source, kind, Style { colour: false }));
+        let input = input.and_then(|source| input::from(source, &path, Access::Regular, kind, style));
+        let beside = input.as_ref().ok().and_then(|input| input.beside.as_ref());
+        seen.extend(beside.filter(|_| self.notes).map(|beside| {
+            Arc::new(Seen {
+                name: beside::path_of(file.as_ref()).to_string_lossy().into_owned(),
+                what: "names",
+                id: beside.id,
+                digest: Some(beside.digest()),
+            })
+        }));
         (seen, input.map_err(Trouble::from))
     }
 
@@ -150,9 +163,9 @@ impl Known {
 
     /// The vocabulary written out, with the words for its records where there are some.
     pub fn written(&mut self) -> &Written {
-        let (bytes, words) = (&self.input.bytes, &mut self.words);
+        let (input, words) = (&self.input, &mut self.words);
         self.written.get_or_insert_with(|| {
-            let written = Written::new(Vocabulary::read(bytes));
+            let written = Written::new(Vocabulary::read(&input.bytes)).with_names(input.names.clone());
             match words.take() {
                 Some(words) => written.with_words(words),
                 None => written,
@@ -178,8 +191,9 @@ impl Kept {
     }
 
     /// What was noted of the vocabulary that was used last.
-    pub fn seen(&self) -> Option<Arc<Seen>> {
-        self.last.first().and_then(|(_, (seen, _))| seen.clone())
+    pub fn seen(&self) -> Vec<Arc<Seen>> {
+        let last = self.last.first();
+        last.map(|(_, (seen, _))| seen.clone()).unwrap_or_default()
     }
 
     /// The vocabulary of a file.

@@ -4,6 +4,7 @@
 
 use super::{statement, term, Addition, Unfit};
 use crate::stored::vocabularies;
+use crate::text::names::NO_NAMES;
 use crate::text::vocabulary::Written;
 use base::vocabulary::{Record, Vocabulary, STATEMENT_KIND};
 
@@ -16,8 +17,8 @@ fn sample() -> Vocabulary {
 /// What words say after the sample.
 fn said(sort: &str, words: &[&str]) -> Result<Addition, Unfit> {
     match sort {
-        "term" => term(&sample(), words),
-        _ => statement(&sample(), words),
+        "term" => term(&sample(), &NO_NAMES, words),
+        _ => statement(&sample(), &NO_NAMES, words),
     }
 }
 
@@ -210,12 +211,12 @@ fn the_lines_of_stored_vocabularies_are_said_again() {
             let [kind_word, a_word, b_word] = numbers.each_ref().map(String::as_str);
             if kind == STATEMENT_KIND {
                 let wanted = Addition::Statement(a, b);
-                assert_eq!(statement(&before, &[&text]).unwrap(), wanted);
-                assert_eq!(statement(&before, &[a_word, b_word]).unwrap(), wanted);
+                assert_eq!(statement(&before, &NO_NAMES, &[&text]).unwrap(), wanted);
+                assert_eq!(statement(&before, &NO_NAMES, &[a_word, b_word]).unwrap(), wanted);
             } else {
                 let wanted = Addition::Term(kind, a, b);
-                assert_eq!(term(&before, &[&text]).unwrap(), wanted);
-                assert_eq!(term(&before, &[kind_word, a_word, b_word]).unwrap(), wanted);
+                assert_eq!(term(&before, &NO_NAMES, &[&text]).unwrap(), wanted);
+                assert_eq!(term(&before, &NO_NAMES, &[kind_word, a_word, b_word]).unwrap(), wanted);
             }
             records += 1;
         }

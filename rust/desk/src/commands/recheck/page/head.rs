@@ -8,7 +8,6 @@ use crate::date::Date;
 use crate::display::{counted, grouped};
 use crate::files::{Digest, Name};
 use crate::html::{escaped, isolated};
-use crate::text::Kind;
 use base::Status;
 
 /// How the page looks, on a screen and on paper.
@@ -133,11 +132,7 @@ impl Head<'_> {
             html.push_str(&file(&name.to_string(), "words", Some(digest), false));
         }
         for File { seen, changed, .. } in self.listed.in_order() {
-            let kind = match seen.kind {
-                Kind::Vocabulary => "vocabulary",
-                Kind::Script => "script",
-            };
-            html.push_str(&file(&seen.name, kind, seen.digest.as_ref(), *changed));
+            html.push_str(&file(&seen.name, seen.what, seen.digest.as_ref(), *changed));
         }
         html.push_str("</tbody>\n</table>\n");
         if self.listed.is_full {

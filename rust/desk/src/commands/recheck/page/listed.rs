@@ -4,7 +4,6 @@
 //! changed since they were listed, are told at each line that was judged by them.
 
 use super::super::kept::Seen;
-use crate::text::Kind;
 use std::collections::BTreeMap;
 use std::sync::Arc;
 
@@ -15,8 +14,8 @@ const EACH: usize = 250;
 
 /// The files that are listed.
 pub struct Listed {
-    /// By name, and whether it is a script.
-    files: BTreeMap<(String, bool), File>,
+    /// By name, and by what each is.
+    files: BTreeMap<(String, &'static str), File>,
     room: usize,
     /// Whether some file found no room.
     pub is_full: bool,
@@ -48,7 +47,7 @@ impl Listed {
 
     /// Whether a file is listed with these bytes; it is then, if there is room and it has not been listed with others.
     pub fn has(&mut self, seen: &Arc<Seen>) -> bool {
-        let key = (seen.name.clone(), seen.kind == Kind::Script);
+        let key = (seen.name.clone(), seen.what);
         if let Some(file) = self.files.get_mut(&key) {
             let is_same = file.seen.digest == seen.digest;
             file.changed |= !is_same;

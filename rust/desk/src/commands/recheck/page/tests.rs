@@ -1,17 +1,14 @@
 //! The list of files keeps to its room, and tells what has changed.
 
-#![allow(clippy::unwrap_used)]
-
 use super::super::kept::Seen;
 use super::listed::Listed;
 use crate::files::Digest;
-use crate::text::Kind;
 use std::sync::Arc;
 
-fn seen(name: &str, kind: Kind, bytes: u64) -> Arc<Seen> {
+fn seen(name: &str, what: &'static str, bytes: u64) -> Arc<Seen> {
     Arc::new(Seen {
         name: name.to_string(),
-        kind,
+        what,
         id: None,
         digest: Some(Digest {
             sha256: Some(format!("{bytes:064}")),
@@ -32,13 +29,13 @@ fn names(listed: &Listed) -> Vec<(&str, bool)> {
 #[test]
 fn each_file_is_listed_once_with_its_first_bytes() {
     let mut listed = Listed::new();
-    assert!(listed.has(&seen("b", Kind::Vocabulary, 1)));
-    assert!(listed.has(&seen("a", Kind::Vocabulary, 2)));
-    assert!(listed.has(&seen("b", Kind::Script, 3)));
-    assert!(listed.has(&seen("b", Kind::Vocabulary, 1)));
+    assert!(listed.has(&seen("b", "vocabulary", 1)));
+    assert!(listed.has(&seen("a", "vocabulary", 2)));
+    assert!(listed.has(&seen("b", "script", 3)));
+    assert!(listed.has(&seen("b", "vocabulary", 1)));
     // The same name with other bytes.
-    assert!(!listed.has(&seen("a", Kind::Vocabulary, 5)));
-    assert!(listed.has(&seen("a", Kind::Vocabulary, 2)));
+    assert!(!listed.has(&seen("a", "vocabulary", 5)));
+    assert!(listed.has(&seen("a", "vocabulary", 2)));
     assert_eq!(names(&listed), [("b", false), ("a", true), ("b", false)]);
     assert!(!listed.is_full);
 }
@@ -46,13 +43,13 @@ fn each_file_is_listed_once_with_its_first_bytes() {
 #[test]
 fn what_has_no_room_is_not_listed() {
     let mut listed = Listed::with_room(600);
-    assert!(listed.has(&seen("a", Kind::Vocabulary, 1)));
-    assert!(listed.has(&seen("b", Kind::Vocabulary, 2)));
-    assert!(!listed.has(&seen("c", Kind::Vocabulary, 3)));
-    assert!(listed.has(&seen("a", Kind::Vocabulary, 1)));
-    assert!(!listed.has(&seen("c", Kind::Vocabulary, 3)));
+    assert!(listed.has(&seen("a", "vocabulary", 1)));
+    assert!(listed.has(&seen("b", "vocabulary", 2)));
+    assert!(!listed.has(&seen("c", "vocabulary", 3)));
+    assert!(listed.has(&seen("a", "vocabulary", 1)));
+    assert!(!listed.has(&seen("c", "vocabulary", 3)));
     assert_eq!(names(&listed), [("a", false), ("b", false)]);
     assert!(listed.is_full);
     let mut listed = Listed::with_room(600);
-    assert!(!listed.has(&seen(&"x".repeat(400), Kind::Vocabulary, 1)));
+    assert!(!listed.has(&seen(&"x".repeat(400), "vocabulary", 1)));
 }
