@@ -72,7 +72,7 @@ pub enum Kept {
     /// It is written.
     Written,
     /// It stays, since it fits.
-    Kept,
+    Stays,
     /// It was of other bytes, and is removed.
     Removed,
 }
@@ -213,7 +213,7 @@ fn tidy(output: &OsStr, bytes: &[u8], inputs: &[Option<FileId>]) -> Result<Optio
     let path = path_of(output);
     match read(output, bytes) {
         None => Ok(None),
-        Some(Ok(_)) => Ok(Some(Kept::Kept)),
+        Some(Ok(_)) => Ok(Some(Kept::Stays)),
         Some(Err(unused)) if unused.is_misfit && is_own_file(&path, inputs) => {
             let why = |error| format!("cannot be removed ({})", files::reason(&error));
             let removed = fs::remove_file(&path).map_err(|error| unwritten(&Name::new(&path), &why(error)));

@@ -60,7 +60,7 @@ pub fn run(arguments: &Arguments, console: &mut Console) -> Result<Status, Stop>
 fn tell_names(report: &mut Report, name: &Name, kept: Kept, names: &Names) {
     let (verdict, words) = match kept {
         Kept::Written => ("written", format!("what {} are called", names.tally())),
-        Kept::Kept => ("kept", "stays, since it is of the same bytes".to_string()),
+        Kept::Stays => ("kept", "stays, since it is of the same bytes".to_string()),
         Kept::Removed => ("removed", "is removed, since it was of other bytes".to_string()),
     };
     report.text.push_str(&format!("  {name}: {words}\n"));
