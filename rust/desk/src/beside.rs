@@ -2,7 +2,7 @@
 //! first line has the SHA-256 of the vocabulary's bytes, so that names are never shown of another vocabulary. A change of
 //! the vocabulary by desk keeps the hash of the bytes before it, too: the names fit before and after, whenever the run ends.
 
-use crate::files::{self, unwritten, Access, FileId, Name};
+use crate::files::{self, unwritten, Access, Digest, FileId, Name, Source};
 use crate::notes;
 use crate::streams;
 use crate::text::names::Names;
@@ -22,6 +22,18 @@ const FIRST: [&str; 2] = ["names", "sha256"];
 pub struct Beside {
     path: OsString,
     bytes: Vec<u8>,
+    /// Which file it is.
+    pub id: Option<FileId>,
+}
+
+impl Beside {
+    /// What it is by its bytes.
+    pub fn digest(&self) -> Digest {
+        Digest {
+            sha256: Some(sha256(&self.bytes)),
+            bytes: self.bytes.len() as u64,
+        }
+    }
 }
 
 /// Why a file of names is not used.
@@ -95,8 +107,8 @@ fn read(vocabulary: &OsStr, bytes: &[u8]) -> Option<Result<(Names, Beside), Unus
         let source = files::read(&path, Access::Regular, TEXT_BYTES, |_| TEXT_BYTES).map_err(unreadable)?;
         let text = files::text_of(&name, source.bytes.clone(), TEXT_BYTES).map_err(unreadable)?;
         let names = fitting(&name, &text, &Name::new(vocabulary), bytes)?;
-        let bytes = source.bytes;
-        Ok((names, Beside { path, bytes }))
+        let Source { bytes, id, .. } = source;
+        Ok((names, Beside { path, bytes, id }))
     })
 }
 

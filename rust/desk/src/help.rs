@@ -28,6 +28,7 @@ usage: desk COMMAND .. [--json] [--quiet] [--color[=WHEN]]
   add FILE statement A B        adds a statement at the end of its chain
   edition FILE 1|2              converts a vocabulary to an edition
   recheck TABLE                 every line of a filed table
+  diff OLD NEW [TABLE]          what changed between two vocabularies, and which filed lines change their verdict
 
 'desk COMMAND --help' says more, and so do 'desk help texts', 'desk help tables' and 'desk help refusals'.
 An input of '-' is standard input. Where a vocabulary or a script is taken, its text is taken as well, but for 'add' and
@@ -46,7 +47,7 @@ exit status: 0 holds, 1 does not hold, 2 refused input, 64 and up usage and I/O 
 ";
 
 /// A page for each command and topic.
-const PAGES: [(&str, &str); 16] = [
+const PAGES: [(&str, &str); 17] = [
     ("check", CHECK),
     ("show", SHOW),
     ("record", RECORD),
@@ -61,6 +62,7 @@ const PAGES: [(&str, &str); 16] = [
     ("add", ADD),
     ("edition", EDITION),
     ("recheck", RECHECK),
+    ("diff", DIFF),
     ("texts", TEXTS),
     ("tables", TABLES),
 ];
@@ -287,7 +289,7 @@ exit status: 0 converted or unchanged, 2 refused, 66 FILE cannot be read or is a
 ";
 
 const RECHECK: &str = "\
-usage: desk recheck TABLE [-j N] [--strict] [--explain] [--words TEXT] [--json]
+usage: desk recheck TABLE [-j N] [--strict] [--explain] [--words TEXT] [--html FILE] [--json]
 
 Rechecks a filed table ('desk help tables'). Each line that does not hold is printed when it is found, in the order of the
 lines, as TABLE:LINE:COLUMN with the reason below it; then a summary. Lines that hold only because nothing satisfies the
@@ -298,11 +300,29 @@ terminal.
   --strict         lines that are so marked fail, with status 1
   --explain        explains each line that does not hold, as 'desk compare' does, and why a script is refused
   --words TEXT     the text of a vocabulary, for lines whose vocabulary has its bytes; implies --explain
+  --html FILE      writes a page to file: the date, the versions, the summary, each file with its size and SHA-256, and each
+                   line with its verdict and its terms; of those that do not hold what tells the terms apart, drawn. It is
+                   written when all lines are judged, whole or not at all. SOURCE_DATE_EPOCH sets the date
 
 --json writes an object for each such line, and a last one with the summary.
 
 exit status: the greatest of the lines' own: 0 all hold (or there is none), 1 some do not, 2 some input was refused or a
 line is malformed, 66 some file, or the table, cannot be read; 74 standard output was closed, 130 interrupted
+";
+
+const DIFF: &str = "\
+usage: desk diff OLD NEW [TABLE] [--json]
+
+What changed between two vocabularies, by what their records say: a term is what it is made of, whatever its number.
+Records that NEW does not say stand with '-', records that OLD does not say with '+'; then statements that were put on the
+chain or taken off it, the numbers of records that moved, what is called otherwise, and, where both vocabularies can be
+classified (at most 12 atoms), the names that have other nearest broader names or equal ones.
+
+With TABLE, a filed table ('desk help tables'), each line that names the file OLD or the file NEW is judged by both, by its
+record numbers, as it will be read when NEW takes the place of OLD. Told are the lines whose verdict changes, and those in
+which a number names another term in NEW.
+
+exit status: 0 no change, 1 changed, 2 a vocabulary is refused or a line is malformed, 66 a file cannot be read
 ";
 
 const TEXTS: &str = "\

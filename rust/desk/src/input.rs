@@ -29,7 +29,7 @@ pub struct Input {
     /// What people call its names and roles.
     pub names: Names,
     /// The file that has them, if it is one beside a vocabulary's bytes.
-    beside: Option<Beside>,
+    pub beside: Option<Beside>,
     length: Length,
     /// Of a text, the line of each record.
     lines: Option<Vec<Line>>,
@@ -195,6 +195,14 @@ fn is_text(bytes: &[u8]) -> bool {
     bytes.starts_with(b"--") || words.contains(&word.as_ref()) || nearest(&word, words).is_some()
 }
 
+/// The file of a vocabulary or of a script, as it is.
+pub fn source(path: &OsStr, access: Access, kind: Kind) -> Result<Source, Failure> {
+    match kind {
+        Kind::Vocabulary => read(path, access, judge::VOCABULARY_BYTES),
+        Kind::Script => read(path, access, judge::SCRIPT_BYTES),
+    }
+}
+
 /// Reads a vocabulary or a script; `most` is the length from which the library refuses it.
 fn read(path: &OsStr, access: Access, most: usize) -> Result<Source, Failure> {
     files::read(
@@ -207,8 +215,22 @@ fn read(path: &OsStr, access: Access, most: usize) -> Result<Source, Failure> {
 
 /// A vocabulary, from its bytes or its text.
 pub fn vocabulary(path: &OsStr, access: Access, style: Style) -> Result<Input, Stop> {
-    let source = read(path, access, judge::VOCABULARY_BYTES)?;
-    of_kind(source, Kind::Vocabulary, style).map(|input| with_names(input, path, access))
+    from(
+        source(path, access, Kind::Vocabulary)?,
+        path,
+        access,
+        Kind::Vocabulary,
+        style,
+    )
+}
+
+/// What the file of a vocabulary, or of a script, has; a vocabulary with the names beside it.
+pub fn from(source: Source, path: &OsStr, access: Access, kind: Kind, style: Style) -> Result<Input, Stop> {
+    let input = of_kind(source, kind, style)?;
+    Ok(match kind {
+        Kind::Vocabulary => with_names(input, path, access),
+        Kind::Script => input,
+    })
 }
 
 /// A vocabulary with the names beside it, if it was read from the bytes of a regular file.
@@ -247,14 +269,14 @@ pub fn vocabulary_to_change(path: &OsStr, advice: &str) -> Result<(Input, Opened
 
 /// A script, from its bytes or its text.
 pub fn script(path: &OsStr, access: Access, style: Style) -> Result<Input, Stop> {
-    of_kind(read(path, access, judge::SCRIPT_BYTES)?, Kind::Script, style)
+    of_kind(source(path, access, Kind::Script)?, Kind::Script, style)
 }
 
 /// A vocabulary or a script, and which of the two, from its bytes or its text. Bytes that begin as a script are one.
 pub fn either(path: &OsStr, style: Style) -> Result<(Input, Kind), Stop> {
     let source = read(path, Access::Any, judge::SCRIPT_BYTES)?;
     if is_text(&source.bytes) {
-        return read_text(source, style);
+        return of_text(source, style);
     }
     let kind = match source.bytes.as_slice() {
         [32, 0, ..] => Kind::Script,
@@ -269,7 +291,12 @@ pub fn either(path: &OsStr, style: Style) -> Result<(Input, Kind), Stop> {
 
 /// A text, and what it is of.
 pub fn text(path: &OsStr, style: Style) -> Result<(Input, Kind), Stop> {
-    read_text(files::read(path, Access::Any, TEXT_BYTES, |_| TEXT_BYTES)?, style)
+    of_text(text_source(path)?, style)
+}
+
+/// The file of a text, as it is.
+pub fn text_source(path: &OsStr) -> Result<Source, Failure> {
+    files::read(path, Access::Any, TEXT_BYTES, |_| TEXT_BYTES)
 }
 
 /// The bytes of a vocabulary or of its text, as its file has them.
@@ -299,7 +326,7 @@ fn of_kind(source: Source, wanted: Kind, style: Style) -> Result<Input, Stop> {
     if !is_text(&source.bytes) {
         return Ok(of_bytes(source));
     }
-    let (input, kind) = read_text(source, style)?;
+    let (input, kind) = of_text(source, style)?;
     if kind != wanted {
         let (name, is, wanted) = (&input.name, kind.word(), wanted.word());
         let message = format!("{name}: is the text of a {is}, and a {wanted} is needed");
@@ -308,7 +335,8 @@ fn of_kind(source: Source, wanted: Kind, style: Style) -> Result<Input, Stop> {
     Ok(input)
 }
 
-fn read_text(source: Source, style: Style) -> Result<(Input, Kind), Stop> {
+/// What a text has, and what it is of.
+pub fn of_text(source: Source, style: Style) -> Result<(Input, Kind), Stop> {
     let Source { name, bytes, id, .. } = source;
     let text = files::text_of(&name, bytes, TEXT_BYTES)?;
     match text::assemble(&text) {

@@ -6,6 +6,7 @@ mod check;
 mod classify;
 mod columns;
 mod compare;
+mod diff;
 mod edition;
 mod made;
 mod new;
@@ -49,7 +50,7 @@ const fn command(
 }
 
 /// The commands, in the order of the help.
-const COMMANDS: [Command; 14] = [
+const COMMANDS: [Command; 15] = [
     command("check", check::FLAGS, check::run),
     command("show", &[], show::run),
     command("record", &[], record::run),
@@ -64,6 +65,7 @@ const COMMANDS: [Command; 14] = [
     command("add", &[], add::run),
     command("edition", &[], edition::run),
     command("recheck", recheck::FLAGS, recheck::run),
+    command("diff", &[], diff::run),
 ];
 
 /// The options of every command.

@@ -1,13 +1,16 @@
 //! Reading and writing files, with a plain message for whatever is wrong.
 
+mod draft;
 mod lock;
 mod replace;
 mod write;
 
+pub use draft::Draft;
 pub use write::{check, create, renew, unwritten, write};
 
 use crate::display::{grouped, plain};
 use crate::streams;
+use base::sha256::sha256;
 use base::{Failure, Status};
 use std::ffi::OsStr;
 use std::fmt;
@@ -81,7 +84,24 @@ pub struct Source {
     pub id: Option<FileId>,
 }
 
+/// A file by what it has: which bytes these are, and how many.
+#[derive(Clone, Debug, PartialEq, Eq)]
+pub struct Digest {
+    /// The SHA-256; nothing where the file is too large to be read whole.
+    pub sha256: Option<String>,
+    /// How many bytes it has, or at least.
+    pub bytes: u64,
+}
+
 impl Source {
+    /// What it is by its bytes.
+    pub fn digest(&self) -> Digest {
+        Digest {
+            sha256: self.whole().map(sha256),
+            bytes: self.length.bytes,
+        }
+    }
+
     /// The bytes, where they are all that the file has.
     pub fn whole(&self) -> Option<&[u8]> {
         let is_whole = !self.length.cut && self.length.bytes == self.bytes.len() as u64;

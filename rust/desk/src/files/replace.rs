@@ -6,7 +6,7 @@ use super::Name;
 use crate::signals;
 use base::{Failure, Status};
 use std::fs::{self, File, Metadata, Permissions};
-use std::io::{self, ErrorKind};
+use std::io::{self, ErrorKind, Read};
 use std::os::unix::fs::{fchown, MetadataExt, OpenOptionsExt, PermissionsExt};
 use std::path::{Path, PathBuf};
 
@@ -20,24 +20,24 @@ const PRIVATE_MODE: u32 = 0o600;
 /// What is kept of a mode; the other bits are lost at any write.
 const PERMISSIONS: u32 = 0o777;
 
-/// Puts a file of these bytes at a path, where there is a regular file or none.
-pub fn replace(name: &Name, path: &Path, bytes: &[u8]) -> Result<(), Failure> {
+/// Puts a file of what a source has at a path, where there is a regular file or none.
+pub fn replace(name: &Name, path: &Path, source: &mut dyn Read) -> Result<(), Failure> {
     let old = old_file(path).map_err(|error| unwritable(name, &error))?;
-    put(name, path, bytes, old.as_ref(), |temporary| {
+    put(name, path, source, old.as_ref(), |temporary| {
         temporary.rename(name, path)
     })
 }
 
-/// Puts a file of these bytes at a path where there is none. One that comes there meanwhile stays as it is.
-pub fn create(name: &Name, path: &Path, bytes: &[u8]) -> Result<(), Failure> {
-    put(name, path, bytes, None, |temporary| temporary.link(name, path))
+/// Puts a file of what a source has at a path where there is none. One that comes there meanwhile stays as it is.
+pub fn create(name: &Name, path: &Path, source: &mut dyn Read) -> Result<(), Failure> {
+    put(name, path, source, None, |temporary| temporary.link(name, path))
 }
 
-/// Puts a file of these bytes in the place of one that was read and had the old ones. One that has others by now, since
+/// Puts a file of what a source has in the place of one that was read and had the old ones. One that has others by now, since
 /// some program has written to it, stays as it is: what that has written would be lost.
-pub fn renew(name: &Name, path: &Path, old_bytes: &[u8], bytes: &[u8]) -> Result<(), Failure> {
+pub fn renew(name: &Name, path: &Path, old_bytes: &[u8], source: &mut dyn Read) -> Result<(), Failure> {
     let old = old_file(path).map_err(|error| unwritable(name, &error))?;
-    put(name, path, bytes, old.as_ref(), |temporary| {
+    put(name, path, source, old.as_ref(), |temporary| {
         if fs::read(path).is_ok_and(|now| now == old_bytes) {
             temporary.rename(name, path)
         } else {
@@ -46,22 +46,19 @@ pub fn renew(name: &Name, path: &Path, old_bytes: &[u8], bytes: &[u8]) -> Result
     })
 }
 
-/// Makes a file of these bytes beside a path, in the place of the old one if there is one, and lets it take its name.
+/// Makes a file of what a source has beside a path, in the place of the old one if there is one, and lets it take its name.
 fn put(
     name: &Name,
     path: &Path,
-    bytes: &[u8],
+    source: &mut dyn Read,
     old: Option<&Metadata>,
     take_name: impl FnOnce(Temporary) -> Result<(), Failure>,
 ) -> Result<(), Failure> {
     let _catching = signals::catch();
     let directory = directory(path);
-    let temporary = Temporary::new(&directory, old).map_err(|error| match error.kind() {
-        ErrorKind::PermissionDenied => unwritten(name, "its directory may not be written to (permission denied)"),
-        _ => unwritable(name, &error),
-    })?;
+    let temporary = Temporary::beside(name, &directory, old)?;
     stop_if_caught(name)?;
-    let filled = temporary.take_after(old).and_then(|()| fill(&temporary.file, bytes));
+    let filled = temporary.take_after(old).and_then(|()| fill(&temporary.file, source));
     filled.map_err(|error| unwritable(name, &error))?;
     stop_if_caught(name)?;
     take_name(temporary)?;
@@ -89,19 +86,29 @@ fn stop_if_caught(name: &Name) -> Result<(), Failure> {
 }
 
 /// A file that is being made. It is removed, unless it gets its name.
-struct Temporary {
+pub struct Temporary {
     path: PathBuf,
-    file: File,
+    /// The file, open for writing and reading.
+    pub file: File,
     renamed: bool,
 }
 
 impl Temporary {
+    /// A new empty file in the directory of an output, in whose name it is told where none can be made.
+    pub fn beside(name: &Name, directory: &Path, old: Option<&Metadata>) -> Result<Temporary, Failure> {
+        Temporary::new(directory, old).map_err(|error| match error.kind() {
+            ErrorKind::PermissionDenied => unwritten(name, "its directory may not be written to (permission denied)"),
+            _ => unwritable(name, &error),
+        })
+    }
+
     /// A new empty file, whose name is short whatever the output's is.
     fn new(directory: &Path, old: Option<&Metadata>) -> io::Result<Temporary> {
         let mode = if old.is_some() { PRIVATE_MODE } else { NEW_MODE };
         for number in 0..NAMES {
             let path = directory.join(format!(".desk-{}-{number}", std::process::id()));
-            match File::options().write(true).create_new(true).mode(mode).open(&path) {
+            let mut options = File::options();
+            match options.read(true).write(true).create_new(true).mode(mode).open(&path) {
                 Err(error) if error.kind() == ErrorKind::AlreadyExists => {}
                 opened => {
                     return opened.map(|file| Temporary {
@@ -170,11 +177,11 @@ mod tests {
         fs::create_dir_all(&directory).unwrap();
         let path = directory.join("x");
         let name = Name::new("x".as_ref());
-        create(&name, &path, b"old").unwrap();
-        let there = create(&name, &path, b"new").unwrap_err();
+        create(&name, &path, &mut &b"old"[..]).unwrap();
+        let there = create(&name, &path, &mut &b"new"[..]).unwrap_err();
         assert_eq!(there.message, "x: is there already, and stays as it is");
-        renew(&name, &path, b"old", b"new").unwrap();
-        let changed = renew(&name, &path, b"old", b"newer").unwrap_err();
+        renew(&name, &path, b"old", &mut &b"new"[..]).unwrap();
+        let changed = renew(&name, &path, b"old", &mut &b"newer"[..]).unwrap_err();
         assert_eq!(changed.message, "x: has changed since it was read, and stays as it is");
         assert_eq!(fs::read(&path).unwrap(), b"new");
         assert_eq!(fs::read_dir(&directory).unwrap().count(), 1);

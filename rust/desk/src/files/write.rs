@@ -6,20 +6,25 @@ use crate::streams;
 use base::{Failure, Status};
 use std::ffi::OsStr;
 use std::fs::{self, File, Metadata};
-use std::io::{self, ErrorKind, Write};
+use std::io::{self, ErrorKind, Read};
 use std::os::unix::ffi::OsStrExt;
 use std::path::{Path, PathBuf};
 
 /// The most symbolic links that one name leads through; the kernel has the same limit.
 const LINKS: usize = 40;
 /// Why an input is not written.
-const INPUT: &str = "is an input, and stays as it is";
+pub const INPUT: &str = "is an input, and stays as it is";
 /// Why a file that is there is not made.
 pub const EXISTS: &str = "is there already, and stays as it is";
 
 /// Writes a file, but never one of the inputs. A regular file is replaced by a whole new one, or stays as it was; what is
 /// no regular file, and an open descriptor (`/dev/stdout`), is written to. Symbolic links are followed.
 pub fn write(path: &OsStr, bytes: &[u8], inputs: &[Option<FileId>]) -> Result<(), Failure> {
+    write_from(path, &mut &*bytes, inputs)
+}
+
+/// The same of all that a source has, of which no more than a part is in memory.
+pub fn write_from(path: &OsStr, source: &mut dyn Read, inputs: &[Option<FileId>]) -> Result<(), Failure> {
     let (name, path) = (Name::new(path), Path::new(path));
     let end = follow(path);
     let about = look(&name, path, &end)?;
@@ -30,10 +35,10 @@ pub fn write(path: &OsStr, bytes: &[u8], inputs: &[Option<FileId>]) -> Result<()
     match about {
         None if streams::is_descriptor(&end) => Err(unwritten(&name, "is not open")),
         Some(about) if !about.is_file() || streams::is_descriptor(&end) => {
-            let written = open_in_place(&end, &about).and_then(|file| fill(&file, bytes));
+            let written = open_in_place(&end, &about).and_then(|file| fill(&file, source));
             written.map_err(|error| unwritten(&name, &format!("cannot be written ({})", reason(&error))))
         }
-        _ => replace(&name, &end, bytes),
+        _ => replace(&name, &end, source),
     }
 }
 
@@ -59,7 +64,7 @@ pub fn create(path: &OsStr, bytes: &[u8]) -> Result<(), Failure> {
     match look(&name, path, &end)? {
         Some(_) => Err(unwritten(&name, EXISTS)),
         None if streams::is_descriptor(&end) => Err(unwritten(&name, "is not open")),
-        None => replace::create(&name, &end, bytes),
+        None => replace::create(&name, &end, &mut &*bytes),
     }
 }
 
@@ -71,11 +76,11 @@ pub fn renew(path: &OsStr, old_bytes: &[u8], bytes: &[u8]) -> Result<(), Failure
     if streams::is_descriptor(&end) {
         return Err(unwritten(&name, "is an open descriptor, and no file's own name"));
     }
-    replace::renew(&name, &end, old_bytes, bytes)
+    replace::renew(&name, &end, old_bytes, &mut &*bytes)
 }
 
 /// What stands at a path, which leads to `end`, if anything does. What can be no file is refused.
-fn look(name: &Name, path: &Path, end: &Path) -> Result<Option<Metadata>, Failure> {
+pub fn look(name: &Name, path: &Path, end: &Path) -> Result<Option<Metadata>, Failure> {
     match fs::metadata(path) {
         Ok(about) if about.is_dir() => Err(unwritten(name, "is a directory, not a file")),
         Ok(about) => Ok(Some(about)),
@@ -92,7 +97,7 @@ fn names_directory(path: &Path) -> bool {
 }
 
 /// The path to which symbolic links lead; there need not be a file. That of an open descriptor is the descriptor's.
-fn follow(path: &Path) -> PathBuf {
+pub fn follow(path: &Path) -> PathBuf {
     let mut path = path.to_path_buf();
     for _ in 0..LINKS {
         match fs::read_link(&path) {
@@ -119,9 +124,9 @@ fn open_in_place(path: &Path, about: &Metadata) -> io::Result<File> {
     File::options().write(true).append(about.is_file()).open(path)
 }
 
-/// Writes all bytes, and waits until they are where they belong, since closing a file tells no errors.
-pub fn fill(mut file: &File, bytes: &[u8]) -> io::Result<()> {
-    file.write_all(bytes)?;
+/// Writes all that a source has, and waits until it is where it belongs, since closing a file tells no errors.
+pub fn fill(mut file: &File, source: &mut dyn Read) -> io::Result<()> {
+    io::copy(source, &mut file)?;
     match file.sync_all() {
         // What cannot be asked for that: a pipe, a terminal, most devices.
         Err(error) if matches!(error.kind(), ErrorKind::InvalidInput | ErrorKind::Unsupported) => Ok(()),

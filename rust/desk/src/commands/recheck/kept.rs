@@ -3,14 +3,17 @@
 //!
 //! A file is read when a worker first needs it, and again when it was not among the last ones. Where a file changes
 //! during the run, each line is judged by what was read of it before or after the change, and which of the two is left
-//! open; a file that is written over while it is read may be seen in part.
+//! open; a file that is written over while it is read may be seen in part. What is noted of a file is of the bytes by which
+//! the line was judged.
 
-use crate::files::Access;
+use crate::beside;
+use crate::files::{Access, Digest, FileId};
 use crate::input::{self, Input};
 use crate::question::Questions;
 use crate::report::{Stop, Style};
 use crate::term::{self, Asked, Refused};
 use crate::text::vocabulary::Written;
+use crate::text::Kind;
 use base::vocabulary::Vocabulary;
 use base::Status;
 use std::ffi::OsString;
@@ -44,36 +47,82 @@ impl From<Stop> for Trouble {
     }
 }
 
+/// A file as it was read.
+#[derive(Debug)]
+pub struct Seen {
+    /// Its name, as the table has it.
+    pub name: String,
+    /// What it is to be.
+    pub what: &'static str,
+    /// Which file it is, if it is a regular one.
+    pub id: Option<FileId>,
+    /// Its bytes, where it can be read.
+    pub digest: Option<Digest>,
+}
+
+/// What came of a file, and what is noted of it, and of the names beside it, if something is to be.
+pub type Noted<T> = (Vec<Arc<Seen>>, Result<T, Trouble>);
+
 /// Where files are looked for, and what is known of them beside.
 #[derive(Clone)]
 pub struct Files {
     /// The directory of the table.
     pub directory: PathBuf,
+    /// Whether it is noted what was read.
+    pub notes: bool,
     /// The text whose comments say what records are called.
     pub words: Option<Arc<Input>>,
 }
 
 impl Files {
     /// Reads a vocabulary.
-    fn vocabulary(&self, file: &str) -> Result<Known, Trouble> {
-        let mut input = input::vocabulary(&self.path(file), Access::Regular, Style { colour: false })?;
+    fn vocabulary(&self, file: &str) -> Noted<Known> {
+        let (seen, input) = self.read(file, Kind::Vocabulary);
+        (seen, input.map(|input| self.known(input)))
+    }
+
+    /// A vocabulary that is read, with its words.
+    pub fn known(&self, mut input: Input) -> Known {
         let same = self.words.as_deref().filter(|words| input.is_said_by(words));
         let words = same.unwrap_or(&input).comments();
         input.take_names(same);
-        Ok(Known::new(input, words))
+        Known::new(input, words)
     }
 
     /// Reads a script.
-    pub fn script(&self, file: &str) -> Result<Input, Trouble> {
-        Ok(input::script(
-            &self.path(file),
-            Access::Regular,
-            Style { colour: false },
-        )?)
+    pub fn script(&self, file: &str) -> Noted<Input> {
+        self.read(file, Kind::Script)
+    }
+
+    fn read(&self, file: &str, kind: Kind) -> Noted<Input> {
+        let (path, style) = (self.path(file), Style { colour: false });
+        let source = input::source(&path, Access::Regular, kind);
+        let mut seen = Vec::new();
+        if self.notes {
+            let read = source.as_ref().ok();
+            seen.push(Arc::new(Seen {
+                name: file.to_string(),
+                what: kind.word(),
+                id: read.and_then(|source| source.id),
+                digest: read.map(|source| source.digest()),
+            }));
+        }
+        let input = source.map_err(Stop::from);
+        let input = input.and_then(|source| input::from(source, &path, Access::Regular, kind, style));
+        let beside = input.as_ref().ok().and_then(|input| input.beside.as_ref());
+        seen.extend(beside.filter(|_| self.notes).map(|beside| {
+            Arc::new(Seen {
+                name: beside::path_of(file.as_ref()).to_string_lossy().into_owned(),
+                what: "names",
+                id: beside.id,
+                digest: Some(beside.digest()),
+            })
+        }));
+        (seen, input.map_err(Trouble::from))
     }
 
     /// The path of a file that the table names.
-    fn path(&self, file: &str) -> OsString {
+    pub fn path(&self, file: &str) -> OsString {
         let path = self.directory.join(file);
         // So that messages do not call it standard input.
         if path == Path::new("-") {
@@ -150,7 +199,7 @@ impl Known {
 pub struct Kept {
     /// Where they are read from.
     pub files: Files,
-    last: Vec<(String, Result<Known, Trouble>)>,
+    last: Vec<(String, Noted<Known>)>,
 }
 
 impl Kept {
@@ -160,6 +209,12 @@ impl Kept {
             files,
             last: Vec::new(),
         }
+    }
+
+    /// What was noted of the vocabulary that was used last.
+    pub fn seen(&self) -> Vec<Arc<Seen>> {
+        let last = self.last.first();
+        last.map(|(_, (seen, _))| seen.clone()).unwrap_or_default()
     }
 
     /// The vocabulary of a file.
@@ -176,8 +231,8 @@ impl Kept {
             }
         }
         match self.last.first_mut() {
-            Some((_, Ok(known))) => Ok(known),
-            Some((_, Err(trouble))) => Err(trouble.clone()),
+            Some((_, (_, Ok(known)))) => Ok(known),
+            Some((_, (_, Err(trouble)))) => Err(trouble.clone()),
             None => Err(Trouble {
                 status: Status::Defect,
                 why: "no vocabulary is kept".to_string(),

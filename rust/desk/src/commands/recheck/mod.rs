@@ -1,38 +1,48 @@
 //! `desk recheck`.
 
-mod asked;
-mod check;
-mod kept;
-mod line;
+pub mod asked;
+pub mod check;
+mod hashed;
+pub mod kept;
+pub mod line;
 mod order;
+pub mod outcome;
+mod page;
 mod progress;
 mod summary;
-mod table;
+pub mod table;
 
-use super::{read_words, WORDS};
+use super::WORDS;
 use crate::console::Console;
 use crate::display::plain;
-use crate::files::{self, unreadable, Access, Name};
+use crate::files::{self, unreadable, Access, Digest, Name, Opened};
+use crate::input::{self, Input};
 use crate::json::Json;
-use crate::report::{Report, Stop};
+use crate::report::{Report, Stop, Style};
 use crate::signals;
 use base::arguments::{Arguments, Flag};
 use base::{Failure, Status};
-use check::{Outcome, Sort, Told, Wanted};
+use check::Wanted;
+use hashed::Hashed;
 use order::{Next, Piece, Results};
+use outcome::{Outcome, Told};
+use page::Page;
 use progress::Progress;
 use std::ffi::OsStr;
 use std::io;
 use std::path::{Path, PathBuf};
 use std::sync::Arc;
 use std::time::Duration;
-use summary::{End, Tally};
+use summary::{End, Output, Tally};
 
+const STRICT: Flag = Flag::switch("--strict");
+const HTML: Flag = Flag::valued("--html");
 /// The options.
 pub const FLAGS: &[Flag] = &[
-    Flag::switch("--strict"),
+    STRICT,
     Flag::switch("--explain"),
     WORDS,
+    HTML,
     Flag::valued("--jobs").letter('j'),
 ];
 
@@ -48,16 +58,18 @@ pub fn run(arguments: &Arguments, console: &mut Console) -> Result<Status, Stop>
         return Err(Failure::usage(format!("--jobs takes a number from 1 to {JOBS}")).into());
     }
     let words = read_words(arguments, console.style)?;
+    let table = files::open(path, Access::Any)?;
+    let _guard = signals::catch();
+    let page = begin_page(arguments, &table, words.as_ref())?;
     let wanted = Wanted {
-        strict: arguments.has("--strict"),
+        strict: arguments.has(STRICT.name),
         explain: arguments.has("--explain") || words.is_some(),
         files: kept::Files {
             directory: directory(path),
-            words: words.map(Arc::new),
+            notes: page.is_some(),
+            words: words.map(|(words, _)| Arc::new(words)),
         },
     };
-    let table = files::open(path, Access::Any)?;
-    let _guard = signals::catch();
     let mut teller = Teller {
         name: table.name.clone(),
         progress: Progress::new(table.length, console.quiet),
@@ -65,15 +77,49 @@ pub fn run(arguments: &Arguments, console: &mut Console) -> Result<Status, Stop>
         tally: Tally::new(),
         last: 0,
         read: 0,
+        page,
     };
-    let ended = order::start(table, &wanted, jobs as usize).and_then(|results| teller.tell_all(results));
+    let source = Hashed {
+        taken: teller.page.as_ref().map(Page::taken),
+        source: table,
+    };
+    let ended = order::start(source, &wanted, jobs as usize).and_then(|results| teller.tell_all(results));
     teller.progress.clear();
     let (end, failure) = ended?;
     teller.conclude(end, failure)
 }
 
+/// A text, and its bytes.
+type Words = (Input, Digest);
+
+/// Begins the page, if one is wanted. Its place may be that of no input.
+fn begin_page(arguments: &Arguments, table: &Opened, words: Option<&Words>) -> Result<Option<Page>, Failure> {
+    let Some(path) = arguments.value(HTML.name) else {
+        return Ok(None);
+    };
+    if path == "-" {
+        return Err(Failure::usage("--html takes a file, and '-' is none"));
+    }
+    let noted = words.map(|(words, digest)| (words.name.clone(), digest.clone()));
+    let page = Page::begin(path, noted, arguments.has(STRICT.name))?;
+    page.spare(table.id)?;
+    page.spare(words.and_then(|(words, _)| words.id))?;
+    Ok(Some(page))
+}
+
+/// The text that --words names.
+fn read_words(arguments: &Arguments, style: Style) -> Result<Option<Words>, Stop> {
+    let Some(path) = arguments.value(WORDS.name) else {
+        return Ok(None);
+    };
+    let source = input::text_source(path)?;
+    let digest = source.digest();
+    let (words, _) = input::of_text(source, style)?;
+    Ok(Some((words, digest)))
+}
+
 /// The directory in which the table's files are looked for.
-fn directory(table: &OsStr) -> PathBuf {
+pub fn directory(table: &OsStr) -> PathBuf {
     Path::new(table).parent().map(Path::to_path_buf).unwrap_or_default()
 }
 
@@ -83,6 +129,8 @@ struct Teller<'a> {
     console: &'a mut Console,
     progress: Progress,
     tally: Tally,
+    /// The page, where one is wanted.
+    page: Option<Page>,
     /// The number of the last line up to which all is told.
     last: u64,
     /// How many bytes of the table are read with it.
@@ -112,10 +160,17 @@ impl Teller<'_> {
 
     fn tell(&mut self, piece: Piece) -> Result<(), Failure> {
         for told in piece.told {
+            if let Some(page) = &mut self.page {
+                page.add(&told)?;
+            }
+            if told.outcome.why.is_empty() {
+                continue;
+            }
             let number = told.number;
             self.progress.make_room();
             self.console.answer(report(&self.name, told, self.console.json))?;
-            if self.console.is_gone() {
+            // A page is wanted though nobody reads the answers.
+            if self.console.is_gone() && self.page.is_none() {
                 let before = number - 1;
                 let message =
                     format!("standard output was closed after line {before}; the rest of the table is not judged");
@@ -127,17 +182,32 @@ impl Teller<'_> {
         Ok(())
     }
 
-    /// Tells of the table as a whole.
-    fn conclude(self, end: End, error: Option<io::Error>) -> Result<Status, Stop> {
+    /// Tells of the table as a whole, and writes the page if all of it was judged.
+    fn conclude(mut self, end: End, error: Option<io::Error>) -> Result<Status, Stop> {
         let failure = error.map(|error| unreadable(&self.name, &error));
         match failure {
             Some(failure) if self.tally.lines() == 0 => Err(failure.into()),
             failure => {
-                let report = self.tally.report(self.console.style, &self.name, end);
+                let (output, failed) = self.write_page(end);
+                let report = self.tally.report(self.console.style, &self.name, end, output.as_ref());
                 let status = self.console.answer(report)?;
-                failure.map_or(Ok(status), |failure| Err(failure.into()))
+                failure.or(failed).map_or(Ok(status), |failure| Err(failure.into()))
             }
         }
+    }
+
+    /// Writes the page, and says whether it is there, and why it is not where it should be.
+    fn write_page(&mut self, end: End) -> (Option<Output>, Option<Failure>) {
+        let Some(page) = self.page.take() else {
+            return (None, None);
+        };
+        let name = page.name().clone();
+        let done = match end {
+            End::Whole => page.finish(&self.name, &self.tally).map(|()| true),
+            End::Interrupted(_) | End::Unreadable(_) => Ok(false),
+        };
+        let written = matches!(done, Ok(true));
+        (Some(Output { name, written }), done.err())
     }
 }
 
@@ -153,10 +223,14 @@ fn report(name: &Name, told: Told, as_json: bool) -> Report {
 
 fn text(name: &Name, told: &Told) -> String {
     let Outcome {
-        column, why, detail, ..
+        column,
+        why,
+        terms,
+        detail,
+        ..
     } = &told.outcome;
     let mut text = format!("{name}:{}:{column}: {}\n", told.number, plain(&told.text));
-    for line in why.lines().chain(detail.lines()) {
+    for line in why.lines().chain(terms.lines()).chain(detail.lines()) {
         text.extend(["  ", &plain(line), "\n"]);
     }
     text
@@ -169,24 +243,13 @@ fn json(name: &Name, told: Told) -> Vec<(&'static str, Json)> {
         ("line", Json::from(told.number)),
         ("column", Json::from(outcome.column)),
         ("text", Json::from(told.text)),
-        ("verdict", Json::from(verdict(outcome.sort))),
+        ("verdict", Json::from(outcome.sort.words())),
         ("why", Json::from(outcome.why)),
     ];
-    if outcome.explained.is_empty() && !outcome.detail.is_empty() {
-        json.push(("detail", Json::from(outcome.detail.trim_end())));
+    let detail = outcome.terms + &outcome.detail;
+    if outcome.explained.is_empty() && !detail.is_empty() {
+        json.push(("detail", Json::from(detail.trim_end())));
     }
     json.extend(outcome.explained);
     json
-}
-
-/// The word for a sort.
-fn verdict(sort: Sort) -> &'static str {
-    match sort {
-        Sort::Holds => "holds",
-        Sort::Vacuous => "holds vacuously",
-        Sort::DoesNotHold => "does not hold",
-        Sort::Refused => "refused",
-        Sort::Malformed => "malformed",
-        Sort::NotReadable => "not readable",
-    }
 }

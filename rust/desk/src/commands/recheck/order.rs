@@ -5,7 +5,8 @@
 //! and a worker waits where the caller has yet to take two pieces of its batch. The earliest batch that is not taken
 //! whole is always in the hands of a worker, so nobody waits in a circle.
 
-use super::check::{Checker, Told, Wanted};
+use super::check::{Checker, Wanted};
+use super::outcome::Told;
 use super::summary::Tally;
 use super::table::{Line, Table};
 use crate::signals;
@@ -67,8 +68,8 @@ impl Piece {
         (self.last, self.end) = (line.number, line.end);
         let Some(told) = told else { return };
         self.tally.add(&told.outcome);
-        if !told.outcome.why.is_empty() {
-            self.size += told.text.len() + told.outcome.why.len() + told.outcome.detail.len();
+        if !told.outcome.why.is_empty() || told.shown.is_some() {
+            self.size += told.size();
             self.told.push(told);
         }
     }

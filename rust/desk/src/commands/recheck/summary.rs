@@ -1,6 +1,6 @@
 //! How many lines came out how.
 
-use super::check::{Outcome, Sort};
+use super::outcome::{Outcome, Sort};
 use crate::display::grouped;
 use crate::files::Name;
 use crate::json::Json;
@@ -38,6 +38,14 @@ pub enum End {
     Unreadable(u64),
 }
 
+/// The page that was to be written.
+pub struct Output {
+    /// Its name.
+    pub name: Name,
+    /// Whether it is.
+    pub written: bool,
+}
+
 impl Tally {
     /// Of no line.
     pub fn new() -> Tally {
@@ -66,19 +74,32 @@ impl Tally {
         self.failing += other.failing;
     }
 
+    /// How many came out how.
+    pub fn counts(&self) -> impl Iterator<Item = (Sort, u64)> + '_ {
+        SORTS.into_iter().zip(self.counts)
+    }
+
+    /// How many hold, and not vacuously alone.
+    pub fn holding(&self) -> u64 {
+        self.counts.first().copied().unwrap_or_default()
+    }
+
     /// How many lines there are.
     pub fn lines(&self) -> u64 {
         self.counts.iter().sum()
     }
 
     /// The answer about the whole table.
-    pub fn report(&self, style: Style, name: &Name, end: End) -> Report {
+    pub fn report(&self, style: Style, name: &Name, end: End, output: Option<&Output>) -> Report {
         let status = match end {
             End::Whole => self.status,
             End::Interrupted(_) => Status::Interrupted,
             End::Unreadable(_) => Status::NoInput,
         };
-        let text = format!("{name}: {}{}\n", end.words(), self.words(style));
+        let missing = output.filter(|output| !output.written);
+        let missing = missing.map(|output| format!("; {} is not written", output.name));
+        let missing = missing.unwrap_or_default();
+        let text = format!("{name}: {}{}{missing}\n", end.words(), self.words(style));
         let [holding, vacuous, not_holding, refused, malformed, not_readable] = self.counts.map(Json::from);
         let mut json = vec![
             ("file", Json::from(name.as_str())),
@@ -94,6 +115,10 @@ impl Tally {
             ("malformed", malformed),
             ("not_readable", not_readable),
         ]);
+        json.extend(output.map(|output| {
+            let name = output.name.as_str();
+            ("html", Json::from(output.written.then_some(name)))
+        }));
         Report::new(status, text, json)
     }
 
