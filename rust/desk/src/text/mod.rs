@@ -5,6 +5,7 @@ pub mod addition;
 mod axioms;
 pub mod cursor;
 mod lines;
+mod manchester;
 pub mod names;
 pub mod naming;
 mod numbers;

@@ -1,5 +1,6 @@
 //! Vocabularies as text, in OWL 2 functional syntax where a record has a form there.
 
+use super::manchester::Reading;
 use super::names::Names;
 use super::quotes;
 use super::{find, link_words, linked_line, whole, FIRST, WRITTEN_OUT};
@@ -20,8 +21,8 @@ pub struct Written {
     given: usize,
     /// What people call its names and roles.
     names: Names,
-    /// The text of each record as an operand with what its parts are called, where one of them is called something.
-    named: Vec<Option<String>>,
+    /// Each record as an operand by what its parts are called; nothing for one that is not written out.
+    readings: Vec<Option<Reading>>,
 }
 
 impl Written {
@@ -34,7 +35,7 @@ impl Written {
             operands: Vec::new(),
             words: Vec::new(),
             names: Names::default(),
-            named: Vec::new(),
+            readings: Vec::new(),
         };
         for number in 0..written.vocabulary.records.len() {
             let text = written.operand_text(number).unwrap_or_else(|| format!("#{number}"));
@@ -55,14 +56,14 @@ impl Written {
         }
         let mut written = Written {
             names,
-            named: Vec::new(),
+            readings: Vec::new(),
             ..self
         };
         for number in 0..written.operands.len() {
-            // What is not written out by its labels is not by its names, so that both have the same form.
+            // What is not written out by its labels is not by its names, so that both have the same parts.
             let is_out = written.operands.get(number).is_some_and(|text| !text.starts_with('#'));
-            let named = written.named(number).filter(|_| is_out);
-            written.named.push(named);
+            let reading = written.reading(number).filter(|_| is_out);
+            written.readings.push(reading);
         }
         written
     }
@@ -180,33 +181,34 @@ impl Written {
     /// What a record says, in OWL 2 functional syntax; nothing for a record that has no form.
     pub fn expression(&self, number: usize) -> Option<String> {
         let saying = self.saying(number)?;
-        Some(spelt(
-            saying,
-            |role| format!("r{role}"),
-            |operand| self.operand(number, operand),
-        ))
+        Some(spelt(saying, |operand| self.operand(number, operand)))
     }
 
-    /// The same by what names and roles are called, where one of them is called something.
+    /// The same in Manchester syntax, by what names and roles are called, where one of them is called something.
     fn named(&self, number: usize) -> Option<String> {
+        let reading = self.reading(number).filter(|reading| reading.is_named);
+        reading.map(|reading| reading.text)
+    }
+
+    fn reading(&self, number: usize) -> Option<Reading> {
         let saying = self.saying(number)?;
         if let Saying::Name(label) = saying {
-            return self.names.term(label).map(quotes::write);
+            let called = self.names.term(label);
+            return Some(called.map_or_else(|| Reading::one(format!("c{label}"), false), name));
         }
-        let named = |operand: u16| {
-            let named = self.named.get(usize::from(operand))?.as_deref();
-            named.filter(|_| usize::from(operand) < number)
+        let operand = |operand: u16| {
+            let before = self.readings.get(usize::from(operand)).cloned().flatten();
+            let before = before.filter(|_| usize::from(operand) < number);
+            before.unwrap_or_else(|| Reading::one(format!("#{operand}"), false))
         };
-        let role_called = match saying {
-            Saying::Some(role, _) | Saying::All(role, _) => self.names.role(role),
-            _ => None,
+        let role = match saying {
+            Saying::Some(role, _) | Saying::All(role, _) => {
+                let called = self.names.role(role);
+                called.map_or_else(|| Reading::one(format!("r{role}"), false), name)
+            }
+            _ => Reading::one("", false),
         };
-        if role_called.is_none() && saying.operands().into_iter().all(|operand| named(operand).is_none()) {
-            return None;
-        }
-        let operand = |operand| named(operand).map_or_else(|| self.operand(number, operand), str::to_string);
-        let role = |role| role_called.map_or_else(|| format!("r{role}"), quotes::write);
-        Some(spelt(saying, role, operand))
+        Some(Reading::of(saying, role, operand))
     }
 
     /// What a record says, unless it is the header or has no form.
@@ -257,8 +259,8 @@ impl Written {
     }
 }
 
-/// What a record says in OWL 2 functional syntax, by the texts of its role and of its operands.
-fn spelt(saying: Saying, role: impl Fn(u16) -> String, operand: impl Fn(u16) -> String) -> String {
+/// What a record says in OWL 2 functional syntax, by the texts of its operands.
+fn spelt(saying: Saying, operand: impl Fn(u16) -> String) -> String {
     let two = |word: &str, first: String, second: String| format!("{word}({first} {second})");
     match saying {
         Saying::Top => "owl:Thing".to_string(),
@@ -267,10 +269,15 @@ fn spelt(saying: Saying, role: impl Fn(u16) -> String, operand: impl Fn(u16) -> 
         Saying::Not(a) => format!("ObjectComplementOf({})", operand(a)),
         Saying::And(a, b) => two("ObjectIntersectionOf", operand(a), operand(b)),
         Saying::Or(a, b) => two("ObjectUnionOf", operand(a), operand(b)),
-        Saying::Some(r, b) => two("ObjectSomeValuesFrom", role(r), operand(b)),
-        Saying::All(r, b) => two("ObjectAllValuesFrom", role(r), operand(b)),
+        Saying::Some(r, b) => two("ObjectSomeValuesFrom", format!("r{r}"), operand(b)),
+        Saying::All(r, b) => two("ObjectAllValuesFrom", format!("r{r}"), operand(b)),
         Saying::Within(a, b) => two("SubClassOf", operand(a), operand(b)),
     }
+}
+
+/// What a name or a role is called.
+fn name(called: &str) -> Reading {
+    Reading::one(quotes::write(called), true)
 }
 
 /// A header with the number of the vocabulary's atoms, if it is of edition 2, which holds it.
