@@ -18,11 +18,21 @@ quietly() {
     "$@" > "$work/log" 2>&1 || { cat "$work/log" >&2; say "failed: $*"; exit 1; }
 }
 
+# shown WORD..: the words as a shell takes them.
+shown() {
+    for word; do
+        case $word in
+            *[!a-zA-Z0-9./-]*) printf " '%s'" "$word" ;;
+            *) printf ' %s' "$word" ;;
+        esac
+    done
+}
+
 # run STATUS COMMAND..: runs the command, which has to end with this status.
 run() {
     wanted=$1
     shift
-    printf '$ %s\n' "$*"
+    printf '$%s\n' "$(shown "$@")"
     status=0
     "$@" || status=$?
     [ "$status" -eq "$wanted" ] || { say "exit status $status, expected $wanted: $*"; exit 1; }
@@ -47,7 +57,9 @@ examples() {
     run 0 desk compare relief/terms.vocabulary 11 12 --words relief/terms.text
     run 1 desk compare relief/terms.vocabulary 11 14 --words relief/terms.text
     run 0 desk within relief/terms.text 11 14
-    run 1 desk within relief/terms.text 14 11
+    run 1 desk within relief/terms.text 14 11 --svg counter-model.svg
+    run 0 desk why relief/terms.text 11 12
+    run 0 desk within relief/terms.text 'under relief' 'ObjectComplementOf("dutiable")'
     run 0 desk compare vertebrate/terms.vocabulary 4 12
     run 0 desk compare cat-owner/terms.vocabulary 3 9
     run 0 desk verify cat-owner/terms.vocabulary cat-owner/proof.script --trace
