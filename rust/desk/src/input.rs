@@ -80,6 +80,11 @@ impl Input {
         }
     }
 
+    /// The files that it was read from, which no output replaces: its own, and that of its names.
+    pub fn files(&self) -> [Option<FileId>; 2] {
+        [self.id, self.beside.as_ref().and_then(|beside| beside.id)]
+    }
+
     /// Gives the bytes of a copy to which terms were added for a question.
     pub fn extend(&mut self, bytes: Vec<u8>) {
         let given = std::mem::replace(&mut self.bytes, bytes);

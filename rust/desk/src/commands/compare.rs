@@ -2,7 +2,7 @@
 
 use super::pair::{Answered, Emptiness, Wording};
 use super::pictures::{Pictures, DOT, SVG};
-use super::{output, read_vocabulary, read_words, written, WORDS};
+use super::{files_of, output, read_vocabulary, read_words, written, WORDS};
 use crate::console::Console;
 use crate::files;
 use crate::question::Questions;
@@ -43,7 +43,7 @@ pub fn run(arguments: &Arguments, console: &mut Console) -> Result<Status, Stop>
     };
     let explained = answered.explained()?;
     let mut report = answered.report(console.style, &input, &WORDING, explained.as_ref());
-    let inputs = [input.id, words.and_then(|words| words.id)];
+    let inputs = files_of([Some(&input), words.as_ref()]);
     if let Some(path) = survivors {
         files::write(path, &answered.survivors, &inputs)?;
     }

@@ -2,7 +2,7 @@
 
 use super::pair::{Answered, Emptiness, Wording};
 use super::pictures::{Pictures, DOT, SVG};
-use super::{read_vocabulary, read_words, written, WORDS};
+use super::{files_of, read_vocabulary, read_words, written, WORDS};
 use crate::console::Console;
 use crate::display::grouped;
 use crate::explain::Explained;
@@ -47,7 +47,7 @@ pub fn run(arguments: &Arguments, console: &mut Console) -> Result<Status, Stop>
     };
     let explained = explained(&answered)?;
     let mut report = answered.report(console.style, &input, &WORDING, explained.as_ref());
-    let inputs = [input.id, words.and_then(|words| words.id)];
+    let inputs = files_of([Some(&input), words.as_ref()]);
     pictures.draw(explained.as_ref(), &inputs, &mut report)?;
     Ok(console.answer(report)?)
 }
