@@ -309,11 +309,6 @@ pub fn source_of_vocabulary(path: &OsStr) -> Result<Source, Failure> {
     read(path, Access::Any, judge::VOCABULARY_BYTES)
 }
 
-/// The vocabulary of such bytes.
-pub fn vocabulary_of_source(source: Source, style: Style) -> Result<Input, Stop> {
-    of_kind(source, Kind::Vocabulary, style)
-}
-
 fn of_bytes(source: Source) -> Input {
     Input {
         name: source.name,
