@@ -80,6 +80,11 @@ impl Input {
         }
     }
 
+    /// The files that it was read from, which no output replaces: its own, and that of its names.
+    pub fn files(&self) -> [Option<FileId>; 2] {
+        [self.id, self.beside.as_ref().and_then(|beside| beside.id)]
+    }
+
     /// Gives the bytes of a copy to which terms were added for a question.
     pub fn extend(&mut self, bytes: Vec<u8>) {
         let given = std::mem::replace(&mut self.bytes, bytes);
@@ -302,11 +307,6 @@ pub fn text_source(path: &OsStr) -> Result<Source, Failure> {
 /// The bytes of a vocabulary or of its text, as its file has them.
 pub fn source_of_vocabulary(path: &OsStr) -> Result<Source, Failure> {
     read(path, Access::Any, judge::VOCABULARY_BYTES)
-}
-
-/// The vocabulary of such bytes.
-pub fn vocabulary_of_source(source: Source, style: Style) -> Result<Input, Stop> {
-    of_kind(source, Kind::Vocabulary, style)
 }
 
 fn of_bytes(source: Source) -> Input {

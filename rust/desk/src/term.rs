@@ -23,32 +23,29 @@ use std::ffi::OsStr;
 pub type Pair = [u32; 2];
 
 /// The terms that two words name. Those that no record says are added to the vocabulary, as it is asked about; its file stays.
-pub fn pair(input: &mut Input, words: [&OsStr; 2]) -> Result<Pair, Stop> {
+pub fn pair(style: Style, input: &mut Input, words: [&OsStr; 2]) -> Result<Pair, Stop> {
     let [a, b] = words.map(OsStr::to_string_lossy);
     if let [Some(a), Some(b)] = [digits(&a), digits(&b)] {
         return Ok([a, b]);
     }
-    let asked = ask(input, [&a, &b]).map_err(|wrong| stopped(input, [("A", &a), ("B", &b)], wrong))?;
-    extend(input, &asked).map_err(|refused| Stop::from(refused.report(input)))?;
+    let asked = ask(input, [&a, &b]).map_err(|wrong| stopped(style, input, [("A", &a), ("B", &b)], wrong))?;
+    extend(input, &asked).map_err(|refused| Stop::from(refused.report(style, input)))?;
     Ok(asked.pair)
 }
 
 /// The record of the term that a word names, which is there.
-pub fn existing(input: &Input, word: &OsStr, name: &str) -> Result<u32, Stop> {
+pub fn existing(style: Style, input: &Input, word: &OsStr, name: &str) -> Result<u32, Stop> {
     let word = word.to_string_lossy();
     if let Some(number) = digits(&word) {
         return Ok(number);
     }
-    accepted(input).map_err(|refused| Stop::from(refused.report(input)))?;
+    accepted(input).map_err(|refused| Stop::from(refused.report(style, input)))?;
     let read = Words::of_records(&Vocabulary::read(&input.bytes), &input.names).term(&word);
     read.map_err(|wrong| match wrong {
         Wrong::NoTerm(meant) => no_term(name, &word, &meant).into(),
-        Wrong::Faults(faults) => faulty(PLAIN, input, &told(&word, faults)).into(),
+        Wrong::Faults(faults) => faulty(style, input, &told(&word, faults)).into(),
     })
 }
-
-/// Reports on words are not coloured: they are made where no style is known.
-const PLAIN: Style = Style { colour: false };
 
 /// Two terms that were asked about.
 pub struct Asked {
@@ -81,8 +78,8 @@ impl Refused {
         refused::words(input, self.refusal, self.detail.as_deref())
     }
 
-    fn report(&self, input: &Input) -> Report {
-        refused::report(PLAIN, input, self.refusal, self.detail.as_deref())
+    fn report(&self, style: Style, input: &Input) -> Report {
+        refused::report(style, input, self.refusal, self.detail.as_deref())
     }
 }
 
@@ -183,9 +180,9 @@ fn too_many(before: u16, atoms: u16) -> String {
 }
 
 /// Why a command stops where words do not name its terms.
-fn stopped(input: &Input, words: [(&str, &str); 2], unasked: Unasked) -> Stop {
+fn stopped(style: Style, input: &Input, words: [(&str, &str); 2], unasked: Unasked) -> Stop {
     let wrong = match unasked {
-        Unasked::Refused(refused) => return refused.report(input).into(),
+        Unasked::Refused(refused) => return refused.report(style, input).into(),
         Unasked::Words(wrong) => wrong,
     };
     let mut all = Vec::new();
@@ -196,7 +193,7 @@ fn stopped(input: &Input, words: [(&str, &str); 2], unasked: Unasked) -> Stop {
             None => {}
         }
     }
-    faulty(PLAIN, input, &all).into()
+    faulty(style, input, &all).into()
 }
 
 fn no_term(name: &str, word: &str, meant: &str) -> Failure {

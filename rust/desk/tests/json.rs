@@ -1,12 +1,12 @@
 //! What `--json` writes is JSON: objects, one a line, the last with the same status as the command exits with. Checked on the
-//! transcript tests/desk.expected and on damaged inputs.
+//! transcripts tests/desk.expected and tests/desk/*.expected, and on damaged inputs.
 
-#![allow(clippy::unwrap_used, clippy::indexing_slicing)]
+#![allow(clippy::unwrap_used, clippy::indexing_slicing, clippy::panic)]
 
 #[path = "support/value.rs"]
 mod value;
 
-use std::path::PathBuf;
+use std::path::{Path, PathBuf};
 use std::process::Command;
 use value::{fields, Value};
 
@@ -49,27 +49,60 @@ fn the_reader_knows_what_is_json() {
     }
 }
 
-#[test]
-fn the_transcript_has_json_where_it_was_asked_for() {
-    let transcript = include_str!("../../../tests/desk.expected");
-    let (mut asked, mut found) = (false, 0);
-    let mut last = "";
+/// Whether the answers of a transcript's line are JSON: desk was asked for it, and could write it.
+fn is_asked(command: &str) -> bool {
+    let written = !command.contains("/dev/full") && !command.contains(">&-");
+    command.contains("--json") && !command.contains("-- --json") && written
+}
+
+/// Checks what a line of a transcript has answered, and counts the objects. Their last has the exit status, unless another
+/// command comes after.
+fn check_answer(command: &str, answer: &[&str], status: u64) -> usize {
+    let objects: Vec<&str> = answer.iter().copied().filter(|line| line.starts_with('{')).collect();
+    let is_log = command.contains("--format=sarif");
+    assert_eq!(is_asked(command), !objects.is_empty() && !is_log, "{command}");
+    for object in objects.iter().filter(|_| !is_log) {
+        let own = match fields(object).and_then(|mut fields| fields.remove("status")) {
+            Some(Value::Number(status)) => status,
+            _ => panic!("{object}"),
+        };
+        assert!(is_answer(object, own), "{object}");
+    }
+    let is_last = !command
+        .rsplit("--json")
+        .next()
+        .is_some_and(|rest| rest.contains([';', '|']));
+    if let Some(last) = objects.last().filter(|_| is_last && !is_log) {
+        assert!(is_answer(last, status), "{command}: {last}");
+    }
+    objects.len()
+}
+
+/// Checks the answers of a transcript, and counts the objects.
+fn check_transcript(transcript: &str) -> usize {
+    let (mut command, mut answer, mut found) = ("", Vec::new(), 0);
     for line in transcript.lines() {
-        if let Some(command) = line.strip_prefix("$ ") {
-            let written = !command.contains("/dev/full") && !command.contains(">&-");
-            asked = command.contains("--json") && !command.contains("-- --json") && written;
-            last = "";
-        } else if let Some(status) = line.strip_prefix("exit ") {
-            assert_eq!(asked, last.starts_with('{'), "{last}");
-            if asked {
-                found += 1;
-                assert!(is_answer(last, status.parse().unwrap()), "{last}");
-            }
-        } else if !line.is_empty() {
-            last = line;
+        if let Some(words) = line.strip_prefix("$ ") {
+            (command, answer) = (words, Vec::new());
+        } else if let Some(status) = line.strip_prefix("exit ").and_then(|status| status.parse().ok()) {
+            found += check_answer(command, &answer, status);
+        } else {
+            answer.push(line);
         }
     }
-    assert!(found >= 40, "{found}");
+    found
+}
+
+#[test]
+fn the_transcripts_have_json_where_it_was_asked_for() {
+    let tests = Path::new(env!("CARGO_MANIFEST_DIR")).join("../../tests");
+    let of_subjects = std::fs::read_dir(tests.join("desk")).unwrap();
+    let of_subjects = of_subjects.map(|entry| entry.unwrap().path());
+    let mut found = 0;
+    for path in of_subjects.chain([tests.join("desk.expected")]) {
+        found += check_transcript(&std::fs::read_to_string(path).unwrap());
+    }
+    assert!(found >= 120, "{found}");
 }
 
 /// Runs desk with --json on a file of these bytes, and answers whether it said JSON, the last line with its own exit status.

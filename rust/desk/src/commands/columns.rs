@@ -31,7 +31,10 @@ pub fn run(arguments: &Arguments, console: &mut Console) -> Result<Status, Stop>
     }
     let written = written(&input, words.as_ref())?;
     let owners = match owner {
-        Some(owner) => vec![existing(&input, &written, term::existing(&input, owner, "OWNER")?)?],
+        Some(owner) => {
+            let number = term::existing(console.style, &input, owner, "OWNER")?;
+            vec![existing(&input, &written, number)?]
+        }
         None => (0..written.vocabulary().records.len() as u16).collect(),
     };
     Ok(console.answer(listed(&input, &written, owners))?)

@@ -2,7 +2,7 @@
 
 use super::pair::{Answered, Emptiness, Wording};
 use super::pictures::{Pictures, DOT, SVG};
-use super::{output, read_vocabulary, read_words, written, WORDS};
+use super::{files_of, output, read_vocabulary, read_words, written, WORDS};
 use crate::console::Console;
 use crate::files;
 use crate::question::Questions;
@@ -28,7 +28,7 @@ pub fn run(arguments: &Arguments, console: &mut Console) -> Result<Status, Stop>
     let mut input = read_vocabulary(path, console.style)?;
     let words = read_words(arguments, console.style)?;
     input.take_names(words.as_ref());
-    let pair = term::pair(&mut input, [a, b])?;
+    let pair = term::pair(console.style, &mut input, [a, b])?;
     let [a, b] = pair;
     let refused = |refusal| Stop::from(refused::of_vocabulary(console.style, &input, refusal));
     let mut questions = Questions::new(&input.bytes);
@@ -43,7 +43,7 @@ pub fn run(arguments: &Arguments, console: &mut Console) -> Result<Status, Stop>
     };
     let explained = answered.explained()?;
     let mut report = answered.report(console.style, &input, &WORDING, explained.as_ref());
-    let inputs = [input.id, words.and_then(|words| words.id)];
+    let inputs = files_of([Some(&input), words.as_ref()]);
     if let Some(path) = survivors {
         files::write(path, &answered.survivors, &inputs)?;
     }

@@ -20,7 +20,7 @@ mod why;
 mod within;
 
 use crate::console::{Colour, Console};
-use crate::files::Access;
+use crate::files::{Access, FileId};
 use crate::finding::Ground;
 use crate::input::{self, Input};
 use crate::report::{Report, Stop, Style};
@@ -183,6 +183,11 @@ fn output(arguments: &Arguments, flag: Flag) -> Result<Option<&OsStr>, Failure> 
         Some(path) if path == "-" => Err(Failure::usage(format!("{} takes a file, and '-' is none", flag.name))),
         path => Ok(path),
     }
+}
+
+/// The files that inputs were read from, which no output replaces.
+fn files_of<const N: usize>(inputs: [Option<&Input>; N]) -> Vec<Option<FileId>> {
+    inputs.into_iter().flatten().flat_map(Input::files).collect()
 }
 
 /// The refusal of a script whatever its vocabulary: its length or its header (13 and 14), which the check looks at

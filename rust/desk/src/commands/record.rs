@@ -15,7 +15,7 @@ use base::Status;
 pub fn run(arguments: &Arguments, console: &mut Console) -> Result<Status, Stop> {
     let [path, word] = arguments.words(["VOCABULARY", "N"])?;
     let input = read_vocabulary(path, console.style)?;
-    let number = term::existing(&input, word, "N")?;
+    let number = term::existing(console.style, &input, word, "N")?;
     let report = match judge::record(&input.bytes, number) {
         Err(refusal) => refused::report(console.style, &input, refusal, None),
         Ok(part) => found(&input, number, part),

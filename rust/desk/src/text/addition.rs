@@ -6,7 +6,7 @@ mod tests;
 
 use super::axioms::{read_axiom, AXIOMS, WITHIN};
 use super::cursor::{Cursor, Fault};
-use super::names::Names;
+use super::names::{Names, Sort};
 use super::quotes::split_comment;
 use super::said::{Said, Unsaid};
 use super::terms::{operand, read_label, read_role, read_term, read_word, said_by, shape, Begun, NO_TERM};
@@ -141,10 +141,9 @@ impl Reader<'_> {
 
     /// A field, by its number, by what it is called, or as texts have it. One that the kind does not use has only a number.
     fn field(&mut self, word: &str, holds: Option<Field>) -> u16 {
-        let called = word.trim();
         let text = match holds {
-            Some(Field::Role) => self.names.role_of(called).map(|role| format!("r{role}")),
-            Some(_) => self.names.label_of(called).map(|label| format!("c{label}")),
+            Some(Field::Role) => self.names.text_of(Sort::Role, word),
+            Some(_) => self.names.text_of(Sort::Name, word),
             None => None,
         };
         self.read(text.as_deref().unwrap_or(word), |line, said| match holds {
@@ -200,7 +199,8 @@ impl Reader<'_> {
 
     /// A term by its whole text.
     fn whole_term(&mut self, text: &str) -> Addition {
-        let (kind, (a, b)) = self.read(text, |line, said| {
+        let name = self.names.text_of(Sort::Name, text);
+        let (kind, (a, b)) = self.read(name.as_deref().unwrap_or(text), |line, said| {
             let place = line.here();
             let shape = shape(read_word(line, &[], NO_TERM)?);
             let begun = Begun {

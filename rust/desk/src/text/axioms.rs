@@ -1,6 +1,7 @@
 //! Axioms of OWL 2, as the statements that they stand for.
 
 use super::cursor::{Cursor, Fault};
+use super::records::RECORDS;
 use super::said::{Said, Term};
 use super::terms::{operand, read_role, List};
 
@@ -51,7 +52,8 @@ fn read_list(line: &mut Cursor, said: &mut Said) -> Result<Vec<Option<u16>>, Fau
     Ok(terms)
 }
 
-/// Terms of which no two have an element in common: each within the complement of each later one.
+/// Terms of which no two have an element in common: each within the complement of each later one. Of a long list these are
+/// very many: reading ends at the first for which there is no number.
 fn read_disjoint(line: &mut Cursor, said: &mut Said) -> Result<Vec<Statement>, Fault> {
     let (mut list, mut terms) = (List::default(), Vec::new());
     while list.has_more(line) {
@@ -64,12 +66,11 @@ fn read_disjoint(line: &mut Cursor, said: &mut Said) -> Result<Vec<Statement>, F
         };
         terms.push((term, complement));
     }
-    let mut statements = Vec::new();
-    for (place, (term, _)) in terms.iter().enumerate() {
-        let later = terms.iter().skip(place + 1);
-        statements.extend(later.map(|(_, complement)| (*term, *complement)));
-    }
-    Ok(statements)
+    let with_later = |(place, (term, _)): (usize, &Statement)| {
+        let (term, later) = (*term, terms.iter().skip(place + 1));
+        later.map(move |(_, complement)| (term, *complement))
+    };
+    Ok(terms.iter().enumerate().flat_map(with_later).take(RECORDS).collect())
 }
 
 /// What has something by a role lies within a term.

@@ -303,6 +303,15 @@ impl<'a> Cursor<'a> {
         })
     }
 
+    /// That a name or a role is expected here. One without its quotation marks, or misspelt, is told with what was meant.
+    pub fn missing(&self, sort: Sort, expected: &str) -> Fault {
+        let hint = match self.names.begun(sort, self.rest) {
+            Some(name) => format!("; did you mean {}, in double quotes?", quotes::write(name)),
+            None => plain(&did_you_mean(self.rest, self.names.meant(sort, self.rest))),
+        };
+        self.fault(&format!("{expected}{hint}"))
+    }
+
     /// Takes `count` numbers.
     pub fn numbers(&mut self, count: usize) -> Result<Vec<u16>, Fault> {
         (0..count).map(|_| self.number()).collect()

@@ -91,19 +91,15 @@ impl Names {
         self.roles.name(role)
     }
 
-    /// The label of the name that is called so.
-    pub fn label_of(&self, called: &str) -> Option<u16> {
-        self.find(Sort::Name, called)
-    }
-
-    /// The role that is called so.
-    pub fn role_of(&self, called: &str) -> Option<u16> {
-        self.find(Sort::Role, called)
-    }
-
     /// What is called so, of a sort.
     pub fn find(&self, sort: Sort, called: &str) -> Option<u16> {
         self.of(sort).numbers.get(called).copied()
+    }
+
+    /// What a word stands for that something of a sort is called by, as texts have it: `c7` or `r0`.
+    pub fn text_of(&self, sort: Sort, word: &str) -> Option<String> {
+        let number = self.find(sort, word.trim())?;
+        Some(format!("{}{number}", sort.letter()))
     }
 
     /// All that is called something, of a sort, by number.
@@ -119,6 +115,15 @@ impl Names {
         let is_near = |name: &&str| name.chars().count().abs_diff(length) <= 3;
         let names = self.all(sort).take(judge::RECORDS).map(|(_, name)| name);
         nearest(word, names.filter(is_near))
+    }
+
+    /// The longest name of a sort with which a text begins, as where quotation marks are left out. Of very many names, only
+    /// some are looked at.
+    pub fn begun(&self, sort: Sort, text: &str) -> Option<&str> {
+        let is_whole = |rest: &str| !rest.starts_with(char::is_alphanumeric);
+        let names = self.all(sort).take(judge::RECORDS).map(|(_, name)| name);
+        let begun = names.filter(|name| text.strip_prefix(name).is_some_and(is_whole));
+        begun.max_by_key(|name| name.len())
     }
 
     /// Calls one so, which is called nothing yet.

@@ -8,6 +8,7 @@ use super::cursor::{quoted, Cursor, Fault};
 use super::lines::{first_word, is_word};
 use super::names::{Names, Sort, SORTS};
 use super::records::FAULTS;
+use super::terms::NO_ROLE;
 use crate::display::counted;
 use base::vocabulary::{Saying, Vocabulary};
 use std::collections::BTreeSet;
@@ -79,7 +80,7 @@ impl Naming {
         let letter = sort.letter();
         let number = match sort {
             Sort::Name => line.lettered(letter, "a label, as c1, is expected here"),
-            Sort::Role => line.lettered(letter, "a role, as r0, is expected here"),
+            Sort::Role => line.lettered(letter, NO_ROLE),
         }?;
         let called_place = line.here();
         let called = line.quoted("a name in double quotes, as \"returned sample\", is expected here")?;
@@ -87,7 +88,8 @@ impl Naming {
         if let Some(why) = unfit {
             line.note(called_place, &why);
         } else if let Some(other) = self.called(sort, number) {
-            line.note(place, &format!("{letter}{number} is called {} already", quoted(other)));
+            let so = quoted(other);
+            line.note(place, &self.already(sort, number, &so));
         } else {
             self.names.call(sort, number, &called);
             self.places.push((sort, number, line.fault_at(place, "")));
@@ -106,7 +108,15 @@ impl Naming {
     /// That another is called so already.
     fn taken(&self, sort: Sort, called: &str) -> Option<String> {
         let number = self.names.find(sort, called)?;
-        Some(format!("{}{number} is called so already", sort.letter()))
+        Some(self.already(sort, number, "so"))
+    }
+
+    /// That one is called so already, and by which line.
+    fn already(&self, sort: Sort, number: u16, so: &str) -> String {
+        let mut places = self.places.iter();
+        let place = places.find(|(of, one, _)| (*of, *one) == (sort, number));
+        let line = place.map_or(0, |(_, _, place)| place.line);
+        format!("{}{number} is called {so} already, by line {line}", sort.letter())
     }
 
     /// What is called something and is not in the vocabulary.

@@ -9,7 +9,7 @@ use crate::display::grouped;
 /// The most faults that are kept. At the next, reading ends.
 pub const FAULTS: usize = 1_000;
 /// The most records, whose numbers have 16 bits.
-const RECORDS: usize = 1 << 16;
+pub const RECORDS: usize = 1 << 16;
 
 /// A record as it was read: whether it is on the chain, the link where one is written, and what it says.
 pub struct Linked<T> {

@@ -34,6 +34,8 @@ pub const TERMS: [&str; 7] = [
 pub const NO_TERM: &str = "a term (c1, #7, owl:Thing, ObjectUnionOf(..), ..) is expected here";
 /// What is said where a list ends too soon.
 const TOO_FEW: &str = "a second term is expected here; there are two or more in such a list";
+/// What is said where no role stands.
+pub const NO_ROLE: &str = "a role, as r0, is expected here";
 /// A record as texts name it, for messages.
 const EXAMPLE: &str = "#7";
 
@@ -57,7 +59,11 @@ pub fn read_word(line: &mut Cursor, others: &[&'static str], expected: &str) -> 
     if line.is_lettered('c') || line.peek() == Some('"') {
         return Ok("");
     }
-    line.choose(&[others, &TERMS].concat(), expected)
+    let read = line.choose(&[others, &TERMS].concat(), expected);
+    read.map_err(|fault| match fault.message == expected {
+        true => line.missing(Sort::Name, expected),
+        false => fault,
+    })
 }
 
 /// A role, as `r0` or by what it is called, in quotation marks.
@@ -65,13 +71,19 @@ pub fn read_role(line: &mut Cursor) -> Result<u16, Fault> {
     if line.peek() == Some('"') {
         return line.called(Sort::Role);
     }
-    line.lettered('r', "a role, as r0, is expected here")
+    if !line.is_lettered('r') {
+        return Err(line.missing(Sort::Role, NO_ROLE));
+    }
+    line.lettered('r', NO_ROLE)
 }
 
 /// The label of a name, as `c7` or by what it is called, in quotation marks.
 pub fn read_label(line: &mut Cursor) -> Result<u16, Fault> {
     if line.peek() == Some('"') {
         return line.called(Sort::Name);
+    }
+    if !line.is_lettered('c') {
+        return Err(line.missing(Sort::Name, NO_TERM));
     }
     line.lettered('c', NO_TERM)
 }

@@ -45,7 +45,7 @@ impl Words<'_> {
         if let Some(number) = digits(word) {
             return Ok(number);
         }
-        let label = self.names.label_of(word.trim()).map(|label| format!("c{label}"));
+        let label = self.names.text_of(Sort::Name, word);
         self.term_of_text(label.as_deref().unwrap_or(word))
     }
 
@@ -79,5 +79,5 @@ impl Words<'_> {
 
 /// Whether no term begins where a word does.
 fn is_no_term(fault: &Fault) -> bool {
-    fault.column == 1 && fault.message == NO_TERM
+    fault.column == 1 && fault.message.starts_with(NO_TERM)
 }

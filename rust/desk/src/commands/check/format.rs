@@ -3,11 +3,12 @@
 
 use super::answer;
 use crate::console::Console;
-use crate::files::{Name, Source};
+use crate::files::{Access, Name, Source};
 use crate::finding::{Finding, Ground, Spot};
 use crate::input;
 use crate::report::{Report, Stop, Style};
 use crate::sarif::Log;
+use crate::text::Kind;
 use base::arguments::{Arguments, Flag};
 use base::{Failure, Status};
 use std::ffi::OsStr;
@@ -52,7 +53,8 @@ impl Format {
 fn lines(paths: &[&OsStr], console: &mut Console) -> Result<Status, Stop> {
     let mut greatest = Status::Holds;
     for path in paths {
-        let status = match input::source_of_vocabulary(path).and_then(findings) {
+        let found = input::source_of_vocabulary(path).and_then(|source| findings(path, source));
+        let status = match found {
             Ok((status, findings)) => {
                 let lines = findings.iter().map(|finding| finding.as_compilers_write(path));
                 console.answer(Report::new(status, lines.collect(), Vec::new()))?
@@ -72,7 +74,7 @@ fn log(paths: &[&OsStr], console: &mut Console) -> Result<Status, Stop> {
     for path in paths {
         let source = input::source_of_vocabulary(path);
         let file = log.file(path, source.as_ref().ok().and_then(Source::whole));
-        let status = match source.and_then(findings) {
+        let status = match source.and_then(|source| findings(path, source)) {
             Ok((status, findings)) => {
                 findings.iter().for_each(|finding| log.find(file, finding));
                 status
@@ -89,10 +91,11 @@ fn log(paths: &[&OsStr], console: &mut Console) -> Result<Status, Stop> {
 }
 
 /// What is found in a file that could be read, and the status.
-fn findings(source: Source) -> Result<(Status, Vec<Finding>), Failure> {
+fn findings(path: &OsStr, source: Source) -> Result<(Status, Vec<Finding>), Failure> {
     let name = source.name.clone();
     let style = Style { colour: false };
-    match input::vocabulary_of_source(source, style).map(|input| answer(style, &input)) {
+    let input = input::from(source, path, Access::Any, Kind::Vocabulary, style);
+    match input.map(|input| answer(style, &input)) {
         Ok(report) => Ok((report.status, report.findings)),
         Err(Stop::Answer(report)) => Ok((report.status, report.findings)),
         Err(Stop::Failure(failure)) if failure.status == Status::Refused => {

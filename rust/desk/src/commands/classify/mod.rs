@@ -5,7 +5,7 @@ mod summary;
 mod tree;
 
 use super::pictures::DOT;
-use super::{output, read_vocabulary, read_words, tell, written, WORDS};
+use super::{files_of, output, read_vocabulary, read_words, tell, written, WORDS};
 use crate::console::Console;
 use crate::files::{self, FileId, Name};
 use crate::input::Input;
@@ -70,7 +70,7 @@ struct Classifier {
 impl Classifier {
     fn new(words: Option<Input>, several: bool, drawing: Option<Drawing>) -> Classifier {
         Classifier {
-            inputs: vec![words.as_ref().and_then(|words| words.id)],
+            inputs: files_of([words.as_ref()]),
             words,
             used: false,
             several,
@@ -98,7 +98,7 @@ impl Classifier {
         self.used |= words.is_some();
         if let Some(drawing) = &mut self.drawing {
             drawing.add(&input.name, &written, &taxonomy);
-            self.inputs.push(input.id);
+            self.inputs.extend(input.files());
         }
         Ok(tree::report(style, &input.name, &written, &taxonomy))
     }

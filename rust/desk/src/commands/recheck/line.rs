@@ -6,6 +6,8 @@ use std::borrow::Cow;
 
 /// The most characters of a line that are repeated in the report.
 const REPEATED: usize = 160;
+/// The words of claims.
+const CLAIMS: [&str; 3] = ["equal", "different", "within"];
 /// How a line is made, for people who made it otherwise.
 const FORM: &str = "a line is VOCABULARY A B and equal, different, within or within SCRIPT";
 
@@ -227,7 +229,7 @@ fn read_claim<'a>(fields: &[Field<'a>], end: usize) -> Result<Claim<'a>, Malform
         ("different", extra) => (Claim::Different, extra),
         ("within", []) => (Claim::Within, rest),
         ("within", [script, extra @ ..]) => (Claim::Proved(*script), extra),
-        (other, _) => return Err(no_claim(word.start, other)),
+        (other, later) => return Err(no_claim(word.start, other, later)),
     };
     match extra.first() {
         None => Ok(claim),
@@ -238,9 +240,12 @@ fn read_claim<'a>(fields: &[Field<'a>], end: usize) -> Result<Claim<'a>, Malform
     }
 }
 
-fn no_claim(start: usize, word: &str) -> Malformed {
+fn no_claim(start: usize, word: &str, later: &[Field]) -> Malformed {
     let why = format!("'{}' is no claim", repeated(word));
-    match did_you_mean(word, ["equal", "different", "within"]) {
+    if later.iter().any(|field| CLAIMS.contains(&field.text)) {
+        return Malformed::form(start, &format!("{why}; a name with blanks stands in double quotes"));
+    }
+    match did_you_mean(word, CLAIMS) {
         hint if hint.is_empty() => Malformed::form(start, &why),
         hint => Malformed::new(start, why + &hint),
     }
@@ -341,6 +346,11 @@ mod tests {
             (b"v\t4\t\tequal", 5, "a field is empty"),
             (b"v\t\t4\tequal", 3, "a field is empty"),
             (b"v 4 3 sames", 7, "'sames' is no claim"),
+            (
+                b"v sent back c3 equal",
+                13,
+                "'c3' is no claim; a name with blanks stands in double quotes",
+            ),
             (b"v 4 3 equal indeed so", 13, "'indeed' is one field too many"),
             (b"v 4 3 within s t", 16, "'t' is one field too many"),
         ] {

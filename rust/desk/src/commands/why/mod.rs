@@ -36,7 +36,7 @@ pub fn run(arguments: &Arguments, console: &mut Console) -> Result<Status, Stop>
     let mut input = read_vocabulary(path, console.style)?;
     let words = read_words(arguments, console.style)?;
     input.take_names(words.as_ref());
-    let pair = term::pair(&mut input, [a, b])?;
+    let pair = term::pair(console.style, &mut input, [a, b])?;
     let claim = Claim {
         pair,
         within: arguments.has("--within"),

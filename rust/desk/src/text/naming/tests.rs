@@ -7,6 +7,7 @@ use crate::text::names::{Names, Sort};
 use crate::text::vocabulary::Written;
 use crate::text::{assemble, Assembled};
 use base::vocabulary::Vocabulary;
+use std::time::{Duration, Instant};
 
 /// The text of a vocabulary with its names.
 fn show(assembled: &Assembled) -> String {
@@ -130,7 +131,7 @@ fn only_what_is_wrong_by_itself_is_told() {
         [
             "2:6: no record is the name c9",
             "3:6: there is no role r1; the header says 1 role",
-            "5:9: c9 is called so already"
+            "5:9: c9 is called so already, by line 2"
         ]
     );
 }
@@ -145,10 +146,13 @@ fn reading_ends_after_so_many_faults() {
     assert_eq!(told[1_000], "1002:9: reading ends here, after 1,000 faults");
 }
 
+/// It takes seconds, also on a machine that does much else; a step for each pair of characters would take hours.
+const PATIENCE: Duration = Duration::from_secs(600);
+
 /// Large texts of names, good or bad, are read in time.
 #[test]
 fn many_names_take_little_time() {
-    let start = std::time::Instant::now();
+    let start = Instant::now();
     let line = |i: usize| format!("name c{i} \"number {i}, of many\"\n");
     let names: String = (0..30_000).map(line).collect();
     let unknown = "ObjectComplementOf(\"nmuber 15, of manny\")\n".repeat(1_000);
@@ -164,5 +168,5 @@ fn many_names_take_little_time() {
         faults(&format!("vocabulary roles 0\n{}", "\"".repeat(1_000_000))).len(),
         1
     );
-    assert!(start.elapsed().as_secs() < 10, "{:?}", start.elapsed());
+    assert!(start.elapsed() < PATIENCE, "{:?}", start.elapsed());
 }

@@ -602,7 +602,8 @@ fn in_time(text: &str) -> Vec<Fault> {
     let all = faults(text);
     let took = start.elapsed();
     println!("{} bytes, {} faults, {took:?}", text.len(), all.len());
-    assert!(took < Duration::from_secs(10), "{took:?}");
+    // It takes seconds, also on a machine that does much else; a step for each pair of characters would take hours.
+    assert!(took < Duration::from_secs(600), "{took:?}");
     all
 }
 
