@@ -4,6 +4,7 @@
 #   make check        the tests that need no prover
 #   make install      PREFIX=/usr/local and DESTDIR= say where to; docs/DESK.md has what goes where
 #   make uninstall    with the same variables: removes what `make install` has put there
+#   make install-python, make uninstall-python    the same for the package of Python, which `make install` leaves out
 #
 # Paths may have blanks. `make install` builds what is missing or older than its sources, and nothing else, so that after a
 # `make` it can be run by another user.
@@ -19,8 +20,12 @@ PKGCONFIGDIR ?= $(LIBDIR)/pkgconfig
 BASHDIR ?= $(DATADIR)/bash-completion/completions
 ZSHDIR ?= $(DATADIR)/zsh/site-functions
 FISHDIR ?= $(DATADIR)/fish/vendor_completions.d
+VIMDIR ?= $(DATADIR)/vim/vimfiles
+# Python is asked only where this is used.
+PYTHONDIR ?= $(shell $(PYTHON) packaging/pythondir.py "$(PREFIX)")
 
 CARGO ?= cargo
+PYTHON ?= python3
 RT ?= rt
 INSTALL ?= install
 INSTALL_PROGRAM ?= $(INSTALL) -m 755
@@ -34,6 +39,8 @@ ARCHIVE := target/staticlib/libjudge.a
 SHARED := target/shared/$(SONAME)
 DESK := target/cargo/release/desk
 SUBJECTS := vocabulary comparison classification script writer
+VIM := compiler/desk.vim ftdetect/judge.vim ftplugin/judge.vim syntax/judge.vim
+PACKAGE := $(wildcard python/judge/*.py) python/judge/py.typed
 
 CRATES := $(addprefix crates/,judge $(shell sed -n 's/^judge: //p' crates.txt))
 PROVED := crates.txt $(shell find $(CRATES) -type f)
@@ -59,7 +66,7 @@ $(DESK): $(ARCHIVE) $(RUST)
 	$(CARGO) build --release --locked --package desk --target-dir target/cargo
 	touch $@
 
-check: check-c check-rust check-install
+check: check-c check-rust check-install check-python check-editors
 	@echo 'passed: the tests that need no prover; the whole gate, which proves everything from nothing, is: bash .ci/run'
 
 # The calls from C over the stored cases.
@@ -77,6 +84,12 @@ check-rust: $(ARCHIVE)
 
 check-install: all
 	tests/install.sh
+
+check-python: $(SHARED)
+	tests/python.sh "$(PYTHON)"
+
+check-editors: $(DESK)
+	tests/editors.sh
 
 install: all
 	$(INSTALL) -d "$(DESTDIR)$(BINDIR)" "$(DESTDIR)$(LIBDIR)" "$(DESTDIR)$(INCLUDEDIR)" "$(DESTDIR)$(PKGCONFIGDIR)" \
@@ -96,6 +109,10 @@ install: all
 	$(INSTALL_DATA) completions/_desk "$(DESTDIR)$(ZSHDIR)/_desk"
 	$(INSTALL_DATA) completions/desk.fish "$(DESTDIR)$(FISHDIR)/desk.fish"
 	$(INSTALL_DATA) docs/DESK.md docs/FORMATS.md "$(DESTDIR)$(DOCDIR)"
+	for file in $(VIM); do \
+		$(INSTALL) -d "$(DESTDIR)$(VIMDIR)/$${file%/*}" && \
+		$(INSTALL_DATA) "editors/vim/$$file" "$(DESTDIR)$(VIMDIR)/$$file" || exit; \
+	done
 
 # Directories that others use too go where they are empty, but for those that every system has: bin, lib, include, share,
 # share/man and share/doc.
@@ -105,10 +122,30 @@ uninstall:
 		"$(DESTDIR)$(PKGCONFIGDIR)/judge.pc" "$(DESTDIR)$(MANDIR)/man1/desk.1" "$(DESTDIR)$(MANDIR)/man3/judge.3" \
 		"$(DESTDIR)$(BASHDIR)/desk" "$(DESTDIR)$(ZSHDIR)/_desk" "$(DESTDIR)$(FISHDIR)/desk.fish" \
 		"$(DESTDIR)$(DOCDIR)/DESK.md" "$(DESTDIR)$(DOCDIR)/FORMATS.md"
+	@for file in $(VIM); do \
+		rm -f "$(DESTDIR)$(VIMDIR)/$$file" && \
+		{ rmdir "$(DESTDIR)$(VIMDIR)/$${file%/*}" 2> /dev/null || :; }; \
+	done
 	@for directory in "$(PKGCONFIGDIR)" "$(MANDIR)/man1" "$(MANDIR)/man3" "$(DOCDIR)" "$(BASHDIR)" "$(DATADIR)/bash-completion" \
-		"$(ZSHDIR)" "$(DATADIR)/zsh" "$(FISHDIR)" "$(DATADIR)/fish"; do \
+		"$(ZSHDIR)" "$(DATADIR)/zsh" "$(FISHDIR)" "$(DATADIR)/fish" "$(VIMDIR)" "$(DATADIR)/vim"; do \
 		rmdir "$(DESTDIR)$$directory" 2> /dev/null || :; \
 	done
 
-.PHONY: all help check check-c check-rust check-install install uninstall
+# The package finds the library that `make install` with the same PREFIX has put there.
+install-python: python-directory
+	$(INSTALL) -d "$(DESTDIR)$(PYTHONDIR)/judge"
+	$(INSTALL_DATA) $(PACKAGE) "$(DESTDIR)$(PYTHONDIR)/judge"
+
+# Python keeps what it has compiled beside the package.
+uninstall-python: python-directory
+	@directory="$(DESTDIR)$(PYTHONDIR)"; \
+	for file in $(PACKAGE:python/%=%); do rm -f "$$directory/$$file"; done; \
+	rm -rf "$$directory/judge/__pycache__"; \
+	rmdir "$$directory/judge" "$$directory" "$${directory%/*}" 2> /dev/null || :
+
+python-directory:
+	@[ -n "$(PYTHONDIR)" ] || { echo '$(PYTHON) does not say where its packages are; PYTHONDIR=.. can'; exit 1; }
+
+.PHONY: all help check check-c check-rust check-install check-python check-editors install uninstall install-python \
+	uninstall-python python-directory
 .DELETE_ON_ERROR:

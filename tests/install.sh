@@ -1,6 +1,7 @@
 #!/usr/bin/env bash
 # `make install` and `make uninstall`, into directories with blanks in their names, and what was installed as people use it:
-# the library from C, static and shared, by pkg-config; desk; the manual pages; the completions; one version everywhere.
+# the library from C, static and shared, by pkg-config; desk; the manual pages; the completions; Vim's files; the package of
+# Python; one version everywhere.
 # usage: tests/install.sh        (after `make`; it calls no prover)
 # Says nothing where all is well, but what could not be checked. Exit status: 0 all is well; 1 something is not, and is told.
 set -eu
@@ -10,7 +11,7 @@ trap 'rm -rf "$work"' EXIT
 trap 'exit 130' INT TERM
 # What a caller's make, or shell, has set is not meant for this one.
 unset MAKEFLAGS MFLAGS MAKEOVERRIDES DESTDIR PREFIX BINDIR LIBDIR INCLUDEDIR DATADIR MANDIR DOCDIR PKGCONFIGDIR BASHDIR ZSHDIR \
-    FISHDIR INSTALL PKG_CONFIG_PATH PKG_CONFIG_LIBDIR PKG_CONFIG_SYSROOT_DIR
+    FISHDIR VIMDIR PYTHONDIR PYTHON INSTALL PKG_CONFIG_PATH PKG_CONFIG_LIBDIR PKG_CONFIG_SYSROOT_DIR
 
 stage="$work/a stage"
 prefix='/opt/the judge'
@@ -62,6 +63,10 @@ share/doc/judge/FORMATS.md 644
 share/fish/vendor_completions.d/desk.fish 644
 share/man/man1/desk.1 644
 share/man/man3/judge.3 644
+share/vim/vimfiles/compiler/desk.vim 644
+share/vim/vimfiles/ftdetect/judge.vim 644
+share/vim/vimfiles/ftplugin/judge.vim 644
+share/vim/vimfiles/syntax/judge.vim 644
 share/zsh/site-functions/_desk 644
 END
 }
@@ -216,6 +221,33 @@ completions() {
     done
 }
 
+# Vim finds its files where the directory is one of those that it looks in.
+vim_files() {
+    printf 'vocabulary roles 0\nc1\n' > "$work/goods.text"
+    # shellcheck disable=SC2016 # for vim
+    PLACE=$place OUT=$work/vim away vim -es -N -u NONE -i NONE -n --cmd 'let &runtimepath .= "," . escape($PLACE, " ") . "/share/vim/vimfiles"' \
+        -c 'filetype plugin on' -c "edit $work/goods.text" \
+        -c 'call writefile([&filetype, get(b:, "current_compiler", "none")], $OUT)' -c 'qall!' < /dev/null > "$work/log" 2>&1 || :
+    same 'the file type in Vim' $'judge\ndesk' "$(cat "$work/vim")"
+}
+
+# The package, which finds the library below the same prefix, and leaves nothing behind.
+python_package() {
+    local package found
+    judge_make install-python DESTDIR="$stage" PREFIX="$prefix"
+    package=$(dirname "$(find "$place/lib" -name py.typed)")
+    same 'the package of Python' "$(cd python/judge && printf '%s\n' *.py py.typed)" "$(ls "$package")"
+    found=$(cd / && PYTHONPATH=${package%/*} python3 -c '
+import judge, judge._library
+print(judge.VERSION, judge._library.FREE._name)')
+    same 'the package, and the library that it finds' "$version $place/lib/libjudge.so.${version%%.*}" "$found"
+    judge_make uninstall-python DESTDIR="$stage" PREFIX="$prefix"
+    judge_make uninstall-python DESTDIR="$stage" PREFIX="$prefix"
+    same 'after make uninstall-python' '' "$(find "$place" -path '*python*')"
+    same 'PYTHONDIR of /usr' "$(python3 packaging/pythondir.py /usr)/judge" \
+        "$(make -n install-python PREFIX=/usr | sed -n 's/^install -d "\(.*\)"$/\1/p')"
+}
+
 # What others have put there stays, and so do the directories that every system has.
 uninstalled() {
     local others=$place/share/fish/vendor_completions.d/others.fish
@@ -241,4 +273,10 @@ same 'desk --version' "desk $version" "$("$place/bin/desk" --version)"
 "$place/bin/desk" check -q examples/v.vocabulary || fail 'desk does not accept examples/v.vocabulary'
 manual_pages
 completions
+if has vim; then
+    vim_files
+fi
+if has python3; then
+    python_package
+fi
 uninstalled

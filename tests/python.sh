@@ -23,6 +23,8 @@ cd python
 "$python" -W error -m unittest --quiet
 if "$python" -m mypy --version > /dev/null 2>&1; then
     "$python" -m mypy --strict judge
+elif command -v mypy > /dev/null; then
+    mypy --strict judge
 else
     echo "python: types not checked, since mypy is missing"
 fi

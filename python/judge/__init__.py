@@ -17,8 +17,8 @@ what a call reads is copied where another thread could change it, and calls that
 other threads waiting. A call runs on the caller's stack and needs up to STACK_BYTES of it, which the threads of Python have
 unless threading.stack_size() was set to less.
 
-The shared object is looked for where JUDGE_LIBRARY says; else beside this package, in the checkout that it is part of, and
-where the system looks for libjudge.so.1.
+The shared object is looked for where JUDGE_LIBRARY says; else beside this package, in the checkout that it is part of, in
+the lib below which it is installed, and where the system looks for libjudge.so.1.
 """
 
 from __future__ import annotations

@@ -39,15 +39,17 @@ def candidates(package: Path, chosen: str) -> List[str]:
     """Where the library is looked for, in order.
 
     JUDGE_LIBRARY, where it is set, is the only one. Else: beside the package; in the checkout that the package is part
-    of; where the system looks for libraries.
+    of; in PREFIX/lib, where the package is in PREFIX/lib/python3.x/site-packages; where the system looks for libraries.
     """
     if chosen:
         return [chosen]
-    beside = package / SONAME
     checkout = package.parent.parent
-    built = checkout / "target" / "shared" / SONAME
-    is_checkout = (checkout / "include" / "judge.h").is_file()
-    found = [str(path) for path in ([beside, built] if is_checkout else [beside]) if path.is_file()]
+    places = [package]
+    if (checkout / "include" / "judge.h").is_file():
+        places.append(checkout / "target" / "shared")
+    elif package.parent.name in ("site-packages", "dist-packages"):
+        places.append(checkout.parent)
+    found = [str(place / SONAME) for place in places if (place / SONAME).is_file()]
     return [*found, SONAME]
 
 

@@ -123,6 +123,14 @@ class Finding(unittest.TestCase):
             shutil.copy(LIBRARY, path / "judge" / _library.SONAME)
             self.assertEqual(self.run_python(None, path).stdout, f"{path.resolve() / 'judge' / _library.SONAME}\n")
 
+    def test_the_lib_below_which_it_is_installed(self) -> None:
+        with tempfile.TemporaryDirectory() as place:
+            path = self.installed(f"{place}/lib/python3.9/site-packages")
+            library = Path(place).resolve() / "lib" / _library.SONAME
+            shutil.copy(LIBRARY, library)
+            self.assertEqual(self.run_python(None, path).stdout, f"{library}\n")
+            self.assertEqual(_library.candidates(library.parent / "python3.9" / "other" / "judge", ""), [_library.SONAME])
+
     def test_where_the_system_looks(self) -> None:
         self.assertEqual(_library.candidates(Path("/nowhere/else/judge"), ""), [_library.SONAME])
 

@@ -150,10 +150,10 @@ exit status: 0 within, 1 not within, 2 refused
 const WHY: &str = "\
 usage: desk why VOCABULARY A B [--within] [--all N] [--words TEXT] [--json]
 
-Why the term of record A is equal to the term of record B: a set of statements that are enough for it, and of which none
-can be left out. Editors of ontologies know it as a justification. Statements are taken off the chain of a copy, first
-many at once, in the end one by one, and each time the proved comparison is asked; what cannot go stays. The set is minimal:
-no part of it is enough. There may be other minimal sets, smaller ones among them.
+Why the term A is equal to the term B: a set of statements that are enough for it, and of which none can be left out.
+Editors of ontologies know it as a justification. The terms are given as for 'compare'. Statements are taken off the chain
+of a copy, first many at once, in the end one by one, and each time the proved comparison is asked; what cannot go stays. The
+set is minimal: no part of it is enough. There may be other minimal sets, smaller ones among them.
 
 It is said where these statements contradict each other, or where by them nothing can belong to A. Where A is not equal to
 B, or does not lie within it, the answer is that of 'compare' or 'within'. The vocabulary has at most 12 atoms. With
@@ -318,9 +318,9 @@ Records that NEW does not say stand with '-', records that OLD does not say with
 chain or taken off it, the numbers of records that moved, what is called otherwise, and, where both vocabularies can be
 classified (at most 12 atoms), the names that have other nearest broader names or equal ones.
 
-With TABLE, a filed table ('desk help tables'), each line that names the file OLD or the file NEW is judged by both, by its
-record numbers, as it will be read when NEW takes the place of OLD. Told are the lines whose verdict changes, and those in
-which a number names another term in NEW.
+With TABLE, a filed table ('desk help tables'), each line that names the file OLD or the file NEW is judged by both, with its
+words as they are, as it will be read when NEW takes the place of OLD. Told are the lines whose verdict changes, and those
+in which A or B, by its number or by a name, is another term in NEW.
 
 exit status: 0 no change, 1 changed, 2 a vocabulary is refused or a line is malformed, 66 a file cannot be read
 ";

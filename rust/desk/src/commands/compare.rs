@@ -2,7 +2,7 @@
 
 use super::pair::{Answered, Emptiness, Wording};
 use super::pictures::{Pictures, DOT, SVG};
-use super::{files_of, output, read_vocabulary, read_words, written, WORDS};
+use super::{apart, files_of, output, read_vocabulary, read_words, written, WORDS};
 use crate::console::Console;
 use crate::files;
 use crate::question::Questions;
@@ -24,6 +24,7 @@ pub const WORDING: Wording = Wording {
 
 pub fn run(arguments: &Arguments, console: &mut Console) -> Result<Status, Stop> {
     let [path, a, b] = arguments.words(["VOCABULARY", "A", "B"])?;
+    apart(arguments, &[SURVIVORS, DOT, SVG])?;
     let (survivors, pictures) = (output(arguments, SURVIVORS)?, Pictures::wanted(arguments)?);
     let mut input = read_vocabulary(path, console.style)?;
     let words = read_words(arguments, console.style)?;

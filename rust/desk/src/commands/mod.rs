@@ -190,6 +190,21 @@ fn files_of<const N: usize>(inputs: [Option<&Input>; N]) -> Vec<Option<FileId>> 
     inputs.into_iter().flatten().flat_map(Input::files).collect()
 }
 
+/// Refuses options of which two name one file for their outputs, by the same name.
+fn apart(arguments: &Arguments, flags: &[Flag]) -> Result<(), Failure> {
+    for (at, flag) in (1..).zip(flags) {
+        let path = arguments.value(flag.name);
+        let is_same = |other: &&Flag| path.is_some() && arguments.value(other.name) == path;
+        if let Some(other) = flags.iter().skip(at).find(is_same) {
+            return Err(Failure::usage(format!(
+                "{} and {} name one file",
+                flag.name, other.name
+            )));
+        }
+    }
+    Ok(())
+}
+
 /// The refusal of a script whatever its vocabulary: its length or its header (13 and 14), which the check looks at
 /// before all that takes a vocabulary of more than a header.
 fn refused_script(script: &[u8]) -> Option<Refusal> {

@@ -1,6 +1,6 @@
 //! The drawings of a counter-model that an answer about two terms may be asked for.
 
-use super::output;
+use super::{apart, output};
 use crate::drawing::{dot, svg};
 use crate::explain::Explained;
 use crate::files::{self, FileId, Name};
@@ -24,11 +24,11 @@ pub struct Pictures<'a> {
 impl<'a> Pictures<'a> {
     /// Those that the command line names.
     pub fn wanted(arguments: &'a Arguments) -> Result<Pictures<'a>, Failure> {
-        let (dot, svg) = (output(arguments, DOT)?, output(arguments, SVG)?);
-        if dot.is_some() && dot == svg {
-            return Err(Failure::usage("--dot and --svg name one file"));
-        }
-        Ok(Pictures { dot, svg })
+        apart(arguments, &[DOT, SVG])?;
+        Ok(Pictures {
+            dot: output(arguments, DOT)?,
+            svg: output(arguments, SVG)?,
+        })
     }
 
     /// Draws what tells the terms apart, each file whole or not at all, and never over an input. Where nothing does, the

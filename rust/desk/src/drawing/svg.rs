@@ -56,9 +56,20 @@ fn shown(graph: &Graph) -> Graph {
         node.lines = wrapped(&node.lines, IN_BOX);
     }
     for arrow in &mut shown.arrows {
-        arrow.label = beginning(&visible(&arrow.label), AT_ARROW);
+        arrow.label = shortened(&visible(&arrow.label), AT_ARROW);
     }
     shown
+}
+
+/// The beginning of a long label and its last word, which tells long names of roles apart.
+fn shortened(label: &str, most: usize) -> String {
+    match label.rsplit_once(' ') {
+        Some((front, last)) if label.chars().count() > most && last.chars().count() < most / 2 => {
+            let most = most - last.chars().count() - 1;
+            format!("{} {last}", beginning(front, most))
+        }
+        _ => beginning(label, most),
+    }
 }
 
 /// A text of characters that XML can have, and that are seen.

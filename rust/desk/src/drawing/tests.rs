@@ -310,6 +310,30 @@ fn a_long_text_goes_on_in_up_to_three_lines() {
 }
 
 #[test]
+fn a_long_label_keeps_its_last_word() {
+    let label = |label: &str| {
+        let mut drawn = graph(&mut Chance(1), 2, 0);
+        drawn.arrows[0].label = label.to_string();
+        let svg = svg::file(&drawn);
+        let (_, label) = svg.split_once("font-style=\"italic\">").unwrap();
+        label.split_once('<').unwrap().0.to_string()
+    };
+    assert_eq!(
+        label("is accompanied by a paper (r0)"),
+        "is accompanied by a paper (r0)"
+    );
+    assert_eq!(
+        label("is accompanied by some paper (r0)"),
+        "is accompanied by some pa .. (r0)"
+    );
+    assert_eq!(label(&"W".repeat(31)), format!("{} ..", "W".repeat(30)));
+    assert_eq!(
+        label(&format!("a {}", "W".repeat(31))),
+        format!("a {} ..", "W".repeat(28))
+    );
+}
+
+#[test]
 fn labels_for_graphviz_are_quoted() {
     let mut drawn = graph(&mut Chance(1), 2, 0);
     drawn.title = "a title".to_string();

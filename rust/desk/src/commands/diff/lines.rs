@@ -1,21 +1,21 @@
 //! The lines of a filed table, each judged by the old vocabulary and by the new one in its place.
 
-use super::super::recheck::asked::asked;
 use super::super::recheck::check::{claimed, judge, script_of, Manner};
 use super::super::recheck::kept::{Files, Known};
 use super::super::recheck::line::{repeated, Claim, Field, Row, Text};
 use super::super::recheck::outcome::{Outcome, Sort};
 use super::super::recheck::table::Line;
-use super::records::Side;
+use super::records::{Shapes, Side};
+use super::terms::{self, Term};
 use crate::files::FileId;
-use crate::json::Json;
-use base::arguments::digits;
 use base::Status;
 
 /// The two vocabularies, and where the table's files are.
 pub struct Lines<'a> {
     /// What their records say.
     pub sides: [&'a Side; 2],
+    /// What records of both say, each once.
+    pub shapes: Shapes,
     /// The vocabularies.
     pub known: [Known; 2],
     /// Which files they are.
@@ -38,50 +38,12 @@ pub struct Told {
     pub sorts: [Sort; 2],
     /// Why, by each; empty where it holds.
     pub why: [String; 2],
-    /// The terms whose numbers name others.
+    /// The terms that are others in the new vocabulary.
     pub terms: Vec<Term>,
-    /// The numbers in the new vocabulary of the terms that it named in the old one, and how it comes out with them.
+    /// The records in the new vocabulary of the terms that it named in the old one, and how it comes out with them.
     pub meant: Option<([u32; 2], Sort)>,
     /// The exit status that it asks for.
     pub status: Status,
-}
-
-/// A number of a line that does not name the same term in both vocabularies.
-pub struct Term {
-    /// Whether it is A or B.
-    pub letter: &'static str,
-    /// The number.
-    pub number: u32,
-    /// What it names in each, if that is a term.
-    pub names: [Option<String>; 2],
-    /// The record of the new vocabulary that says what it named in the old one.
-    pub moved: Option<u16>,
-}
-
-impl Term {
-    /// What people read.
-    pub fn words(&self) -> String {
-        let named = |name: &Option<String>| name.clone().unwrap_or_else(|| "no term".to_string());
-        let [was, is] = self.names.each_ref().map(named);
-        let moved = match (self.moved, &self.names) {
-            (Some(moved), _) => format!("; what it was is term {moved}"),
-            (None, [Some(_), _]) => "; no record says what it was".to_string(),
-            (None, _) => String::new(),
-        };
-        format!("{}: term {} was {was}, is {is}{moved}", self.letter, self.number)
-    }
-
-    /// What programs read.
-    pub fn json(&self) -> Json {
-        let [old, new] = self.names.clone().map(Json::from);
-        Json::object([
-            ("term", Json::from(self.letter)),
-            ("number", Json::from(self.number)),
-            ("old", old),
-            ("new", new),
-            ("moved", Json::from(self.moved)),
-        ])
-    }
 }
 
 impl Told {
@@ -116,30 +78,22 @@ impl Lines<'_> {
             return None;
         }
         let outcomes = self.judge(&row, &text.text);
-        let terms = ["A", "B"].into_iter().zip(row.pair);
-        let terms = terms.filter_map(|(letter, field)| self.term(letter, number(field)?));
-        let terms: Vec<Term> = terms.collect();
+        let (terms, meant) = terms::changed(&row, &self.known, self.sides, &mut self.shapes);
         Some(Told {
-            meant: self.meant(&row, &terms),
+            meant: meant
+                .filter(|_| !terms.is_empty())
+                .and_then(|pair| self.meant(&row, pair)),
             ..told(line, &text.text, outcomes, terms)
         })
     }
 
-    /// How a line comes out with the terms that it named in the old vocabulary, where their numbers are others in the new
-    /// one. A script has numbers of its own.
-    fn meant(&mut self, row: &Row, terms: &[Term]) -> Option<([u32; 2], Sort)> {
-        let [old, new] = self.sides;
-        if terms.is_empty() || matches!(row.claim, Claim::Proved(_)) {
+    /// How a line comes out with the terms that it named in the old vocabulary, by their records in the new one. A script
+    /// has numbers of its own.
+    fn meant(&mut self, row: &Row, pair: [u32; 2]) -> Option<([u32; 2], Sort)> {
+        if matches!(row.claim, Claim::Proved(_)) {
             return None;
         }
         let [_, known] = &mut self.known;
-        // A word that is no number stands for the same term in both.
-        let mut pair = asked(known, row).ok().filter(|asked| asked.added.is_empty())?.pair;
-        for (place, field) in pair.iter_mut().zip(row.pair) {
-            if let Some(number) = number(field) {
-                *place = new.first(old.term(number)?)?.into();
-            }
-        }
         let outcome = claimed(known, row.claim, pair, None, Manner::default());
         Some((pair, outcome.sort))
     }
@@ -166,28 +120,6 @@ impl Lines<'_> {
         let [old, new] = &mut self.known;
         [old, new].map(|known| judge(known, row, text, script.as_ref(), Manner::default()).0)
     }
-
-    /// A number that does not name the same term in both.
-    fn term(&self, letter: &'static str, number: u32) -> Option<Term> {
-        let [old, new] = self.sides;
-        let shapes = [old, new].map(|side| side.term(number));
-        let [was, is] = shapes;
-        if was == is {
-            return None;
-        }
-        let name = |side: &Side| side.term(number).map(|_| side.written.called(number as u16));
-        Some(Term {
-            letter,
-            number,
-            names: [name(old), name(new)],
-            moved: was.and_then(|shape| new.first(shape)),
-        })
-    }
-}
-
-/// The record that a field names by its number.
-fn number(field: Field) -> Option<u32> {
-    digits(field.text.strip_prefix('#').unwrap_or(field.text))
 }
 
 fn told(line: &Line, text: &str, outcomes: [Outcome; 2], terms: Vec<Term>) -> Told {
@@ -199,10 +131,11 @@ fn told(line: &Line, text: &str, outcomes: [Outcome; 2], terms: Vec<Term>) -> To
         _ if old != new || !terms.is_empty() => Some(Status::DoesNotHold),
         _ => None,
     };
-    let column = outcomes.first().map_or(1, |outcome| outcome.column);
+    // It is 1 where nothing is wrong with a field.
+    let column = outcomes.iter().map(|outcome| outcome.column).max();
     Told {
         number: line.number,
-        column,
+        column: column.unwrap_or(1),
         text: repeated(text),
         sorts,
         why: outcomes.map(|outcome| outcome.why),

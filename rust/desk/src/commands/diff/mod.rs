@@ -7,6 +7,7 @@ mod records;
 mod renamed;
 mod table;
 mod taxonomy;
+mod terms;
 #[cfg(test)]
 mod tests;
 
@@ -32,7 +33,7 @@ pub fn run(arguments: &Arguments, console: &mut Console) -> Result<Status, Stop>
     match table {
         None => Ok(status),
         Some(table) => {
-            let of_table = table::tell(table, [old, new], [&old_side, &new_side], console)?;
+            let of_table = table::tell(table, [old, new], ([&old_side, &new_side], shapes), console)?;
             Ok(status.max(of_table))
         }
     }

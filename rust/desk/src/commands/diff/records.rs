@@ -5,7 +5,7 @@ use base::vocabulary::{Saying, Vocabulary};
 use std::collections::BTreeMap;
 
 /// What a record says, by a number that is the same for all records of both vocabularies that say it.
-type Shape = usize;
+pub type Shape = usize;
 
 /// A vocabulary that is compared with another.
 pub struct Side {

@@ -4,8 +4,9 @@ use super::super::recheck::directory;
 use super::super::recheck::kept::Files;
 use super::super::recheck::outcome::Sort;
 use super::super::recheck::table::Table;
-use super::lines::{Lines, Term, Told};
-use super::records::Side;
+use super::lines::{Lines, Told};
+use super::records::{Shapes, Side};
+use super::terms::Term;
 use crate::console::Console;
 use crate::display::{counted, grouped, plain};
 use crate::files::{self, unreadable, Access, Name, Opened};
@@ -22,14 +23,19 @@ struct Tally {
     named: u64,
     /// Those of them whose verdict changes.
     changed: u64,
-    /// Those of them in which a number names another term.
+    /// Those of them in which a number or a name stands for another term.
     renumbered: u64,
     /// Those that cannot be judged: they have no form, or their script cannot be read.
     unfit: u64,
 }
 
 /// Tells of the lines of a table that change.
-pub fn tell(path: &OsStr, inputs: [Input; 2], sides: [&Side; 2], console: &mut Console) -> Result<Status, Failure> {
+pub fn tell(
+    path: &OsStr,
+    inputs: [Input; 2],
+    (sides, shapes): ([&Side; 2], Shapes),
+    console: &mut Console,
+) -> Result<Status, Failure> {
     let opened = files::open(path, Access::Any)?;
     let name = opened.name.clone();
     let files = Files {
@@ -41,6 +47,7 @@ pub fn tell(path: &OsStr, inputs: [Input; 2], sides: [&Side; 2], console: &mut C
     let lines = Lines {
         known: inputs.map(|input| files.known(input)),
         sides,
+        shapes,
         ids,
         files,
         last: None,
@@ -114,7 +121,7 @@ fn report(name: &Name, told: Told) -> Report {
     };
     let ([old, new], [old_why, new_why]) = (told.sorts, &told.why);
     let verdict = match (told.is_unfit(), told.changes()) {
-        (true, _) => old.words(),
+        (true, _) => new.words(),
         (_, true) => "changed",
         (_, false) => "unchanged",
     };
@@ -139,10 +146,8 @@ fn report(name: &Name, told: Told) -> Report {
 /// How a line came out by both vocabularies, and which numbers name other terms.
 fn words(told: &Told) -> String {
     let ([old, new], [old_why, new_why]) = (told.sorts, &told.why);
-    if told.is_unfit() {
-        return new_why.clone();
-    }
     let mut words = match told.changes() {
+        false if told.is_unfit() => return new_why.clone(),
         true => format!("by OLD {}\nby NEW {}\n", verdict(old, old_why), verdict(new, new_why)),
         false => format!("{} by both\n", new.words()),
     };
@@ -177,7 +182,7 @@ fn summary(name: &Name, tally: &Tally, status: Status, style: Style) -> Report {
         &format!("the verdict changes in {changes}"),
     );
     let text = format!(
-        "{name}: {lines} about OLD or NEW; {changes}, a number names another term in {numbers}; {unjudged} cannot be judged\n"
+        "{name}: {lines} about OLD or NEW; {changes}, A or B is another term in {numbers}; {unjudged} cannot be judged\n"
     );
     let verdict = match changed + renumbered {
         0 => "unchanged",
