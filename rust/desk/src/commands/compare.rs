@@ -1,6 +1,6 @@
 //! `desk compare`.
 
-use super::pair::{Answered, Emptiness, Wording};
+use super::pair::{Answered, Wording};
 use super::pictures::{Pictures, DOT, SVG};
 use super::{apart, files_of, output, read_vocabulary, read_words, written, WORDS};
 use crate::console::Console;
@@ -34,14 +34,8 @@ pub fn run(arguments: &Arguments, console: &mut Console) -> Result<Status, Stop>
     let refused = |refusal| Stop::from(refused::of_vocabulary(console.style, &input, refusal));
     let mut questions = Questions::new(&input.bytes);
     let answer = questions.compare(a, b).map_err(refused)?;
-    let empty = Emptiness::ask(&mut questions, pair, answer).map_err(refused)?;
-    let answered = Answered {
-        written: written(&input, words.as_ref())?,
-        pair,
-        answer,
-        survivors: *questions.survivors(),
-        empty,
-    };
+    let written = written(&input, words.as_ref())?;
+    let answered = Answered::new(&mut questions, written, pair, answer).map_err(refused)?;
     let explained = answered.explained()?;
     let mut report = answered.report(console.style, &input, &WORDING, explained.as_ref());
     let inputs = files_of([Some(&input), words.as_ref()]);

@@ -34,6 +34,22 @@ pub struct Answered {
 }
 
 impl Answered {
+    /// What these questions came to, the last of which had this answer.
+    pub fn new(
+        questions: &mut Questions,
+        written: Written,
+        pair: Pair,
+        answer: Comparison,
+    ) -> Result<Answered, Refusal> {
+        Ok(Answered {
+            written,
+            pair,
+            answer,
+            empty: Emptiness::ask(questions, pair, answer)?,
+            survivors: *questions.survivors(),
+        })
+    }
+
     /// The report on a vocabulary, with the element that tells the terms apart, where one does.
     pub fn report(&self, style: Style, input: &Input, wording: &Wording, explained: Option<&Explained>) -> Report {
         let (status, [word, verdict]) = match self.answer.verdict {

@@ -1,6 +1,6 @@
 //! `desk within`.
 
-use super::pair::{Answered, Emptiness, Wording};
+use super::pair::{Answered, Wording};
 use super::pictures::{Pictures, DOT, SVG};
 use super::{files_of, read_vocabulary, read_words, written, WORDS};
 use crate::console::Console;
@@ -37,14 +37,8 @@ pub fn run(arguments: &Arguments, console: &mut Console) -> Result<Status, Stop>
         Within::Answer(answer) => answer,
         Within::NoRoom => return Err(no_room(&input, pair).into()),
     };
-    let empty = Emptiness::ask(&mut questions, pair, answer).map_err(refused)?;
-    let answered = Answered {
-        written: written(&input, words.as_ref())?,
-        pair,
-        answer,
-        survivors: *questions.survivors(),
-        empty,
-    };
+    let written = written(&input, words.as_ref())?;
+    let answered = Answered::new(&mut questions, written, pair, answer).map_err(refused)?;
     let explained = explained(&answered)?;
     let mut report = answered.report(console.style, &input, &WORDING, explained.as_ref());
     let inputs = files_of([Some(&input), words.as_ref()]);

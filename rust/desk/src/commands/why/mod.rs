@@ -43,14 +43,9 @@ pub fn run(arguments: &Arguments, console: &mut Console) -> Result<Status, Stop>
     };
     let stop = |halt| claim.stop(halt, console.style, &input);
     let mut questions = Questions::new(&input.bytes);
-    let (answer, empty) = claim.ask(&mut questions).map_err(stop)?;
-    let answered = Answered {
-        written: written(&input, words.as_ref())?,
-        pair,
-        answer,
-        survivors: *questions.survivors(),
-        empty,
-    };
+    let answer = claim.compare(&mut questions).map_err(stop)?;
+    let written = written(&input, words.as_ref())?;
+    let answered = Answered::new(&mut questions, written, pair, answer).map_err(|refusal| stop(refusal.into()))?;
     let report = claim.report(&answered, console.style, &input)?;
     if report.status != Status::Holds {
         return Ok(console.answer(report)?);
@@ -99,11 +94,10 @@ impl Claim {
         }
     }
 
-    /// The same, and whether nothing can belong to the terms.
-    fn ask(self, questions: &mut Questions) -> Result<(Comparison, Emptiness), Halt> {
+    /// Whether nothing can belong to the terms.
+    fn emptiness(self, questions: &mut Questions) -> Result<Emptiness, Halt> {
         let answer = self.compare(questions)?;
-        let empty = Emptiness::ask(questions, self.pair, answer)?;
-        Ok((answer, empty))
+        Ok(Emptiness::ask(questions, self.pair, answer)?)
     }
 
     /// Whether these statements are enough for it.
@@ -170,7 +164,7 @@ fn find(claim: Claim, vocabulary: &Vocabulary, most: Option<u64>) -> Result<Reas
     let justification = |set: Set| {
         let statements = set.numbers();
         let copy = vocabulary.with_chain(&statements).bytes();
-        let (_, empty) = claim.ask(&mut Questions::new(&copy))?;
+        let empty = claim.emptiness(&mut Questions::new(&copy))?;
         Ok(Justification { statements, empty })
     };
     Ok(Reasons {
