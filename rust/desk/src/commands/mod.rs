@@ -191,7 +191,10 @@ fn apart(arguments: &Arguments, flags: &[Flag]) -> Result<(), Failure> {
         let path = arguments.value(flag.name);
         let is_same = |other: &&Flag| path.is_some() && arguments.value(other.name) == path;
         if let Some(other) = flags.iter().skip(at).find(is_same) {
-            return Err(Failure::usage(format!("{} and {} name one file", flag.name, other.name)));
+            return Err(Failure::usage(format!(
+                "{} and {} name one file",
+                flag.name, other.name
+            )));
         }
     }
     Ok(())
