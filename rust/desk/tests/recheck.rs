@@ -121,7 +121,8 @@ fn each_sort_of_line_is_told_with_its_place() {
          t:5:1: v.text 4 4 different\n  the terms are equal\n\
          t:6:1: v.text 3 4 within\n  term 3 does not lie within term 4, element 4\n\
          t:8:1: v.text 4 3 within s.text\n  refused, 24, at script record 2: the chain ends with a frame left\n\
-         t:9:1: v.text 4 5 equal\n  refused, 10, number 5: the number asked about is no term record\n\
+         t:9:1: v.text 4 5 equal\n  refused, 10, number 5: the number asked about is no term record; \
+         record 5 is a statement\n\
          t:10:1: faulty.text 1 1 equal\n{faults}\
          t:11:1: short.vocabulary 1 1 equal\n  refused, 1: the vocabulary's length is under 8, over 4,096 or no multiple \
          of 8; it has 2 bytes\n\

@@ -1,13 +1,16 @@
 //! What came of a question about two terms, for people and for programs.
 
+use super::{files_of, read_vocabulary, read_words, written};
 use crate::display::counted;
 use crate::explain::Explained;
+use crate::files::FileId;
 use crate::input::Input;
 use crate::json::Json;
 use crate::question::Questions;
-use crate::report::{Report, Style};
-use crate::term::Pair;
+use crate::report::{Report, Stop, Style};
+use crate::term::{self, Pair};
 use crate::text::vocabulary::Written;
+use base::arguments::Arguments;
 use base::{Failure, Status};
 use judge::{Comparison, Refusal, Verdict, SURVIVOR_BYTES};
 
@@ -17,6 +20,48 @@ pub struct Wording {
     pub holds: [&'static str; 2],
     /// Where it says Different.
     pub fails: [&'static str; 2],
+}
+
+/// What the command line asks about: a vocabulary, with the text that has its words, and two terms.
+pub struct Subject {
+    /// The vocabulary, with the terms that are added for the question.
+    pub input: Input,
+    /// The text of `--words`.
+    pub words: Option<Input>,
+    /// The terms.
+    pub pair: Pair,
+}
+
+impl Subject {
+    /// Reads what the words and `--words` name.
+    pub fn read(arguments: &Arguments, style: Style) -> Result<Subject, Stop> {
+        let [path, a, b] = arguments.words(["VOCABULARY", "A", "B"])?;
+        let mut input = read_vocabulary(path, style)?;
+        let words = read_words(arguments, style)?;
+        input.take_names(words.as_ref());
+        let pair = term::pair(style, &mut input, [a, b])?;
+        Ok(Subject { input, words, pair })
+    }
+
+    /// The answer, with what the questions have left.
+    pub fn answered(
+        &self,
+        (answer, empty): (Comparison, Emptiness),
+        questions: &Questions,
+    ) -> Result<Answered, Failure> {
+        Ok(Answered {
+            written: written(&self.input, self.words.as_ref())?,
+            pair: self.pair,
+            answer,
+            survivors: *questions.survivors(),
+            empty,
+        })
+    }
+
+    /// The files that were read, which are not written over.
+    pub fn files(&self) -> Vec<Option<FileId>> {
+        files_of([Some(&self.input), self.words.as_ref()])
+    }
 }
 
 /// An answer about two terms.
@@ -34,22 +79,6 @@ pub struct Answered {
 }
 
 impl Answered {
-    /// What these questions came to, the last of which had this answer.
-    pub fn new(
-        questions: &mut Questions,
-        written: Written,
-        pair: Pair,
-        answer: Comparison,
-    ) -> Result<Answered, Refusal> {
-        Ok(Answered {
-            written,
-            pair,
-            answer,
-            empty: Emptiness::ask(questions, pair, answer)?,
-            survivors: *questions.survivors(),
-        })
-    }
-
     /// The report on a vocabulary, with the element that tells the terms apart, where one does.
     pub fn report(&self, style: Style, input: &Input, wording: &Wording, explained: Option<&Explained>) -> Report {
         let (status, [word, verdict]) = match self.answer.verdict {

@@ -1,8 +1,8 @@
 //! `desk within`.
 
-use super::pair::{Answered, Wording};
+use super::pair::{Answered, Emptiness, Subject, Wording};
 use super::pictures::{Pictures, DOT, SVG};
-use super::{files_of, read_vocabulary, read_words, written, WORDS};
+use super::WORDS;
 use crate::console::Console;
 use crate::display::grouped;
 use crate::explain::Explained;
@@ -10,7 +10,7 @@ use crate::input::Input;
 use crate::question::{Questions, Within};
 use crate::refused;
 use crate::report::Stop;
-use crate::term::{self, Pair};
+use crate::term::Pair;
 use base::arguments::{Arguments, Flag};
 use base::{Failure, Status};
 
@@ -24,25 +24,20 @@ pub const WORDING: Wording = Wording {
 };
 
 pub fn run(arguments: &Arguments, console: &mut Console) -> Result<Status, Stop> {
-    let [path, a, b] = arguments.words(["VOCABULARY", "A", "B"])?;
     let pictures = Pictures::wanted(arguments)?;
-    let mut input = read_vocabulary(path, console.style)?;
-    let words = read_words(arguments, console.style)?;
-    input.take_names(words.as_ref());
-    let pair = term::pair(console.style, &mut input, [a, b])?;
-    let refused = |refusal| Stop::from(refused::of_vocabulary(console.style, &input, refusal));
+    let subject = Subject::read(arguments, console.style)?;
+    let (input, [a, b]) = (&subject.input, subject.pair);
+    let refused = |refusal| Stop::from(refused::of_vocabulary(console.style, input, refusal));
     let mut questions = Questions::new(&input.bytes);
-    let [a, b] = pair;
     let answer = match questions.within(a, b).map_err(refused)? {
         Within::Answer(answer) => answer,
-        Within::NoRoom => return Err(no_room(&input, pair).into()),
+        Within::NoRoom => return Err(no_room(input, subject.pair).into()),
     };
-    let written = written(&input, words.as_ref())?;
-    let answered = Answered::new(&mut questions, written, pair, answer).map_err(refused)?;
+    let empty = Emptiness::ask(&mut questions, subject.pair, answer).map_err(refused)?;
+    let answered = subject.answered((answer, empty), &questions)?;
     let explained = explained(&answered)?;
-    let mut report = answered.report(console.style, &input, &WORDING, explained.as_ref());
-    let inputs = files_of([Some(&input), words.as_ref()]);
-    pictures.draw(explained.as_ref(), &inputs, &mut report)?;
+    let mut report = answered.report(console.style, input, &WORDING, explained.as_ref());
+    pictures.draw(explained.as_ref(), &subject.files(), &mut report)?;
     Ok(console.answer(report)?)
 }
 

@@ -200,7 +200,7 @@ const NO_SURVIVOR: &str = "nothing satisfies the statements";
 /// Compares two terms.
 fn compared(known: &mut Known, [a, b]: Pair) -> Result<Comparison, Judged> {
     let answer = known.questions.compare(a, b);
-    answer.map_err(|refusal| Outcome::refused(refusal, &known.input).into())
+    answer.map_err(|refusal| Outcome::of_vocabulary(refusal, &known.input).into())
 }
 
 fn equal(known: &mut Known, pair: Pair, manner: Manner) -> Judged {
@@ -243,7 +243,7 @@ fn different(known: &mut Known, pair: Pair, manner: Manner) -> Judged {
 fn within(known: &mut Known, pair: Pair, manner: Manner) -> Judged {
     let [a, b] = pair;
     let answer = match known.questions.within(a, b) {
-        Err(refusal) => return Outcome::refused(refusal, &known.input).into(),
+        Err(refusal) => return Outcome::of_vocabulary(refusal, &known.input).into(),
         Ok(Within::NoRoom) => {
             let why = format!("the vocabulary {}", room_words(pair));
             return Outcome::new(Sort::Refused, Status::Refused, why).into();
@@ -270,7 +270,7 @@ fn within_nothing(known: &mut Known, [a, _]: Pair) -> Option<String> {
 
 fn proved(known: &mut Known, pair: Pair, script: &Input, manner: Manner) -> Judged {
     match judge::check_script(&known.input.bytes, &script.bytes) {
-        Err(refusal) if refusal.rule.is_of_vocabulary() => return Outcome::refused(refusal, &known.input).into(),
+        Err(refusal) if refusal.rule.is_of_vocabulary() => return Outcome::of_vocabulary(refusal, &known.input).into(),
         Err(refusal) => {
             let detail = manner
                 .explain

@@ -2,6 +2,7 @@
 
 use super::kept::{Seen, Trouble};
 use super::line::{Field, Malformed};
+use crate::cause;
 use crate::input::Input;
 use crate::json::Json;
 use crate::refused;
@@ -104,6 +105,12 @@ impl Outcome {
             Sort::DoesNotHold
         };
         Outcome::new(sort, status, refused::words(input, refusal, None))
+    }
+
+    /// The refusal of a vocabulary, or of a number that a line asks about in it.
+    pub fn of_vocabulary(refusal: Refusal, input: &Input) -> Outcome {
+        let detail = cause::vocabulary_detail(&input.bytes, refusal);
+        Outcome::unfit(refused::words(input, refusal, detail.as_deref()))
     }
 
     /// The refusal of what words ask about.

@@ -4,8 +4,8 @@
 mod tests;
 mod words;
 
-use super::pair::{Answered, Emptiness};
-use super::{compare, read_vocabulary, read_words, within, written, WORDS};
+use super::pair::{Answered, Emptiness, Subject};
+use super::{compare, within, WORDS};
 use crate::console::Console;
 use crate::input::Input;
 use crate::justification::{Others, Search, Set};
@@ -13,7 +13,7 @@ use crate::question::{Questions, Within};
 use crate::refused;
 use crate::report::{Report, Stop, Style};
 use crate::signals;
-use crate::term::{self, Pair};
+use crate::term::Pair;
 use base::arguments::{Arguments, Flag};
 use base::vocabulary::Vocabulary;
 use base::{Failure, Status};
@@ -28,31 +28,27 @@ const ALL: &str = "--all";
 const MOST: u64 = 64;
 
 pub fn run(arguments: &Arguments, console: &mut Console) -> Result<Status, Stop> {
-    let [path, a, b] = arguments.words(["VOCABULARY", "A", "B"])?;
     let most = arguments.has(ALL).then(|| arguments.number(ALL, 1)).transpose()?;
     if most.is_some_and(|most| !(1..=MOST).contains(&most)) {
         return Err(Failure::usage(format!("{ALL} takes a number from 1 to {MOST}")).into());
     }
-    let mut input = read_vocabulary(path, console.style)?;
-    let words = read_words(arguments, console.style)?;
-    input.take_names(words.as_ref());
-    let pair = term::pair(console.style, &mut input, [a, b])?;
+    let subject = Subject::read(arguments, console.style)?;
+    let input = &subject.input;
     let claim = Claim {
-        pair,
+        pair: subject.pair,
         within: arguments.has("--within"),
     };
-    let stop = |halt| claim.stop(halt, console.style, &input);
+    let stop = |halt| claim.stop(halt, console.style, input);
     let mut questions = Questions::new(&input.bytes);
-    let answer = claim.compare(&mut questions).map_err(stop)?;
-    let written = written(&input, words.as_ref())?;
-    let answered = Answered::new(&mut questions, written, pair, answer).map_err(|refusal| stop(refusal.into()))?;
-    let report = claim.report(&answered, console.style, &input)?;
+    let answer = claim.ask(&mut questions).map_err(stop)?;
+    let answered = subject.answered(answer, &questions)?;
+    let report = claim.report(&answered, console.style, input)?;
     if report.status != Status::Holds {
         return Ok(console.answer(report)?);
     }
     let reasons = find(claim, answered.written.vocabulary(), most).map_err(stop)?;
-    let text = words.as_ref().unwrap_or(&input);
-    Ok(console.answer(reasons.report(report, console.style, [&input, text], &answered))?)
+    let text = subject.words.as_ref().unwrap_or(input);
+    Ok(console.answer(reasons.report(report, console.style, [input, text], &answered))?)
 }
 
 /// What is asked of the vocabulary, and of copies with fewer statements on the chain.
@@ -94,10 +90,11 @@ impl Claim {
         }
     }
 
-    /// Whether nothing can belong to the terms.
-    fn emptiness(self, questions: &mut Questions) -> Result<Emptiness, Halt> {
+    /// The same, and whether nothing can belong to the terms.
+    fn ask(self, questions: &mut Questions) -> Result<(Comparison, Emptiness), Halt> {
         let answer = self.compare(questions)?;
-        Ok(Emptiness::ask(questions, self.pair, answer)?)
+        let empty = Emptiness::ask(questions, self.pair, answer)?;
+        Ok((answer, empty))
     }
 
     /// Whether these statements are enough for it.
@@ -164,7 +161,7 @@ fn find(claim: Claim, vocabulary: &Vocabulary, most: Option<u64>) -> Result<Reas
     let justification = |set: Set| {
         let statements = set.numbers();
         let copy = vocabulary.with_chain(&statements).bytes();
-        let empty = claim.emptiness(&mut Questions::new(&copy))?;
+        let (_, empty) = claim.ask(&mut Questions::new(&copy))?;
         Ok(Justification { statements, empty })
     };
     Ok(Reasons {
