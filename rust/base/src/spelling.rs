@@ -1,7 +1,7 @@
 //! What a misspelt word may have meant.
 
 /// Longer words are not looked at.
-const LONGEST: usize = 40;
+const LONGEST: usize = 200;
 /// The most letters by which a word differs from the one that was meant.
 const MOST: usize = 3;
 /// Any greater distance.
@@ -22,16 +22,18 @@ pub fn nearest<'a>(word: &str, candidates: impl IntoIterator<Item = &'a str>) ->
 /// How many letters have to be put in, left out, replaced or swapped with the next to make one word of another. Where these
 /// are too many for it to be meant, some number that is too great, too.
 fn distance(a: &[char], b: &[char]) -> usize {
+    if a.len().abs_diff(b.len()) > MOST {
+        return FAR;
+    }
     let mut before_last = vec![FAR; b.len() + 1];
     let mut last: Vec<usize> = (0..=b.len()).collect();
     let mut row = vec![FAR; b.len() + 1];
     for (i, x) in a.iter().enumerate() {
-        row.fill(FAR);
-        if let Some(first) = row.first_mut() {
-            *first = i + 1;
-        }
         // What is farther from the diagonal takes more letters than may differ.
         let near = i.saturating_sub(MOST)..b.len().min(i + MOST + 1);
+        if let Some(edge) = row.get_mut(near.start) {
+            *edge = if near.start == 0 { i + 1 } else { FAR };
+        }
         for (j, y) in near.clone().zip(b.get(near).unwrap_or_default()) {
             let at = |row: &[usize], place: usize| row.get(place).copied().unwrap_or(FAR);
             let mut least = (at(&last, j) + usize::from(x != y))
@@ -48,7 +50,7 @@ fn distance(a: &[char], b: &[char]) -> usize {
         std::mem::swap(&mut before_last, &mut last);
         std::mem::swap(&mut last, &mut row);
     }
-    last.last().copied().unwrap_or(FAR)
+    last.last().copied().unwrap_or(0)
 }
 
 #[cfg(test)]
@@ -115,7 +117,7 @@ mod tests {
         let (mut state, mut near, mut far) = (0x5eed_u64, 0, 0);
         let mut word = || {
             state = state.wrapping_mul(6_364_136_223_846_793_005).wrapping_add(1);
-            let length = (state >> 60) % 8;
+            let length = (state >> 60) % 9;
             let letter = |place| char::from(b'a' + ((state >> (20 + 2 * place)) % 3) as u8);
             (0..length).map(letter).collect::<Vec<char>>()
         };
