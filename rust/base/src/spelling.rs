@@ -1,7 +1,11 @@
 //! What a misspelt word may have meant.
 
 /// Longer words are not looked at.
-const LONGEST: usize = 40;
+const LONGEST: usize = 200;
+/// The most letters by which a word differs from the one that was meant.
+const MOST: usize = 3;
+/// Any greater distance.
+const FAR: usize = usize::MAX / 2;
 
 /// The candidate that is nearest to a word, if one is so near that it may have been meant.
 pub fn nearest<'a>(word: &str, candidates: impl IntoIterator<Item = &'a str>) -> Option<&'a str> {
@@ -11,18 +15,27 @@ pub fn nearest<'a>(word: &str, candidates: impl IntoIterator<Item = &'a str>) ->
     }
     let far = |candidate: &&str| distance(&letters, &candidate.to_lowercase().chars().collect::<Vec<char>>());
     let nearest = candidates.into_iter().min_by_key(far)?;
-    let most = (letters.len().max(nearest.len()) / 3).clamp(1, 3);
+    let most = (letters.len().max(nearest.len()) / 3).clamp(1, MOST);
     Some(nearest).filter(|nearest| *nearest != word && far(nearest) <= most)
 }
 
-/// How many letters have to be put in, left out, replaced or swapped with the next to make one word of another.
+/// How many letters have to be put in, left out, replaced or swapped with the next to make one word of another. Where these
+/// are too many for it to be meant, some number that is too great, too.
 fn distance(a: &[char], b: &[char]) -> usize {
-    let mut before_last: Vec<usize> = Vec::new();
+    if a.len().abs_diff(b.len()) > MOST {
+        return FAR;
+    }
+    let mut before_last = vec![FAR; b.len() + 1];
     let mut last: Vec<usize> = (0..=b.len()).collect();
+    let mut row = vec![FAR; b.len() + 1];
     for (i, x) in a.iter().enumerate() {
-        let mut row = vec![i + 1];
-        for (j, y) in b.iter().enumerate() {
-            let at = |row: &[usize], place: usize| row.get(place).copied().unwrap_or(usize::MAX / 2);
+        // What is farther from the diagonal takes more letters than may differ.
+        let near = i.saturating_sub(MOST)..b.len().min(i + MOST + 1);
+        if let Some(edge) = row.get_mut(near.start) {
+            *edge = if near.start == 0 { i + 1 } else { FAR };
+        }
+        for (j, y) in near.clone().zip(b.get(near).unwrap_or_default()) {
+            let at = |row: &[usize], place: usize| row.get(place).copied().unwrap_or(FAR);
             let mut least = (at(&last, j) + usize::from(x != y))
                 .min(at(&last, j + 1) + 1)
                 .min(at(&row, j) + 1);
@@ -30,16 +43,19 @@ fn distance(a: &[char], b: &[char]) -> usize {
             if swapped {
                 least = least.min(at(&before_last, j - 1) + 1);
             }
-            row.push(least);
+            if let Some(cell) = row.get_mut(j + 1) {
+                *cell = least;
+            }
         }
-        before_last = std::mem::replace(&mut last, row);
+        std::mem::swap(&mut before_last, &mut last);
+        std::mem::swap(&mut last, &mut row);
     }
     last.last().copied().unwrap_or(0)
 }
 
 #[cfg(test)]
 mod tests {
-    use super::nearest;
+    use super::{distance, nearest, MOST};
 
     const WORDS: [&str; 6] = [
         "check",
@@ -78,5 +94,46 @@ mod tests {
         ] {
             assert_eq!(nearest(word, WORDS), None, "{word}");
         }
+    }
+
+    /// The distance by its definition, from the ends of the words.
+    fn plain(a: &[char], b: &[char]) -> usize {
+        let ([before_a @ .., x], [before_b @ .., y]) = (a, b) else {
+            return a.len().max(b.len());
+        };
+        let mut least = (plain(before_a, before_b) + usize::from(x != y))
+            .min(plain(before_a, b) + 1)
+            .min(plain(a, before_b) + 1);
+        if let ([first_a @ .., w], [first_b @ .., z]) = (before_a, before_b) {
+            if w == y && x == z {
+                least = least.min(plain(first_a, first_b) + 1);
+            }
+        }
+        least
+    }
+
+    #[test]
+    fn the_distance_is_exact_up_to_the_most() {
+        let (mut state, mut near, mut far) = (0x5eed_u64, 0, 0);
+        let mut word = || {
+            state = state.wrapping_mul(6_364_136_223_846_793_005).wrapping_add(1);
+            let length = (state >> 60) % 9;
+            let letter = |place| char::from(b'a' + ((state >> (20 + 2 * place)) % 3) as u8);
+            (0..length).map(letter).collect::<Vec<char>>()
+        };
+        for _ in 0..3_000 {
+            let (a, b) = (word(), word());
+            match (distance(&a, &b), plain(&a, &b)) {
+                (found, wanted) if wanted <= MOST => {
+                    assert_eq!(found, wanted, "{a:?} {b:?}");
+                    near += 1;
+                }
+                (found, _) => {
+                    assert!(found > MOST, "{a:?} {b:?}");
+                    far += 1;
+                }
+            }
+        }
+        assert!(near > 500 && far > 500, "{near} {far}");
     }
 }

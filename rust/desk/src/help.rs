@@ -269,12 +269,14 @@ is not added: of FILE 1 to 8 and 28; 27 if it has 512 records; of the new record
 
 T, A and B are terms: 4 or '#4' is the term of record 4; c7, what c7 is called, or a term written out, stands for the first
 record that says it, as in texts ('desk help texts'). There has to be one: an operand that no record says is not added by
-the way, but told. A role is r0 or 0. Shells take '#' and parentheses for their own where they are not quoted.
+the way, but told. A role is r0, 0 or what it is called. Shells take '#', blanks and parentheses for their own where they
+are not quoted.
 
 Where an earlier record says the same as the new one, that is said. Runs at once on one FILE add one after the other. If
 another program writes to it meanwhile, it stays as that has left it, and nothing is added (73).
 
-exit status: 0 added, 2 refused, or a fault in a text, 66 FILE cannot be read or is a text, 73 FILE cannot be replaced
+exit status: 0 added, 2 refused, or a fault in a text, 66 FILE cannot be read or is a text, 73 FILE, or FILE.names beside
+it, cannot be replaced
 ";
 
 const EDITION: &str = "\
@@ -353,7 +355,9 @@ T is #4, the term of record 4, or a term written out, to a nesting of 16, which 
 says it. If there is none, one is made right before the line: inner terms before outer ones, the left before the right.
 'desk assemble' says how many were made. The number before a line is that of its own record, or of its first statement.
 In a term \"returned sample\" stands for the name, and \"is accompanied by\" for the role, that is called so. In the quotes \\\" is
-a double quote, \\\\ a backslash, \\u{e4} a character by its number.
+a double quote, \\\\ a backslash, \\u{e4} a character by its number. What something is called has 1 to 200 characters, no
+parentheses, control characters or blanks at its ends, does not begin with a double quote, and is no number, label, role or
+word of texts. It is called nothing else, and no other label, or role, is called so.
 
   script #4 within #3             the header: the query, by records of the vocabulary
   a, f6(T)                        the constant, which has to be record 1; the function of record 6 of the vocabulary
@@ -427,8 +431,9 @@ Refusals: the first in the table's order is given, with the place where it appli
     page.push_str(
         "
 1 to 8 are of vocabularies and of what is added to them, 28, after 8, of the header of edition 2, 9 of 'record', 10 of the
-terms asked about, 11 and 12 of 'compare' and 'classify', 26 of 'classify', 27 of 'add', 13 to 19 of the form of scripts
-(status 2), 20 to 25 of the chain of steps (status 1). docs/FORMATS.md has the formats and each rule in full.
+terms asked about, 11 and 12 of 'compare' and 'classify', 26 of 'classify', 27 of 'add' and of terms that are added for a
+question, 13 to 19 of the form of scripts (status 2), 20 to 25 of the chain of steps (status 1). docs/FORMATS.md has the
+formats and each rule in full.
 ",
     );
     page

@@ -1,7 +1,7 @@
 //! Vocabularies and scripts, from their bytes or from their texts.
 
 use crate::beside::{self, Beside};
-use crate::display::counted;
+use crate::display::{counted, grouped};
 use crate::files::{self, Access, FileId, Length, Name, Opened, Source};
 use crate::finding::{Finding, Ground, Spot};
 use crate::json::Json;
@@ -165,8 +165,10 @@ impl Input {
     /// What is known of the input beside a refusal: its length, and what may have been mistaken for it.
     pub fn hint(&self, refusal: Refusal) -> String {
         let number = refusal.rule.number();
-        let size = match number {
-            1 | 13 => format!("; {}", self.length),
+        let size = match (number, &self.lines) {
+            (1, Some(lines)) => self.too_many(lines.len(), judge::RECORDS),
+            (13, Some(lines)) => self.too_many(lines.len(), judge::SCRIPT_RECORDS),
+            (1 | 13, None) => format!("; {}", self.length),
             _ => String::new(),
         };
         let begins = match (self.bytes.as_slice(), number) {
@@ -175,6 +177,16 @@ impl Input {
             _ => "",
         };
         format!("{size}{begins}")
+    }
+
+    /// What is said of a text that makes more records than a file may have.
+    fn too_many(&self, records: usize, most: usize) -> String {
+        let made = match self.made().len() {
+            0 => String::new(),
+            made => format!(", {} of them for terms that no line says", grouped(made as u64)),
+        };
+        let (records, most) = (counted(records as u64, "record"), grouped(most as u64));
+        format!("; the text makes {records}{made}, and {most} is the most")
     }
 }
 

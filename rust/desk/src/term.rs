@@ -4,7 +4,7 @@
 mod tests;
 
 use crate::cause;
-use crate::display::{counted, plain};
+use crate::display::counted;
 use crate::input::Input;
 use crate::json::Json;
 use crate::refused;
@@ -197,7 +197,7 @@ fn stopped(style: Style, input: &Input, words: [(&str, &str); 2], unasked: Unask
 }
 
 fn no_term(name: &str, word: &str, meant: &str) -> Failure {
-    Failure::usage(format!("{name} is {FORMS}, and '{}' is none{meant}", plain(word)))
+    Failure::usage(format!("{name} is {FORMS}, and {} is none{meant}", quoted(word)))
 }
 
 /// Faults with the word that they are of.
