@@ -61,8 +61,7 @@ impl Written {
         };
         for number in 0..written.operands.len() {
             // What is not written out by its labels is not by its names, so that both have the same parts.
-            let is_out = written.operands.get(number).is_some_and(|text| !text.starts_with('#'));
-            let reading = written.reading(number).filter(|_| is_out);
+            let reading = written.reading(number).filter(|_| written.is_written_out(number));
             written.readings.push(reading);
         }
         written
@@ -96,6 +95,11 @@ impl Written {
             return None;
         }
         self.expression(number).filter(|text| text.len() <= WRITTEN_OUT)
+    }
+
+    /// Whether a term is written out as an operand, and not named by its number.
+    pub fn is_written_out(&self, number: usize) -> bool {
+        self.operands.get(number).is_some_and(|text| !text.starts_with('#'))
     }
 
     /// Whether people call some record, or some name or role, something.

@@ -134,13 +134,15 @@ impl Listed<'_> {
         text
     }
 
-    /// The line of a statement, and what its terms are called.
+    /// The line of a statement; and its terms, where they are called something or the line has but their numbers.
     fn line(&self, number: u16) -> String {
         let place = self.text.line_of(number.into());
         let place = place.map_or_else(String::new, |place| format!("{}: ", self.text.at(Some(place))));
         let mut text = format!("  {place}{number}: {}\n", self.written.called(number));
         if let Some(Saying::Within(a, b)) = self.written.vocabulary().get(number.into()).saying() {
-            if [a, b].iter().any(|term| self.written.words(*term).is_some()) {
+            let says_more =
+                |term: &u16| self.written.words(*term).is_some() || !self.written.is_written_out((*term).into());
+            if [a, b].iter().any(says_more) {
                 let [a, b] = [a, b].map(|term| self.written.called(term));
                 text.push_str(&format!("    {a} lies within {b}\n"));
             }
