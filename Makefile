@@ -108,7 +108,7 @@ install: all
 	$(INSTALL_DATA) completions/desk.bash "$(DESTDIR)$(BASHDIR)/desk"
 	$(INSTALL_DATA) completions/_desk "$(DESTDIR)$(ZSHDIR)/_desk"
 	$(INSTALL_DATA) completions/desk.fish "$(DESTDIR)$(FISHDIR)/desk.fish"
-	$(INSTALL_DATA) docs/DESK.md docs/FORMATS.md "$(DESTDIR)$(DOCDIR)"
+	$(INSTALL_DATA) docs/DESK.md docs/FORMATS.md docs/counter-model.svg "$(DESTDIR)$(DOCDIR)"
 	for file in $(VIM); do \
 		$(INSTALL) -d "$(DESTDIR)$(VIMDIR)/$${file%/*}" && \
 		$(INSTALL_DATA) "editors/vim/$$file" "$(DESTDIR)$(VIMDIR)/$$file" || exit; \
@@ -121,7 +121,8 @@ uninstall:
 		"$(DESTDIR)$(LIBDIR)/$(SONAME)" "$(DESTDIR)$(LIBDIR)/libjudge.so" "$(DESTDIR)$(INCLUDEDIR)/judge.h" \
 		"$(DESTDIR)$(PKGCONFIGDIR)/judge.pc" "$(DESTDIR)$(MANDIR)/man1/desk.1" "$(DESTDIR)$(MANDIR)/man3/judge.3" \
 		"$(DESTDIR)$(BASHDIR)/desk" "$(DESTDIR)$(ZSHDIR)/_desk" "$(DESTDIR)$(FISHDIR)/desk.fish" \
-		"$(DESTDIR)$(DOCDIR)/DESK.md" "$(DESTDIR)$(DOCDIR)/FORMATS.md"
+		"$(DESTDIR)$(DOCDIR)/DESK.md" "$(DESTDIR)$(DOCDIR)/FORMATS.md" \
+		"$(DESTDIR)$(DOCDIR)/counter-model.svg"
 	@for file in $(VIM); do \
 		rm -f "$(DESTDIR)$(VIMDIR)/$$file" && \
 		{ rmdir "$(DESTDIR)$(VIMDIR)/$${file%/*}" 2> /dev/null || :; }; \

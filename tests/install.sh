@@ -60,6 +60,7 @@ lib/pkgconfig/judge.pc 644
 share/bash-completion/completions/desk 644
 share/doc/judge/DESK.md 644
 share/doc/judge/FORMATS.md 644
+share/doc/judge/counter-model.svg 644
 share/fish/vendor_completions.d/desk.fish 644
 share/man/man1/desk.1 644
 share/man/man3/judge.3 644

@@ -127,7 +127,7 @@ fn each_sort_of_line_is_told_with_its_place() {
          t:11:1: short.vocabulary 1 1 equal\n  refused, 1: the vocabulary's length is under 8, over 4,096 or no multiple \
          of 8; it has 2 bytes\n\
          t:12:1: v.text 4 3 within v.text\n  v.text: is the text of a vocabulary, and a script is needed\n\
-         t:13:10: v.text 4 x equal\n  'x' is no term; A and B are each a record's number, a name or the text of a term\n\
+         t:13:10: v.text 4 x equal\n  'x' is no term; A and B are each a record's number, a name or the text of a term; no names are given for this vocabulary\n\
          t:14:19: v.text 4 3 within nowhere.script\n  nowhere.script: there is no such file\n\
          t:15:2: -  4 3 equal\n  ./-: there is no such file\n{}",
         summary([2, 13, 0, 4, 4, 1, 2])

@@ -52,6 +52,9 @@ impl Words<'_> {
     /// What people call a name that a word may mean, to go behind a message.
     fn meant(&self, word: &str) -> String {
         let word = word.trim();
+        if self.names.is_empty() && word.starts_with(char::is_alphabetic) && !word.contains('(') {
+            return "; no names are given for this vocabulary".to_string();
+        }
         plain(&did_you_mean(word, self.names.meant(Sort::Name, word)))
     }
 
