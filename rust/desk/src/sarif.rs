@@ -178,7 +178,7 @@ mod tests {
             (b"a:b?c#d%e.text", "a%3Ab%3Fc%23d%25e.text"),
             ("gr\u{fc}n.text".as_bytes(), "gr%C3%BCn.text"),
             (b"\xff\n", "%FF%0A"),
-            (b"/tmp/a b", "file:///tmp/a%20b"),
+            (b"/a b/c.text", "file:///a%20b/c.text"),
             (b"-", "stdin:"),
             (b"./-", "./-"),
         ] {
