@@ -2,23 +2,25 @@
 -- Rows 26 to 28 are paper 02's.
 -- "Every refusal gives number and place and leaves all lent memory untouched. The first that applies in table order is given
 -- and never otherwise."
-use Prim.Native.Nat.{ℕ, zero, suc, _+_, _-_}
+use Prim.Native.Nat.{ℕ, zero, suc, _+_, _-_, _%_}
 use mathlib.Core.Path.{_≡_}
-use mathlib.Core.Bool.{Bool, true, false, not, _&&_}
+use mathlib.Core.Bool.{Bool, true, false, not, _&&_, _||_}
 use mathlib.Core.List.{List, [], _∷_, _++_}
 use lib.ListN.{length, take}
-use lib.Dec.{ltb, leb}
+use lib.Dec.{ltb, leb, eqb}
 use Rattle.records.specs.Outcome.{Outcome, accepted, refused}
 use Rattle.records.specs.Format.{recordAt, count, firstStatement}
 use Rattle.records.specs.Kinds.{sortsOf, isTerm}
-use Rattle.records.specs.Check.{lengthFits, headerFits, kindFits, rowFits, linkFits, nextFits, heldFits}
+use Rattle.records.specs.Check.{kindFits, rowFits, linkFits, nextFits, heldFits}
 use Rattle.records.specs.Atoms.{atoms}
 use Rattle.writer.specs.Additions.{Addition, grown}
 use Rattle.writer.specs.Calls.{isAddable}
 use Rattle.columns.specs.Literals.{SkolemTerm, Literal}
 use Rattle.scripts.specs.Format.{entryAt, entries, queryOf, firstStep, lineOf, chain}
 use Rattle.scripts.specs.Form as script
-use Rattle.scripts.specs.Run.{Frames, isStart, connects, reduces, hasRoom, stepped, writtenOut, stepAt}
+use Rattle.scripts.specs.Steps.{Step, start, extension, reduction}
+use Rattle.scripts.specs.Calculus.{remainder}
+use Rattle.scripts.specs.Run.{Frames, isStart, connects, reduces, stepped, writtenOut, stepAt}
 use Rattle.records.specs.Finite.{isNil}
 
 pub record Row : Type 0 where
@@ -38,12 +40,14 @@ rowsInTurn rows i (suc n) = rows i ++ rowsInTurn rows (suc i) n
 
 -- | Vocabulary length | 1 | under 8, over 4,096 or no multiple of 8 | 0 |
 abbrev pub lengthRow : List ℕ → Row
-lengthRow v = row 1 0 (not (lengthFits v))
+lengthRow v = row 1 0 (not (leb 8 (length v) && (leb (length v) 4096 && eqb (length v % 8) 0)))
 
 -- | Its header | 2 | kind, second byte, role count or next | 0 |
 -- Slip 5 of paper 02: "Refusal 2 admits the new second byte with any next."
 abbrev pub headerRow : List ℕ → Row
-headerRow v = row 2 0 (not (headerFits (recordAt v 0)))
+headerRow v =
+    let r = recordAt v 0 in
+    row 2 0 (not (eqb (r .kind) 16 && (leb (r .b) 64 && (eqb (r .second) 2 || (eqb (r .second) 1 && eqb (r .next) 0)))))
 
 -- | Each record in turn | 3 | kind not 1 to 9, or second byte | record |
 -- | | 4 | unused field not zero | record |
@@ -111,7 +115,7 @@ addableRow v x = row 3 (count v) (not (isAddable x))
 
 -- | Script length, after 1 to 8 | 13 | under 16, over 32,768 or no multiple of 16 | 0 |
 abbrev pub scriptLengthRow : List ℕ → Row
-scriptLengthRow s = row 13 0 (not (script.lengthFits s))
+scriptLengthRow s = row 13 0 (not (leb 16 (length s) && (leb (length s) 32768 && eqb (length s % 16) 0)))
 
 -- | Script header, then 10 | 14 | w0, or w4 to w7 | 0 |
 abbrev pub scriptHeaderRow : List ℕ → Row
@@ -144,6 +148,12 @@ nextStepRows s i = row 19 i (not (script.nextFits s i)) ∷ []
 
 -- Along the chain of a script, the steps are read and the frames kept as Run of scripts says.
 module _ (v s : List ℕ) where
+  -- The step opens a frame: "the column's other literals become the next frame, or, if there are none, the goal is closed".
+  abbrev pub opensFrame : Step SkolemTerm → Bool
+  opensFrame (start n) = false
+  opensFrame (extension e) = not (isNil (remainder v (queryOf s) e))
+  opensFrame (reduction f) = false
+
   abbrev pub OpenFrames : Type 0
   OpenFrames = Frames (Literal SkolemTerm)
 
@@ -162,7 +172,7 @@ module _ (v s : List ℕ) where
       ∷ row 20 i (isStart (stepAt s i))
       ∷ row 21 i (not (connects (writtenOut v (queryOf s)) frames (stepAt s i)))
       ∷ row 22 i (not (reduces (writtenOut v (queryOf s)) frames (stepAt s i)))
-      ∷ row 23 i (not (hasRoom (writtenOut v (queryOf s)) frames (stepAt s i)))
+      ∷ row 23 i (opensFrame (stepAt s i) && not (ltb (length frames) 64))
       ∷ []
 
   -- "Along the chain the five are tried at each step before the next."

@@ -7,7 +7,7 @@
 -- Assumes nothing.
 use Prim.Native.Nat.{ℕ, _+_, _*_, _-_}
 use mathlib.Core.Path.{_≡_, refl, sym, ap, _∙_}
-use mathlib.Core.Bool.{_&&_}
+use mathlib.Core.Bool.{Bool, true, false, not, _&&_, _||_}
 use mathlib.Core.List.{List, [], _∷_}
 use lib.ListN.{length, take}
 use lib.Dec.{ltb, leb}
@@ -25,15 +25,18 @@ use Rattle.types.specs.Comparison.{verdict, counts, termCheck, atomsCheck, lent
 use Rattle.types.specs.Comparison.{atomLimit, bitmapBytes, comparison}
 use Rattle.taxonomy.specs.Taxonomy.{taxonomyBytes, tableCheck, classification}
 use Rattle.scripts.specs.Format.{entryAt, entries, queryOf, firstStep, lineOf, chain}
+use Rattle.columns.specs.Literals.{SkolemTerm}
 use Rattle.scripts.specs.Form as script
+use Rattle.scripts.specs.Steps.{Step, start, extension, reduction}
+use Rattle.scripts.specs.Calculus.{remainder}
 use Rattle.records.specs.Finite.{isNil}
 use Rattle.scripts.specs.Run.{isStart, connects, reduces, hasRoom, stepCheck, run, chainCheck, writtenOut, stepAt, scriptCheck}
-use Rattle.records.proofs.Laws.Checks.{then-assoc}
+use Rattle.records.proofs.Laws.Checks.{then-pass, then-assoc}
 use Rattle.records.proofs.Theorems.Accepted.{vocabulary-then}
-use Rattle.demands.specs.Table.{Row, Follows, recordRows, nextRows, recordsTable, vocabularyTable, recordTable, termRow}
+use Rattle.demands.specs.Table.{Row, row, Follows, recordRows, nextRows, recordsTable, vocabularyTable, recordTable, termRow}
 use Rattle.demands.specs.Table.{makingTable, additionTable}
 use Rattle.demands.specs.Table.{comparisonTable, classificationTable, entryRows, nextStepRows, formTable, OpenFrames}
-use Rattle.demands.specs.Table.{framesAfter, stepRows, laterRows, chainTable, scriptTable, TermOf, InForm}
+use Rattle.demands.specs.Table.{opensFrame, framesAfter, stepRows, laterRows, chainTable, scriptTable, TermOf, InForm}
 use Rattle.demands.proofs.Laws.Rows.{none-passed, row-passed, Tries, follows, tries-append, tries-row, tries-plain}
 use Rattle.demands.proofs.Laws.Rows.{tries-last, tries-in-turn}
 
@@ -146,6 +149,24 @@ module _ (v s : List ℕ) where
   pub form-passed : InForm v s → script.formCheck v s ≡ pass
   form-passed kept = sym (tries-form .same) ∙ none-passed (formTable v s) kept
 
+  -- row 23 as the run has it
+  room-frame : (frames : OpenFrames v s) (step : Step SkolemTerm)
+      → not (opensFrame v s step && not (ltb (length frames) 64)) ≡ hasRoom (writtenOut v (queryOf s)) frames step
+  room-frame frames (start n) = refl
+  room-frame frames (extension e) = at (isNil (remainder v (queryOf s) e)) (ltb (length frames) 64)
+    where
+      at : (b c : Bool) → not (not b && not c) ≡ (b || c)
+      at true c = refl
+      at false true = refl
+      at false false = refl
+  room-frame frames (reduction f) = refl
+
+  tries-room : (frames : OpenFrames v s) (step : Step SkolemTerm) (i : ℕ)
+      → Tries (row 23 i (opensFrame v s step && not (ltb (length frames) 64)) ∷ [])
+      (require (hasRoom (writtenOut v (queryOf s)) frames step) 23 i)
+  tries-room frames step i =
+      record { same = then-pass _ ∙ ap (λ (b : Bool). require b 23 i) (room-frame frames step) }
+
   tries-step : (frames : OpenFrames v s) (i : ℕ)
       → Tries (stepRows v s frames i) (stepCheck (writtenOut v (queryOf s)) i frames (stepAt s i))
   unfolding stepCheck
@@ -154,7 +175,7 @@ module _ (v s : List ℕ) where
       tries-plain (isNil frames) 25 i
       (tries-plain (isStart (stepAt s i)) 20 i
       (tries-row (connects paper frames (stepAt s i)) 21 i
-      (tries-row (reduces paper frames (stepAt s i)) 22 i (tries-last (hasRoom paper frames (stepAt s i)) 23 i))))
+      (tries-row (reduces paper frames (stepAt s i)) 22 i (tries-room frames (stepAt s i) i))))
 
   tries-later : (is : List ℕ) (frames : OpenFrames v s) (last : ℕ)
       → Tries (laterRows v s frames last is) (run (writtenOut v (queryOf s)) (stepAt s) frames last is)
