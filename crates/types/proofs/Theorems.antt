@@ -4,7 +4,7 @@ pub mod Witnesses
 pub mod Survivors
 mod ElementTypes
 mod CanonicalModel
-mod ReadBack
+pub mod ReadBack
 pub mod Inclusions
 pub mod Verdicts
 pub mod Comparison

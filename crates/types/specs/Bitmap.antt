@@ -1,11 +1,12 @@
 -- The bitmap in which the survivors are written, and the interpretation read back from it.
 use Prim.Native.Nat.{ℕ, _+_, _*_, _/_, _%_}
-use mathlib.Core.Bool.{Bool}
+use mathlib.Core.Path.{_≡_}
+use mathlib.Core.Bool.{Bool, true}
 use mathlib.Core.List.{List, _++_}
 use lib.ListN.{getD, drop}
 use Rattle.records.specs.Outcome.{Outcome, accepted, refused}
 use Rattle.records.specs.Finite.{table, has, bit, number}
-use Rattle.types.specs.Meaning.{Interpretation}
+use Rattle.types.specs.Meaning.{Interpretation, Element, Model}
 use Rattle.types.specs.Types.{truth, allowed}
 use Rattle.types.specs.Survivors.{survivors}
 use Rattle.types.specs.Comparison.{bitmapBytes}
@@ -33,3 +34,10 @@ readBack v bytes =
       names = λ i t. truth v t i;
       roles = allowed v;
     }
+
+-- The survivors "are the interpretation written": they are the elements of what is read back from these bytes, and where there
+-- is one, it is a finite interpretation that satisfies the statements ("with no bit set there is no interpretation").
+pub record HoldsSurvivors (v bytes : List ℕ) : Type 0 where
+  pub only : (t : ℕ) → Element (readBack v bytes) t → has (survivors v) t ≡ true
+  pub every : (t : ℕ) → has (survivors v) t ≡ true → Element (readBack v bytes) t
+  pub model : (t : ℕ) → Element (readBack v bytes) t → Model (readBack v bytes) v

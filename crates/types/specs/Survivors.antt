@@ -1,6 +1,7 @@
 -- Type elimination: rounds, and the survivors.
-use Prim.Native.Nat.{ℕ, zero, suc}
-use mathlib.Core.Bool.{Bool, not, _&&_, _||_}
+use Prim.Native.Nat.{ℕ, zero, suc, _<_}
+use mathlib.Core.Path.{_≡_}
+use mathlib.Core.Bool.{Bool, true, not, _&&_, _||_}
 use mathlib.Core.List.{List}
 use Rattle.records.specs.Format.{count}
 use Rattle.records.specs.Finite.{anyBelow, allBelow, least, table, has}
@@ -28,7 +29,17 @@ stage v (suc n) = round v (stage v n)
 unfoldable pub rounds : List ℕ → ℕ
 rounds v = least (λ n. not (removes v (stage v n))) (types v)
 
--- Survivors, as the paper calls what the rounds leave; that they are the largest set of types at which all statements
--- hold and which serves each of its members is proved (proofs/Theorems/Survivors.antt).
+-- Survivors, as the paper calls what the rounds leave.
 unfoldable pub survivors : List ℕ → List Bool
 survivors v = stage v (rounds v)
+
+-- A "set of types at which all statements hold and which serves each of its members"
+pub record Serving (v : List ℕ) (S : List Bool) : Type 0 where
+  pub small : (t : ℕ) → has S t ≡ true → t < types v
+  pub fit : (t : ℕ) → has S t ≡ true → satisfies v t ≡ true
+  pub serves : (t : ℕ) → has S t ≡ true → served v S t ≡ true
+
+-- "the largest set" of that sort: every other lies within it
+pub record Largest (v : List ℕ) (S : List Bool) : Type 0 where
+  pub serving : Serving v S
+  pub holds-all : (R : List Bool) → Serving v R → (t : ℕ) → has R t ≡ true → has S t ≡ true

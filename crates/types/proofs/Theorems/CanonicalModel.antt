@@ -21,13 +21,12 @@ use Rattle.records.specs.Finite.{has}
 use Rattle.types.specs.Meaning.{Interpretation, Element, Restriction, some, all, plain, restrictionAt, belongs, atomAt}
 use Rattle.types.specs.Meaning.{Within, Model}
 use Rattle.types.specs.Types.{truth, allowed, served}
-use Rattle.types.specs.Survivors.{satisfies}
+use Rattle.types.specs.Survivors.{satisfies, Serving}
 use Rattle.records.proofs.Laws.Below.{all-at}
 use Rattle.types.proofs.Theorems.Truth.{evaluate-cong, some-earlier, all-earlier, truth-eq, belongs-eq, truth-atom}
 use Rattle.types.proofs.Theorems.Truth.{truth-statement}
 use Rattle.types.proofs.Theorems.Witnesses.{Pair, some-holds, some-gives, all-holds, all-gives, some-allows, all-allows}
 use Rattle.types.proofs.Theorems.Witnesses.{some-met, all-met}
-use Rattle.types.proofs.Theorems.Survivors.{Serving}
 
 pub record Canonical (v : List ℕ) (S : List Bool) (I : Interpretation) : Type 0 where
   pub inside : (t : ℕ) → has S t ≡ true → Element I t

@@ -1,6 +1,6 @@
 -- The comparison's answer is right wherever it answers: demand 3, as far as this crate goes.
 --   equal-exactly       Equal is answered exactly where the two terms are equal in every model
---   written-survivors   the survivors are the elements of the interpretation written, a model if there is one
+--   written-survivors   the bytes written hold the survivors
 --   different-shown     with Different, it is a model in which the element named belongs to one of the two terms alone
 --   different-first     that element is the smallest survivor at which they differ
 --   Tally, tally        the numbers of survivors and of rounds
@@ -21,11 +21,11 @@ use Rattle.types.specs.Survivors.{rounds, survivors}
 use Rattle.types.specs.Comparison.{Verdict, equal, different, distinguishes, firstDistinguishing, bitmapBytes, comparison}
 use Rattle.types.specs.Comparison.{counts}
 use Rattle.types.specs.declared.answers.Counts.{Counts}
-use Rattle.types.specs.Bitmap.{written, readBack}
+use Rattle.types.specs.Bitmap.{written, readBack, HoldsSurvivors}
 use Rattle.records.proofs.Laws.Below.{least-holds}
 use Rattle.records.proofs.Laws.Sets.{members-zero}
 use Rattle.types.proofs.Theorems.Survivors.{rounds-bound}
-use Rattle.types.proofs.Theorems.ReadBack.{readBack-canonical, read-model}
+use Rattle.types.proofs.Theorems.ReadBack.{bitmap-holds}
 use Rattle.types.proofs.Theorems.Verdicts.{Answered, answered, Decided, same, apart, decided, named-first}
 use Rattle.types.proofs.Theorems.Verdicts.{distinguishes-survivor, distinguishes-differ, indistinct-same}
 use Rattle.types.proofs.Theorems.Verdicts.{indistinct-equal, distinguishes-shown, distinguishes-unequal}
@@ -56,16 +56,12 @@ module _ (v : List ℕ) (a b lent : ℕ) where
         λ always. absurd (distinguishes-unequal v (c .good) a b (c .few) l always),
       )
 
-  -- "They .. are the interpretation written, with either answer": its elements are the survivors, and if there is one, it
-  -- satisfies the statements.
-  pub written-survivors : (x : Verdict) → comparison v a b lent ≡ accepted x → (out : List ℕ) (t : ℕ)
-      → let I = readBack v (written (comparison v a b lent) v out) in
-      (Element I t → has (survivors v) t ≡ true) × (has (survivors v) t ≡ true → Element I t × Model I v)
-  written-survivors x e out t =
+  -- "They .. are the interpretation written, with either answer"
+  pub written-survivors : (x : Verdict) → comparison v a b lent ≡ accepted x → (out : List ℕ)
+      → HoldsSurvivors v (written (comparison v a b lent) v out)
+  written-survivors x e out =
       let c = answered v a b lent x e in
-      let rest = drop bitmapBytes out in
-      let canonical = readBack-canonical v rest (c .few) in
-      rw e (canonical .only t, λ h. (canonical .inside t h, read-model v (c .good) (c .few) rest t h))
+      rw e (bitmap-holds v (c .good) (c .few) (drop bitmapBytes out))
 
   -- "It is read back from these bytes and the vocabulary alone", "The element that Different names is the t it carries.": with
   -- Different, it satisfies the statements, and the element named belongs to one of the two terms alone.

@@ -4,6 +4,7 @@
 --   readBack-canonical   the interpretation read back is the canonical one of the survivors
 --   read-agrees          its elements belong to the terms true at them
 --   read-model           it satisfies the statements, if there is a survivor
+--   bitmap-holds         so the bitmap holds the survivors
 -- Assumes nothing.
 use Prim.Native.Nat.{ℕ, _+_, _*_, _/_, _%_, _≤_, _<_}
 use native.Mathlib.Omega.{arith}
@@ -19,7 +20,7 @@ use Rattle.types.specs.Meaning.{belongs, Model}
 use Rattle.types.specs.Types.{truth}
 use Rattle.types.specs.Survivors.{survivors}
 use Rattle.types.specs.Comparison.{atomLimit, bitmapBytes}
-use Rattle.types.specs.Bitmap.{byteOf, bitmap, readBack}
+use Rattle.types.specs.Bitmap.{byteOf, bitmap, readBack, HoldsSurvivors}
 use Rattle.records.proofs.Laws.Sets.{length-table, table-at}
 use Rattle.records.proofs.Laws.Bits.{bit-number}
 use Rattle.types.proofs.Theorems.Survivors.{survivors-serving}
@@ -61,3 +62,8 @@ module _ (v : List ℕ) (good : AcceptedFacts v) (few : atoms v ≤ atomLimit) (
   pub read-model : (t : ℕ) → has (survivors v) t ≡ true → Model (readBack v (bitmap v ++ rest)) v
   read-model = canonical-model v good (survivors v) (survivors-serving v) (readBack v (bitmap v ++ rest))
       (readBack-canonical v rest few)
+
+  pub bitmap-holds : HoldsSurvivors v (bitmap v ++ rest)
+  bitmap-holds =
+      let canonical = readBack-canonical v rest few in
+      record { only = canonical .only; every = canonical .inside; model = λ t e. read-model t (canonical .only t e) }

@@ -8,8 +8,7 @@
 --   rounds-bound, rounds-end               the rounds are at most 2^k, and the last leaves nothing to remove
 --   rounds-before, rounds-is               which number of rounds it is
 --   survivors-few                          there are no more survivors than types
---   Serving                                a set of types at which all statements hold, and which serves each of its members
---   survivors-serving, survivors-largest   the survivors are one, and the largest
+--   survivors-serving, survivors-largest   the survivors are such a set, and the largest
 -- Assumes nothing.
 use Prim.Native.Nat.{ℕ, zero, suc, _+_, _*_, _%_, _^_, _≤_, _<_}
 use native.Mathlib.Omega.{arith}
@@ -28,7 +27,7 @@ use Rattle.records.proofs.Laws.Search.{any-at, any-elim, any-none}
 use Rattle.records.specs.Finite.{table, has, members, least}
 use Rattle.types.specs.Meaning.{Restriction, some, all, plain, restrictionAt}
 use Rattle.types.specs.Types.{types, truth, witnessed, met, served}
-use Rattle.types.specs.Survivors.{satisfies, round, removes, stage, rounds, survivors}
+use Rattle.types.specs.Survivors.{satisfies, round, removes, stage, rounds, survivors, Serving, Largest}
 use Rattle.types.specs.Comparison.{atomLimit, typeLimit}
 use Rattle.types.proofs.Theorems.Witnesses.{witness-holds, witness-gives}
 use Rattle.records.proofs.Laws.Below.{all-intro, all-at, least-bound, least-holds, least-before, least-is, least-end}
@@ -154,12 +153,6 @@ module _ (v : List ℕ) where
           let same : n ≡ types v = omega (arith, stage-falls n before) in
           same ∙ sym (least-end (types v) (rests v) (λ m h. ap not (before m (omega arith))))
 
--- A "set of types at which all statements hold and which serves each of its members".
-pub record Serving (v : List ℕ) (S : List Bool) : Type 0 where
-  pub small : (t : ℕ) → has S t ≡ true → t < types v
-  pub fit : (t : ℕ) → has S t ≡ true → satisfies v t ≡ true
-  pub serves : (t : ℕ) → has S t ≡ true → served v S t ≡ true
-
 module _ (v : List ℕ) where
   stage-fit : (n t : ℕ) → has (stage v n) t ≡ true → (t < types v) × (satisfies v t ≡ true)
   unfolding stage
@@ -181,13 +174,16 @@ module _ (v : List ℕ) where
         serves = λ t h. rest-serves (survivors v) (rounds-end v) t (stage-fit (rounds v) t h .0) h;
       }
 
-  pub survivors-largest : (S : List Bool) → Serving v S → Within S (survivors v)
+  serving-survives : (R : List Bool) → Serving v R → Within R (survivors v)
   unfolding stage survivors
-  survivors-largest S set =
-      stage-keeps v (Within S)
-      (λ R more t h. table-has (types v) (stays v R) t (set .small t h)
-      (both-true (has R t) (served v R t) (more t h) (served-more v S R more t (set .serves t h))))
+  serving-survives R set =
+      stage-keeps v (Within R)
+      (λ S more t h. table-has (types v) (stays v S) t (set .small t h)
+      (both-true (has S t) (served v S t) (more t h) (served-more v R S more t (set .serves t h))))
       (λ t h. table-has (types v) (satisfies v) t (set .small t h) (set .fit t h)) (rounds v)
+
+  pub survivors-largest : Largest v (survivors v)
+  survivors-largest = record { serving = survivors-serving; holds-all = serving-survives }
 
 -- There are no more survivors than types.
 pub survivors-few : (v : List ℕ) → members (survivors v) ≤ types v
