@@ -26,6 +26,11 @@ chain v = chainFrom v (firstStatement v)
 abbrev pub chained : List ℕ → ℕ → Bool
 chained v i = occurs i (chain v)
 
+-- Record i is a statement of the vocabulary, as the crates above ask: "The statements of a vocabulary, here and in the demands,
+-- are those on the chain."
+abbrev pub inForce : List ℕ → ℕ → Bool
+inForce v i = chained v i
+
 -- the last statement on the chain; the header, record 0, where there is none
 abbrev pub chainEnd : List ℕ → ℕ
 chainEnd v = lastOr 0 (chain v)

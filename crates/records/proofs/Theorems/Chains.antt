@@ -3,6 +3,7 @@
 --   chain-ends        followed as far as one likes it is the chain
 --   chain-rises       each statement is after the one before
 --   chain-statement   what is on the chain is a statement
+--   force-statement   so is what is in force
 --   linked-here, linked-next, walk-falls   a walk along the chain: where it stands, where it goes, and that it ends
 --   end-nil, end-step                      the last statement of what is left of it
 --   end-statement                          the end of a chain that is not empty is a statement
@@ -17,7 +18,7 @@ use lib.Dec.{eqb}
 use borrow.Author.Tests.{eq-eqb}
 use Rattle.records.specs.Format.{recordAt, count, firstStatement}
 use Rattle.records.specs.Finite.{occurs, lastOr}
-use Rattle.records.specs.Chain.{nextStatement, follow, chainFrom, chain, chained, chainEnd}
+use Rattle.records.specs.Chain.{nextStatement, follow, chainFrom, chain, chained, inForce, chainEnd}
 use Rattle.records.proofs.Theorems.Accepted.{AcceptedFacts, IsStatement, Later, Linked}
 use Rattle.records.proofs.Theorems.Following.{Rising, follow-step, follow-ends, follow-rises, follow-target}
 use Rattle.records.proofs.Theorems.Following.{follow-nil, left, left-falls, onward-from}
@@ -47,6 +48,9 @@ module _ (v : List ℕ) (good : AcceptedFacts v) where
   pub chain-statement : (j : ℕ) → chained v j ≡ true → Later v 0 j
   chain-statement j o =
       follow-target (nextStatement v) (IsStatement v) (count v) (good .rises) (count v) 0 (firstStatement v) j (good .first) o
+
+  pub force-statement : (i : ℕ) → inForce v i ≡ true → Later v 0 i
+  force-statement i f = chain-statement i f
 
   -- the statement that a walk stands at
   pub linked-here : (at : ℕ) → Linked v 0 at → (at ≡ 0 → ⊥) → Later v 0 at
