@@ -6,7 +6,7 @@ use lib.ListN.{getD}
 use Rattle.records.specs.Format.{recordAt}
 use Rattle.records.specs.Kinds.{Construct, none, top, bottom, name, negation, conjunction, disjunction, existential, universal}
 use Rattle.records.specs.Kinds.{inclusion, constructOf, isStatement}
-use Rattle.records.specs.Chain.{chained}
+use Rattle.records.specs.Chain.{inForce}
 use Rattle.columns.specs.Literals.{SkolemTerm, constant, apply, Literal, concept, role, substitute}
 
 -- What a column speaks of: x, y, fi(x) with its owner's function, and a.
@@ -59,9 +59,9 @@ within m n = record { a = m; b = n }
 abbrev pub queryColumns : Query → List Column
 queryColumns q = (isNot (q .a) a ∷ []) ∷ (is (q .b) a ∷ []) ∷ []
 
--- Whether record i may have columns: a term always, a statement if it is chained ("9, chained").
+-- Whether record i may have columns: a term always, a statement in force ("9, chained").
 abbrev pub states : List ℕ → ℕ → Bool
-states v i = not (isStatement (recordAt v i .kind)) || chained v i
+states v i = not (isStatement (recordAt v i .kind)) || inForce v i
 
 -- "An owner's columns are numbered from 0 as listed."
 unfoldable pub columnsAt : List ℕ → Query → ℕ → List Column

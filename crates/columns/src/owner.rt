@@ -16,7 +16,7 @@ ghost use Prim.Native.Nat.{ℕ};
 ghost use lib.ListN.{getD};
 ghost use Rattle.records.specs.Format.{recordAt};
 ghost use Rattle.records.specs.Kinds.{constructOf};
-ghost use Rattle.records.specs.Chain.{chained};
+ghost use Rattle.records.specs.Chain.{inForce};
 ghost use Rattle.columns.specs.Columns.{Query, within, queryColumns, columnsOf, states, columnsAt, columnAt};
 ghost use Rattle.columns.specs.Code.Packed.{Marked, SmallTerms, HasShape, packedAt, packedBy, literals};
 
@@ -39,9 +39,9 @@ pub fn query_column(a: u16, b: u16, n: u16) -> Column
     }
 }
 
-// Whether record i states anything: a statement does so on the chain, which is marked.
+// Whether record i states anything: a statement does so where it is in force, which is marked.
 fn has_columns(fields: Record, marked: bool) -> bool
-    ensures { λ r. ⌜ ((v : List ℕ) (i : ℕ) → fields ≡ recordAt v i → marked ≡ chained v i → r ≡ states v i) ⌝ }
+    ensures { λ r. ⌜ ((v : List ℕ) (i : ℕ) → fields ≡ recordAt v i → marked ≡ inForce v i → r ≡ states v i) ⌝ }
 {
     if is_statement(fields.kind) {
         return marked;

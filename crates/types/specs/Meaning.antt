@@ -7,7 +7,7 @@ use Rattle.records.specs.Format.{recordAt}
 use Rattle.records.specs.Kinds.{Construct, none, top, bottom, name, negation, conjunction, disjunction, existential, universal}
 use Rattle.records.specs.Kinds.{inclusion, constructOf}
 use Rattle.records.specs.Finite.{anyBelow, allBelow, inRecordOrder}
-use Rattle.records.specs.Chain.{chained}
+use Rattle.records.specs.Chain.{inForce}
 
 -- "a set of elements for each name and a set of pairs for each role". The elements are the numbers below a bound that are
 -- in the domain; a name goes by its record ("Each name record is a name of its own"), a role by its number.
@@ -82,7 +82,7 @@ Equal I v a b = (d : ℕ) → Element I d → belongs I v a d ≡ belongs I v b 
 -- element of A is in B. The statements of a vocabulary .. are those on the chain."
 pub record Model (I : Interpretation) (v : List ℕ) : Type 0 where
   pub inhabited : (d : ℕ) × Element I d
-  pub satisfied : (i : ℕ) → chained v i ≡ true → Within I v (recordAt v i .a) (recordAt v i .b)
+  pub satisfied : (i : ℕ) → inForce v i ≡ true → Within I v (recordAt v i .a) (recordAt v i .b)
 
 -- In every finite interpretation satisfying the statements.
 abbrev pub AlwaysEqual : List ℕ → ℕ → ℕ → Type 0

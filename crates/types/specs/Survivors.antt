@@ -5,12 +5,12 @@ use mathlib.Core.Bool.{Bool, true, not, _&&_, _||_}
 use mathlib.Core.List.{List}
 use Rattle.records.specs.Format.{count}
 use Rattle.records.specs.Finite.{anyBelow, allBelow, least, table, has}
-use Rattle.records.specs.Chain.{chained}
+use Rattle.records.specs.Chain.{inForce}
 use Rattle.types.specs.Types.{types, truth, served}
 
--- Every chained statement holds at t.
+-- Every statement in force holds at t.
 unfoldable pub satisfies : List ℕ → ℕ → Bool
-satisfies v t = allBelow (λ i. not (chained v i) || truth v t i) (count v)
+satisfies v t = allBelow (λ i. not (inForce v i) || truth v t i) (count v)
 
 -- "One round removes together all types not served by the set as the round began."
 abbrev pub round : List ℕ → List Bool → List Bool

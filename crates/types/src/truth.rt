@@ -109,7 +109,7 @@ pub fn truths(
     }
 }
 
-// Lists the chained statements in record order; how many there are.
+// Lists the statements in force in record order; how many there are.
 pub fn list_statements(v: &[u8], statements: &mut [u16; Record::LIMIT]) -> usize
     requires { ⌜ IsAccepted (now v) ⌝ }
     requires { ⌜ length (now statements) ≡ recordLimit ⌝ }

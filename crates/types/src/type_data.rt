@@ -9,7 +9,7 @@ ghost use lib.ListN.{length};
 ghost use Rattle.records.specs.Format.{recordLimit};
 ghost use Rattle.types.specs.Code.Settling.{Prepared, Blank, Started, Worded, typeDataAt};
 
-// At one type: whether every chained statement holds, whether the two terms differ, and the words of its
+// At one type: whether every statement in force holds, whether the two terms differ, and the words of its
 // restrictions and their fillers.
 pub struct TypeData {
     pub satisfies: bool,

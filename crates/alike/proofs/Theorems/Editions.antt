@@ -70,6 +70,6 @@ editions-alike v w differ =
     record {
       counts = count-alike v w differ;
       kinds = kind-alike v w differ;
-      chains = λ i. ap (occurs i) (chain-alike v w differ);
+      forces = λ i. ap (occurs i) (chain-alike v w differ);
       says = λ i s. construct-same _ _ (kind-alike v w differ i) (a-alike v w differ i) (b-alike v w differ i);
     }

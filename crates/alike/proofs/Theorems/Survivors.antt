@@ -1,7 +1,7 @@
 -- Vocabularies that look alike have the same survivors, after as many rounds.
 --   allowed-alike                                the pairs allowed for a role
 --   witnessed-alike, served-alike                which types a set serves
---   satisfies-alike                              at which types the chained statements hold
+--   satisfies-alike                              at which types the statements in force hold
 --   round-alike, removes-alike                   a round
 --   stage-alike, rounds-alike, survivors-alike   all of them
 --   bitmap-alike                                 the bitmap
@@ -12,7 +12,7 @@ use mathlib.Core.Bool.{Bool, true, false, not, _||_, or-true}
 use mathlib.Core.List.{List}
 use Rattle.records.specs.Format.{recordAt, count}
 use Rattle.records.specs.Kinds.{isStatement}
-use Rattle.records.specs.Chain.{chained}
+use Rattle.records.specs.Chain.{inForce}
 use Rattle.records.specs.Finite.{anyBelow, allBelow, least, table}
 use Rattle.records.proofs.Theorems.Accepted.{AcceptedFacts}
 use Rattle.types.specs.Meaning.{Restriction, some, all, plain, restrictionAt}
@@ -71,15 +71,15 @@ module _ (v w : List ℕ) (alike : Alike v w) (good : AcceptedFacts v) (other : 
   unfolding served
   served-alike S t = each (met v S t) (met w S t) (met-alike S t)
 
-  -- a chained statement has the same truth, and no other counts
-  holds-alike : (t i : ℕ) → (not (chained v i) || truth v t i) ≡ (not (chained w i) || truth w t i)
-  holds-alike t i = at (chained v i) refl
+  -- a statement in force has the same truth, and no other counts
+  holds-alike : (t i : ℕ) → (not (inForce v i) || truth v t i) ≡ (not (inForce w i) || truth w t i)
+  holds-alike t i = at (inForce v i) refl
     where
-      at : (b : Bool) → chained v i ≡ b → (not (chained v i) || truth v t i) ≡ (not (chained w i) || truth w t i)
+      at : (b : Bool) → inForce v i ≡ b → (not (inForce v i) || truth v t i) ≡ (not (inForce w i) || truth w t i)
       at true e =
           let may : states v i ≡ true = rw e (or-true (not (isStatement (recordAt v i .kind)))) in
-          rw (alike .chains i, truth-alike v w alike good other i may t)
-      at false e = rw (← alike .chains i, e)
+          rw (alike .forces i, truth-alike v w alike good other i may t)
+      at false e = rw (← alike .forces i, e)
 
   pub satisfies-alike : (t : ℕ) → satisfies v t ≡ satisfies w t
   unfolding satisfies

@@ -6,7 +6,7 @@
 --   truth-alike                            truth, at a record that may have columns
 --   SameTruth, restriction-truth           so at a restriction,
 --   filler-truth                           and at its filler
--- Of a statement off the chain nothing is said here: its truth may differ. Assumes nothing.
+-- Of a statement not in force nothing is said here: its truth may differ. Assumes nothing.
 use Prim.Native.Nat.{ℕ, zero, suc, _^_, _<_}
 use native.Mathlib.Omega.{arith}
 use mathlib.Core.Path.{_≡_, refl, sym, ap, _∙_}
@@ -15,7 +15,7 @@ use mathlib.Core.List.{List}
 use borrow.Author.Tests.{not-false}
 use Rattle.records.specs.Format.{recordAt, count}
 use Rattle.records.specs.Kinds.{Construct, constructOf, isTerm, isStatement}
-use Rattle.records.specs.Chain.{chained}
+use Rattle.records.specs.Chain.{inForce}
 use Rattle.records.specs.Finite.{bit}
 use Rattle.records.specs.Atoms.{rank, atoms}
 use Rattle.records.proofs.Laws.Tests.{clash, either-left, unless-false}
@@ -33,11 +33,11 @@ module _ (v : List ℕ) where
   pub term-states : (i : ℕ) → isTerm (recordAt v i .kind) ≡ true → states v i ≡ true
   term-states i e = rw (term-no-statement (recordAt v i .kind) e)
 
-  -- a statement off the chain is no restriction
+  -- a statement not in force is no restriction
   silent-plain : (i : ℕ) → states v i ≡ false → restrictionAt v i ≡ plain
   silent-plain i e =
       let off : not (isStatement (recordAt v i .kind)) ≡ false
-      = either-left (not (isStatement (recordAt v i .kind))) (chained v i) e in
+      = either-left (not (isStatement (recordAt v i .kind))) (inForce v i) e in
       let nine : recordAt v i .kind ≡ 9
       = statement-kind (recordAt v i .kind) (not-false (isStatement (recordAt v i .kind)) off) in
       ap restrictionOf (construct-inclusion (recordAt v i) nine)
@@ -63,7 +63,7 @@ module _ (v w : List ℕ) (alike : Alike v w) where
   types-alike = ap (λ (k : ℕ). 2 ^ k) atoms-alike
 
   pub states-alike : (i : ℕ) → states v i ≡ states w i
-  states-alike i = rw (alike .kinds i, alike .chains i)
+  states-alike i = rw (alike .kinds i, alike .forces i)
 
   pub restriction-alike : (i : ℕ) → restrictionAt v i ≡ restrictionAt w i
   restriction-alike i = at (states v i) refl

@@ -10,7 +10,7 @@ use mathlib.Core.List.{List, [], _∷_}
 use lib.ListN.{length, getD}
 use Rattle.records.specs.Format.{recordAt, count}
 use Rattle.records.specs.Kinds.{kindOf, constructOf, isStatement}
-use Rattle.records.specs.Chain.{chained}
+use Rattle.records.specs.Chain.{inForce}
 use Rattle.records.specs.declared.fields.Record.{Record}
 use Rattle.records.proofs.Theorems.Accepted.{AcceptedFacts}
 use Rattle.records.proofs.Theorems.Constructs.{record-past}
@@ -37,7 +37,7 @@ module _ (v : List ℕ) (q : Query) where
       columns-record i n (rw past) ∙ rw past
 
 module _ (r : Record) (v : List ℕ) (i : ℕ) (same : r ≡ recordAt v i) where
-  pub states-marked : (marked : Bool) → marked ≡ chained v i → isStatement (r .kind) ≡ true → marked ≡ states v i
+  pub states-marked : (marked : Bool) → marked ≡ inForce v i → isStatement (r .kind) ≡ true → marked ≡ states v i
   states-marked marked m e = rw (← same, e) m
 
   pub states-term : isStatement (r .kind) ≡ false → true ≡ states v i

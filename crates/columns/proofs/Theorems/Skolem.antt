@@ -21,7 +21,7 @@ use Rattle.records.specs.Format.{recordAt}
 use Rattle.records.specs.Kinds.{Construct, none, top, bottom, name, negation, conjunction, disjunction, existential, universal}
 use Rattle.records.specs.Kinds.{inclusion, constructOf, isStatement}
 use Rattle.records.specs.Finite.{anyBelow, least}
-use Rattle.records.specs.Chain.{chained}
+use Rattle.records.specs.Chain.{inForce}
 use Rattle.records.proofs.Laws.Tests.{clash, both-left, both-right, either-left, either-right, both-true, implies-rest}
 use Rattle.records.proofs.Laws.Tests.{unless-true}
 use Rattle.records.proofs.Laws.Search.{any-intro, any-elim}
@@ -199,7 +199,7 @@ module _ (v : List ℕ) (good : AcceptedFacts v) (q : Query) (I : Interpretation
         let says = sym (construct-inclusion (recordAt v i) (statement-kind (recordAt v i .kind) statement)) ∙ m in
         let first : recordAt v i .a ≡ j = cc in
         let second : recordAt v i .b ≡ k = cc in
-        let within = model .satisfied i (implies-rest (isStatement (recordAt v i .kind)) (chained v i) stated statement) d at in
+        let within = model .satisfied i (implies-rest (isStatement (recordAt v i .kind)) (inForce v i) stated statement) d at in
         rw (first, second) at within h
 
     construct-none : (c : Construct) → constructOf (recordAt v i) ≡ c → states v i ≡ true → All (Fails i d e) (columnsOf i c)

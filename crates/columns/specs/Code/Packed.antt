@@ -5,7 +5,7 @@ use mathlib.Core.Bool.{Bool, false, not}
 use mathlib.Core.List.{List, [], _∷_, map}
 use lib.ListN.{length, getD}
 use Rattle.records.specs.Check.{IsAccepted}
-use Rattle.records.specs.Chain.{chained}
+use Rattle.records.specs.Chain.{inForce}
 use Rattle.records.specs.Finite.{digit}
 use Rattle.columns.specs.Literals.{Literal, concept, role, substitute}
 use Rattle.columns.specs.Columns.{x, y, fx, Column, arguments, joined, notJoined, takesY}
@@ -13,10 +13,10 @@ use Rattle.columns.specs.declared.column.Column as code
 use Rattle.columns.specs.declared.column.Terms.{Terms}
 use Rattle.columns.specs.declared.column.Shape.{Shape}
 
--- What the code relies on: the vocabulary was accepted, and the marks are the statements on its chain.
+-- What the code relies on: the vocabulary was accepted, and the marks are its statements in force.
 pub record Marked (v : List ℕ) (marks : List Bool) : Type 0 where
   pub vocabulary : IsAccepted v
-  pub marked : (i : ℕ) → getD marks i false ≡ chained v i
+  pub marked : (i : ℕ) → getD marks i false ≡ inForce v i
 
 -- Predicates, terms of the vocabulary and roles, have 9 bits.
 abbrev pub predicateLimit : ℕ

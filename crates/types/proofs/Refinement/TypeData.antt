@@ -11,10 +11,10 @@ use mathlib.Core.List.{List}
 use lib.ListN.{getD}
 use mathlib.Core.Logic.{_⊎_, inl, inr}
 use Rattle.records.specs.Format.{recordAt, count, recordLimit}
-use Rattle.records.specs.Chain.{chained}
+use Rattle.records.specs.Chain.{inForce}
 use Rattle.records.proofs.Theorems.Accepted.{AcceptedFacts, accepted-vocabulary}
 use Rattle.records.proofs.Laws.Ranges.{restriction-kind}
-use Rattle.records.proofs.Theorems.Chains.{chain-statement}
+use Rattle.records.proofs.Theorems.Chains.{force-statement}
 use Rattle.types.specs.declared.type_data.TypeData.{TypeData}
 use Rattle.types.specs.declared.type_data.Plan.{Plan}
 use Rattle.types.specs.declared.restrict.Restrictions.{Restrictions}
@@ -72,22 +72,22 @@ module _ (v : List ℕ) (plan : Plan) (code statements : List ℕ) (p : Prepared
         done-at j h = d .truth-at (getD statements j 0) (p .stated .within j h)
 
         onward : allBelow (λ j. getD values (getD statements j 0) false) (plan .found) ≡ true
-            → allBelow (λ i. not (chained v i) || truth v t i) (count v) ≡ true
+            → allBelow (λ i. not (inForce v i) || truth v t i) (count v) ≡ true
         onward e =
-            all-intro (λ i. not (chained v i) || truth v t i) (count v)
-            (λ i h. implies-true (chained v i) (truth v t i) (λ c. at i (p .stated .finds i c)))
+            all-intro (λ i. not (inForce v i) || truth v t i) (count v)
+            (λ i h. implies-true (inForce v i) (truth v t i) (λ c. at i (p .stated .finds i c)))
           where
             at : (i : ℕ) → (j : ℕ) × (j < plan .found) × (getD statements j 0 ≡ i) → truth v t i ≡ true
             at i f =
                 ap (truth v t) (sym (f .2)) ∙ sym (done-at (f .0) (f .1))
                 ∙ all-at (λ j. getD values (getD statements j 0) false) (plan .found) e (f .0) (f .1)
 
-        back : allBelow (λ i. not (chained v i) || truth v t i) (count v) ≡ true
+        back : allBelow (λ i. not (inForce v i) || truth v t i) (count v) ≡ true
             → allBelow (λ j. getD values (getD statements j 0) false) (plan .found) ≡ true
         back e =
             all-intro (λ j. getD values (getD statements j 0) false) (plan .found)
-            (λ j h. done-at j h ∙ implies-rest (chained v (getD statements j 0)) (truth v t (getD statements j 0))
-            (all-at (λ i. not (chained v i) || truth v t i) (count v) e (getD statements j 0) (p .stated .within j h))
+            (λ j h. done-at j h ∙ implies-rest (inForce v (getD statements j 0)) (truth v t (getD statements j 0))
+            (all-at (λ i. not (inForce v i) || truth v t i) (count v) e (getD statements j 0) (p .stated .within j h))
             (p .stated .states j h))
 
     differ-done : not (Bool·beq (getD values (plan .a) false) (getD values (plan .b) false)) ≡ differ v (plan .a) (plan .b) t
@@ -125,14 +125,14 @@ module _ (v : List ℕ) (plan : Plan) (code statements : List ℕ) (p : Prepared
         filler-known m k = omega (arith, filler-in m k, p .listed .filler-at m k)
 
 -- The statements, from the marks along the chain.
-pub stating : (v : List ℕ) → AcceptedFacts v → (mark : ℕ → Bool) → ((i : ℕ) → mark i ≡ chained v i)
+pub stating : (v : List ℕ) → AcceptedFacts v → (mark : ℕ → Bool) → ((i : ℕ) → mark i ≡ inForce v i)
     → (list : List ℕ) (found : ℕ) → ListedBelow mark recordLimit list found (count v) → Stating v list found
 stating v good mark marked list found l =
     record {
       few = listed-few mark recordLimit list found (count v) l;
       within = λ j h. sound j h .before;
       states = λ j h. sym (marked (getD list j 0)) ∙ sound j h .passes;
-      finds = λ i c. listed-finds mark recordLimit list found (count v) l i (chain-statement v good i c .within) (marked i ∙ c);
+      finds = λ i c. listed-finds mark recordLimit list found (count v) l i (force-statement v good i c .within) (marked i ∙ c);
     }
   where
     sound : (j : ℕ) → j < found → Entered mark (count v) (getD list j 0)

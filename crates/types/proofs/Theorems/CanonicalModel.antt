@@ -12,11 +12,11 @@ use mathlib.Core.List.{List}
 use borrow.Author.Tests.{not-true}
 use Rattle.records.specs.Format.{recordAt, count}
 use Rattle.records.specs.Kinds.{constructOf}
-use Rattle.records.specs.Chain.{chained}
+use Rattle.records.specs.Chain.{inForce}
 use Rattle.records.proofs.Laws.Tests.{clash, implies-rest, unless-false, same-truth}
 use Rattle.records.proofs.Theorems.Accepted.{AcceptedFacts}
 use Rattle.records.proofs.Theorems.Constructs.{construct-earlier, construct-atom}
-use Rattle.records.proofs.Theorems.Chains.{chain-statement}
+use Rattle.records.proofs.Theorems.Chains.{force-statement}
 use Rattle.records.specs.Finite.{has}
 use Rattle.types.specs.Meaning.{Interpretation, Element, Restriction, some, all, plain, restrictionAt, belongs, atomAt}
 use Rattle.types.specs.Meaning.{Within, Model}
@@ -108,13 +108,13 @@ module _ (v : List ℕ) (good : AcceptedFacts v) (S : List Bool) (serves : Serve
 -- A set of types at which all statements hold besides.
 module _ (v : List ℕ) (good : AcceptedFacts v) (S : List Bool) (set : Serving v S) (I : Interpretation)
     (canonical : Canonical v S I) where
-  fits-at : (t i : ℕ) → has S t ≡ true → chained v i ≡ true → truth v t i ≡ true
+  fits-at : (t i : ℕ) → has S t ≡ true → inForce v i ≡ true → truth v t i ≡ true
   unfolding satisfies
   fits-at t i h c =
-      implies-rest (chained v i) (truth v t i)
-      (all-at (λ i. not (chained v i) || truth v t i) (count v) (set .fit t h) i (chain-statement v good i c .within)) c
+      implies-rest (inForce v i) (truth v t i)
+      (all-at (λ i. not (inForce v i) || truth v t i) (count v) (set .fit t h) i (force-statement v good i c .within)) c
 
-  pub canonical-satisfied : (i : ℕ) → chained v i ≡ true → Within I v (recordAt v i .a) (recordAt v i .b)
+  pub canonical-satisfied : (i : ℕ) → inForce v i ≡ true → Within I v (recordAt v i .a) (recordAt v i .b)
   canonical-satisfied i c t at e =
       let h = canonical .only t at in
       let a = recordAt v i .a in

@@ -15,7 +15,7 @@ use lib.Dec.{eqb}
 use borrow.Author.Tests.{eqb-true, eq-eqb}
 use Rattle.records.specs.Format.{recordAt, count}
 use Rattle.records.specs.Kinds.{constructOf, isAtom}
-use Rattle.records.specs.Chain.{chained}
+use Rattle.records.specs.Chain.{inForce}
 use Rattle.records.proofs.Laws.Tests.{clash, both-left, both-right, both-true, either-true, implies-true, unless-true}
 use Rattle.records.proofs.Theorems.Accepted.{AcceptedFacts}
 use Rattle.records.proofs.Theorems.Constructs.{construct-earlier, construct-atom}
@@ -115,8 +115,8 @@ module _ (v : List ℕ) (good : AcceptedFacts v) where
     pub type-satisfies : Model I v → (d : ℕ) → Element I d → satisfies v (typeOf I v d) ≡ true
     unfolding satisfies
     type-satisfies model d at =
-        all-intro (λ i. not (chained v i) || truth v (typeOf I v d) i) (count v)
-        (λ i l. implies-true (chained v i) (truth v (typeOf I v d) i) (λ c. type-agrees I d i ∙ belongs-statement v good I i d c
+        all-intro (λ i. not (inForce v i) || truth v (typeOf I v d) i) (count v)
+        (λ i l. implies-true (inForce v i) (truth v (typeOf I v d) i) (λ c. type-agrees I d i ∙ belongs-statement v good I i d c
         ∙ implies-true (belongs I v (recordAt v i .a) d) (belongs I v (recordAt v i .b) d) (model .satisfied i c d at)))
 
     -- the type of an element joined to d is a witness

@@ -5,7 +5,7 @@
 --   restricted-atom, some-earlier, all-earlier   restrictions are atoms, and their fillers come earlier
 --   truth-eq, belongs-eq                         the equations of truth and of membership
 --   truth-atom, belongs-atom                     at an atom
---   truth-statement, belongs-statement           at a chained statement
+--   truth-statement, belongs-statement           at a statement in force
 --   belongs-some, belongs-all                    at a restriction
 --   atom-within                                  there is no atom past the end
 -- Assumes nothing.
@@ -19,12 +19,12 @@ use Rattle.records.specs.Format.{recordAt, count}
 use Rattle.records.specs.Kinds.{Construct, none, top, bottom, name, negation, conjunction, disjunction, existential, universal}
 use Rattle.records.specs.Kinds.{inclusion, constructOf, kindOf, isAtom}
 use Rattle.records.specs.Finite.{anyBelow, allBelow, bit}
-use Rattle.records.specs.Chain.{chained}
+use Rattle.records.specs.Chain.{inForce}
 use Rattle.records.proofs.Laws.Tests.{clash}
 use Rattle.records.proofs.Theorems.Accepted.{AcceptedFacts, Over, over-map}
 use Rattle.records.proofs.Theorems.Constructs.{record-past, Earlier, construct-earlier, atomic, construct-atom}
 use Rattle.records.proofs.Theorems.Constructs.{construct-inclusion}
-use Rattle.records.proofs.Theorems.Chains.{chain-statement}
+use Rattle.records.proofs.Theorems.Chains.{force-statement}
 use Rattle.records.specs.Atoms.{rank}
 use Rattle.types.specs.Meaning.{Interpretation, Restriction, some, all, plain, restrictionOf, restrictionAt, evaluate}
 use Rattle.types.specs.Meaning.{atomAt, extensionRule, belongs}
@@ -157,19 +157,19 @@ module _ (v : List ℕ) (good : AcceptedFacts v) where
   belongs-atom I i d a =
       belongs-eq I i d ∙ evaluate-atom (constructOf (recordAt v i)) _ (λ j. belongs I v j d) (is-atomic v i a)
 
-  -- A chained statement says that its A lies within its B.
-  chained-inclusion : (i : ℕ) → chained v i ≡ true → constructOf (recordAt v i) ≡ inclusion (recordAt v i .a) (recordAt v i .b)
-  chained-inclusion i e = construct-inclusion (recordAt v i) (chain-statement v good i e .target)
+  -- A statement in force says that its A lies within its B.
+  force-inclusion : (i : ℕ) → inForce v i ≡ true → constructOf (recordAt v i) ≡ inclusion (recordAt v i .a) (recordAt v i .b)
+  force-inclusion i e = construct-inclusion (recordAt v i) (force-statement v good i e .target)
 
-  pub truth-statement : (t i : ℕ) → chained v i ≡ true
+  pub truth-statement : (t i : ℕ) → inForce v i ≡ true
       → truth v t i ≡ (not (truth v t (recordAt v i .a)) || truth v t (recordAt v i .b))
-  truth-statement t i e = truth-eq t i ∙ ap (λ (c : Construct). evaluate c (bit t (rank v i)) (truth v t)) (chained-inclusion i e)
+  truth-statement t i e = truth-eq t i ∙ ap (λ (c : Construct). evaluate c (bit t (rank v i)) (truth v t)) (force-inclusion i e)
 
-  pub belongs-statement : (I : Interpretation) (i d : ℕ) → chained v i ≡ true
+  pub belongs-statement : (I : Interpretation) (i d : ℕ) → inForce v i ≡ true
       → belongs I v i d ≡ (not (belongs I v (recordAt v i .a) d) || belongs I v (recordAt v i .b) d)
   belongs-statement I i d e =
       let atom = atomAt I i (restrictionAt v i) (belongs I v) d in
-      belongs-eq I i d ∙ ap (λ (c : Construct). evaluate c atom (λ j. belongs I v j d)) (chained-inclusion i e)
+      belongs-eq I i d ∙ ap (λ (c : Construct). evaluate c atom (λ j. belongs I v j d)) (force-inclusion i e)
 
   belongs-restricted : (I : Interpretation) (i d : ℕ) (k : Restriction) → restrictionAt v i ≡ k → restricted k ≡ true
       → belongs I v i d ≡ atomAt I i k (belongs I v) d

@@ -7,7 +7,7 @@ use mathlib.Core.List.{List}
 use lib.ListN.{length, getD, set}
 use Rattle.records.specs.Format.{recordAt, count, recordLimit}
 use Rattle.records.specs.Check.{IsAccepted}
-use Rattle.records.specs.Chain.{chained}
+use Rattle.records.specs.Chain.{inForce}
 use Rattle.records.specs.Atoms.{atoms}
 use Rattle.types.specs.declared.type_data.TypeData.{TypeData}
 use Rattle.types.specs.declared.type_data.Plan.{Plan}
@@ -34,12 +34,12 @@ pub record Bounded (r : Restrictions) : Type 0 where
   pub place-below : (m : ℕ) → m < r .count → getD (r .places) m 0 < recordLimit
   pub filler-below : (m : ℕ) → m < r .count → getD (r .fillers) m 0 < recordLimit
 
--- A list of the chained statements.
+-- A list of the statements in force.
 pub record Stating (v statements : List ℕ) (found : ℕ) : Type 0 where
   pub few : found ≤ count v
   pub within : (j : ℕ) → j < found → getD statements j 0 < count v
-  pub states : (j : ℕ) → j < found → chained v (getD statements j 0) ≡ true
-  pub finds : (i : ℕ) → chained v i ≡ true → (j : ℕ) × (j < found) × (getD statements j 0 ≡ i)
+  pub states : (j : ℕ) → j < found → inForce v (getD statements j 0) ≡ true
+  pub finds : (i : ℕ) → inForce v i ≡ true → (j : ℕ) × (j < found) × (getD statements j 0 ≡ i)
 
 -- What a call may go on with after the checks: an accepted vocabulary of k atoms, few enough; for a comparison, and two of its
 -- records.

@@ -1,4 +1,4 @@
--- `columns::owner::has_columns` meets its contract. A statement states something where it is on the chain, a term always.
+-- `columns::owner::has_columns` meets its contract. A statement states something where it is in force, a term always.
 -- Assumes nothing.
 use mathlib.Core.Path.{sym, _∙_}
 use borrow.Author.Needs.{needs}
