@@ -1,5 +1,6 @@
--- What the requests of paper 02 promise, as statements over the definitions of the crates below and nothing else;
--- proofs/Theorems/Promises.antt proves each. The contracts of src/lib.rt carry them to the calls, as they do the demands.
+-- What the papers promise beside the demands: paper 01 of the survivors, and each request of paper 02. Statements over the
+-- definitions of the crates below and nothing else; proofs/Theorems/Promises.antt proves each. The contracts of src/lib.rt carry
+-- them to the calls, as they do the demands.
 use Prim.Native.Nat.{ℕ, _+_, _*_, _≤_, _<_}
 use mathlib.Core.Path.{_≡_}
 use mathlib.Core.Bool.{true}
@@ -11,16 +12,33 @@ use Rattle.records.specs.Format.{wordAt, recordBytes, count, roleCount, edition
 use Rattle.records.specs.Chain.{chain}
 use Rattle.records.specs.Check.{vocabularyCheck}
 use Rattle.records.specs.Atoms.{atoms}
+use Rattle.records.specs.Finite.{members}
 use Rattle.writer.specs.Additions.{Addition, term, statement, newRecord, linkPlace, grown, contents, stated, statementsOf}
 use Rattle.writer.specs.Calls.{emptyHeader, making, isAddable, adding, newLength, bufferAfter}
 use Rattle.types.specs.Meaning.{Interpretation, Model, AlwaysEqual}
-use Rattle.types.specs.Comparison.{counts, comparison}
-use Rattle.types.specs.Bitmap.{bitmap, written}
+use Rattle.types.specs.Survivors.{survivors, rounds, Largest}
+use Rattle.types.specs.Comparison.{Verdict, equal, counts, comparison}
+use Rattle.types.specs.declared.answers.Counts.{Counts}
+use Rattle.types.specs.Bitmap.{bitmap, written, HoldsSurvivors}
 use Rattle.scripts.specs.Run.{scriptCheck}
 use Rattle.alike.specs.Editions.{DifferInEdition}
 use Rattle.taxonomy.specs.Nearest.{NameOf, Nearest}
 use Rattle.taxonomy.specs.Taxonomy.{names, nameCount, nameAt, classification, firstAfter, secondAfter}
 use Rattle.demands.specs.Table.{vocabularyTable, AcceptedVocabulary, TermOf, Refuses, Follows}
+
+-- Paper 01, "Types and comparison".
+
+-- The promise. "The survivors are the largest set of types at which all statements hold and which serves each of its members.
+-- They .. are the interpretation written, with either answer"; slip 1: "The first buffer and both counts are as in the
+-- comparison." "With no survivor everything is Equal."
+pub record WritesSurvivors : Type 0 where
+  pub largest : (v : List ℕ) → Largest v (survivors v)
+  pub compares : (v lent : List ℕ) (a b : ℕ) (x : Verdict) → comparison v a b (length lent) ≡ accepted x
+      → HoldsSurvivors v (written (comparison v a b (length lent)) v lent)
+  pub classifies : (v lent room : List ℕ) (x : Counts) → classification v (length lent) (length room) ≡ accepted x
+      → HoldsSurvivors v (firstAfter v lent room)
+  pub none-equal : (v : List ℕ) (a b lent : ℕ) (x : Verdict) → comparison v a b lent ≡ accepted x → members (survivors v) ≡ 0
+      → x ≡ equal 0 (rounds v)
 
 -- Slip 1, "Nearest broader names".
 
@@ -140,10 +158,15 @@ pub record Shows (v : List ℕ) (n : ℕ) (l : List Addition) : Type 0 where
   pub records : contents v ≡ l
   pub statements : stated v ≡ statementsOf l
 
--- The promise. An empty vocabulary is its header, and later bytes keep their content.
+-- "a call makes an empty vocabulary with a role count": its header, and later bytes keep their content; the vocabulary is accepted.
+pub record MadeEmpty (lent : List ℕ) (roles n : ℕ) (after : List ℕ) : Type 0 where
+  pub wrote : after ≡ recordBytes (emptyHeader roles) ++ drop 8 lent
+  pub accepts : AcceptedVocabulary (take n after)
+
+-- The promise.
 pub record WritesVocabularies : Type 0 where
   pub makes : (lent : List ℕ) (roles n : ℕ) → newLength (making (length lent) roles) ≡ accepted n
-      → bufferAfter (making (length lent) roles) lent ≡ recordBytes (emptyHeader roles) ++ drop 8 lent
+      → MadeEmpty lent roles n (bufferAfter (making (length lent) roles) lent)
   pub only : (buffer : List ℕ) (used n : ℕ) (x : Addition) → newLength (adding buffer used x) ≡ accepted n
       → OnlyNew buffer used x (bufferAfter (adding buffer used x) buffer)
   pub reader : (buffer : List ℕ) (used : ℕ) (x : Addition) → Roomy buffer used → isAddable x ≡ true → AsReader buffer used x

@@ -4,20 +4,19 @@ use mathlib.Core.Bool.{true, not}
 use mathlib.Core.Path.{_≡_}
 use mathlib.Core.List.{List, [], _++_}
 use lib.ListN.{length, take, drop}
-use Rattle.records.specs.Format.{recordBytes, count}
+use Rattle.records.specs.Format.{count}
 use Rattle.records.specs.declared.answers.Counted.{Counted}
 use Rattle.records.specs.declared.answers.Counted.the-variants as counted
 use Rattle.records.specs.declared.answers.Located.{Located}
 use Rattle.records.specs.declared.answers.Located.the-variants as located
 use Rattle.records.specs.Finite.{has, members}
 use Rattle.writer.specs.Additions.{Addition}
-use Rattle.writer.specs.Calls.{emptyHeader}
 use Rattle.writer.specs.declared.answers.Lengthened.{Lengthened}
 use Rattle.writer.specs.declared.answers.Lengthened.the-variants as lengthened
 use Rattle.types.specs.Types.{types, truth}
 use Rattle.types.specs.Meaning.{AlwaysEqual, AlwaysWithin}
 use Rattle.types.specs.Survivors.{survivors, rounds}
-use Rattle.types.specs.Bitmap.{bitmap, readBack}
+use Rattle.types.specs.Bitmap.{bitmap, readBack, HoldsSurvivors}
 use Rattle.types.specs.declared.answers.Compared.{Compared}
 use Rattle.types.specs.declared.answers.Compared.the-variants as compared
 use Rattle.taxonomy.specs.Taxonomy.{taxonomy}
@@ -29,7 +28,7 @@ use Rattle.scripts.specs.declared.answers.Judged.the-variants as judged
 use Rattle.demands.specs.Table.{Row, vocabularyTable, recordTable, comparisonTable, classificationTable, scriptTable}
 use Rattle.demands.specs.Table.{makingTable, additionTable, AcceptedVocabulary, NoneApplies, Refuses, InForm}
 use Rattle.demands.specs.Demands.{ChainDerives, Shown}
-use Rattle.demands.specs.Promises.{RightTable, OnlyNew}
+use Rattle.demands.specs.Promises.{RightTable, OnlyNew, MadeEmpty}
 
 -- The vocabulary check "answers the number of records, header included".
 abbrev pub VocabularyReturns : List ℕ → Counted → Type 0
@@ -49,13 +48,15 @@ pub data RecordReturns (v : List ℕ) (number : ℕ) (part : List ℕ) : Type 0 
 
 -- What goes with either answer of the comparison: "the number of survivors and of rounds that removed something (never over
 -- 2^k)", and the bytes after the call, the survivors "in the first 512 bytes, the rest of which are 0; later bytes keep their
--- content". With the classification too: "The first buffer and both counts are as in the comparison."
+-- content", which read back are the interpretation written. With the classification too: "The first buffer and both counts are
+-- as in the comparison."
 pub record SurvivorsTold (rows : List Row) (v before after : List ℕ) (alive done : ℕ) : Type 0 where
   pub none : NoneApplies rows
   pub counted : alive ≡ members (survivors v)
   pub elapsed : done ≡ rounds v
   pub few : done ≤ types v
   pub wrote : after ≡ bitmap v ++ drop 512 before
+  pub holds : HoldsSurvivors v after
 
 -- "the smallest survivor at which the two terms differ"
 pub record Smallest (v : List ℕ) (a b t : ℕ) : Type 0 where
@@ -83,11 +84,11 @@ ClassificationReturns v before after room filled (classified.Counts alive done) 
 ClassificationReturns v before after room filled (classified.Refused n p) =
     Refuses (classificationTable v (length before) (length room)) n p × (after ≡ before) × (filled ≡ room)
 
--- The new length of an empty vocabulary, which is its header; "each call answers the new length". Refused: the buffer is as it
--- was.
+-- The new length of an empty vocabulary, which is its header, and is accepted; "each call answers the new length". Refused: the
+-- buffer is as it was.
 abbrev pub MakingReturns : List ℕ → ℕ → List ℕ → Lengthened → Type 0
 MakingReturns before roles after (lengthened.Length n) =
-    NoneApplies (makingTable (length before) roles) × (n ≡ 8) × (after ≡ recordBytes (emptyHeader roles) ++ drop 8 before)
+    NoneApplies (makingTable (length before) roles) × (n ≡ 8) × MadeEmpty before roles n after
 MakingReturns before roles after (lengthened.Refused n p) = Refuses (makingTable (length before) roles) n p × (after ≡ before)
 
 -- The new length of a vocabulary with an addition, which is accepted; only what belongs to the addition changed. Refused: the

@@ -1,4 +1,5 @@
 -- The promises of the requests, proved: specs/Promises.antt states them.
+--   writes-survivors           paper 01, of the survivors
 --   right-entry, right-table   an entry, and the second buffer, of a vocabulary that is compared
 --   nearest-names              slip 1
 --   writes-vocabularies        slip 4 (Writing has it)
@@ -15,21 +16,33 @@ use Rattle.records.specs.Atoms.{atoms}
 use Rattle.records.proofs.Theorems.Accepted.{AcceptedFacts, accepted-vocabulary}
 use Rattle.types.specs.Comparison.{atomLimit}
 use Rattle.types.specs.Meaning.{AlwaysEqual}
+use Rattle.types.proofs.Theorems.Survivors.{survivors-largest}
 use Rattle.types.proofs.Theorems.Verdicts as verdicts
+use Rattle.types.proofs.Theorems.Comparison.{written-survivors, none-equal}
 use Rattle.taxonomy.specs.Taxonomy.{nameAt, entry, taxonomy, taxonomyBytes}
 use Rattle.taxonomy.proofs.Theorems.Names.{name-is, name-found, names-rise}
 use Rattle.taxonomy.proofs.Theorems.Entries.{entry-equal, equal-entry, entry-nearest, nearest-entry, entry-else}
 use Rattle.taxonomy.proofs.Theorems.Entries.{taxonomy-entry, taxonomy-rest, length-taxonomy}
-use Rattle.taxonomy.proofs.Theorems.Answers.{answers-always}
+use Rattle.taxonomy.proofs.Theorems.Answers.{answers-always, first-survivors}
 use Rattle.alike.proofs.Theorems.Editions.{editions-alike}
 use Rattle.alike.proofs.Theorems.Comparison.{vocabulary-alike, comparison-alike, written-alike}
 use Rattle.alike.proofs.Theorems.Taxonomy.{classification-alike, first-alike, second-alike}
 use Rattle.alike.proofs.Theorems.Scripts.{script-alike}
 use Rattle.alike.specs.Alike.{Alike}
 use Rattle.demands.specs.Table.{AcceptedVocabulary}
-use Rattle.demands.specs.Promises.{RightEntry, RightTable, NearestNames, SameAnswers, EditionsAgree}
+use Rattle.demands.specs.Promises.{WritesSurvivors, RightEntry, RightTable, NearestNames, SameAnswers}
+use Rattle.demands.specs.Promises.{EditionsAgree}
 use Rattle.demands.proofs.Theorems.Tables.{vocabulary-follows, term-passed}
 pub use Rattle.demands.proofs.Theorems.Writing.{writes-vocabularies, addition-accepted}
+
+pub writes-survivors : WritesSurvivors
+writes-survivors =
+    record {
+      largest = survivors-largest;
+      compares = λ v lent a b x e. written-survivors v a b (length lent) x e lent;
+      classifies = first-survivors;
+      none-equal = none-equal;
+    }
 
 module _ (v : List ℕ) (good : AcceptedFacts v) (few : atoms v ≤ atomLimit) where
   right-entry : (a b : ℕ) → RightEntry v a b (entry v a b)

@@ -25,7 +25,7 @@ use Rattle.writer.specs.declared.answers.Lengthened.{Lengthened}
 use Rattle.writer.specs.declared.answers.Lengthened.the-variants as lengthened
 use Rattle.types.specs.declared.answers.Counts.{Counts}
 use Rattle.types.specs.Comparison.{equal, different, countsOf, comparison}
-use Rattle.types.specs.Bitmap.{written}
+use Rattle.types.specs.Bitmap.{written, HoldsSurvivors}
 use Rattle.types.specs.Answers as types
 use Rattle.types.specs.declared.answers.Compared.{Compared}
 use Rattle.types.specs.declared.answers.Compared.the-variants as compared
@@ -48,7 +48,7 @@ use Rattle.demands.specs.Returns.{VocabularyReturns, OffsetReturns, Reco
 use Rattle.demands.specs.Returns.{ComparisonReturns, ClassificationReturns, ScriptReturns, MakingReturns}
 use Rattle.demands.specs.Returns.{AdditionReturns}
 use Rattle.demands.proofs.Theorems.Demands.{demand-1, demand-2}
-use Rattle.demands.proofs.Theorems.Promises.{right-table, writes-vocabularies, addition-accepted}
+use Rattle.demands.proofs.Theorems.Promises.{writes-survivors, right-table, writes-vocabularies, addition-accepted}
 use Rattle.demands.proofs.Theorems.Tables.{vocabulary-follows, record-follows, comparison-follows}
 use Rattle.demands.proofs.Theorems.Tables.{classification-follows, script-follows, making-follows, addition-follows}
 use Rattle.demands.proofs.Theorems.Denials.{right-verdict}
@@ -73,10 +73,17 @@ record-returns v number part e = at (recordCall v number) refl e
 
 -- The answer of a call that follows its table and writes the survivors.
 survivors-told : {A : Type 0} {rows : List Row} {value : A} {o : Outcome A} (v before after : List ℕ) (x : A) (alive done : ℕ)
-    → Follows rows value o → o ≡ accepted x → after ≡ written o v before → Tally v alive done
+    → Follows rows value o → o ≡ accepted x → after ≡ written o v before → Tally v alive done → HoldsSurvivors v (written o v before)
     → SurvivorsTold rows v before after alive done
-survivors-told v before after x alive done f e w c =
-    record { none = f .accepted-only x e .0; counted = c .0; elapsed = c .1; few = c .2; wrote = w ∙ rw e }
+survivors-told v before after x alive done f e w c held =
+    record {
+      none = f .accepted-only x e .0;
+      counted = c .0;
+      elapsed = c .1;
+      few = c .2;
+      wrote = w ∙ rw e;
+      holds = rw w held;
+    }
 
 module _ (v : List ℕ) (a b : ℕ) (before after : List ℕ) where
   smallest : (t s n : ℕ) → comparison v a b (length before) ≡ accepted (different t s n) → Smallest v a b t
@@ -88,12 +95,18 @@ module _ (v : List ℕ) (a b : ℕ) (before after : List ℕ) where
   comparison-returns (compared.Equal s n) e w =
       let f = comparison-follows v a b (length before) in
       let c = verdict-tally v a b (length before) (equal s n) (sym e) in
-      (right-verdict v a b before (equal s n) (sym e), survivors-told v before after (equal s n) s n f (sym e) w c)
+      let held = writes-survivors .compares v before a b (equal s n) (sym e) in
+      (right-verdict v a b before (equal s n) (sym e), survivors-told v before after (equal s n) s n f (sym e) w c held)
   comparison-returns (compared.Different t s n) e w =
       let f = comparison-follows v a b (length before) in
       let c = verdict-tally v a b (length before) (different t s n) (sym e) in
-      let apart = right-verdict v a b before (different t s n) (sym e) in
-      (apart .0, rw w (apart .1), smallest t s n (sym e), survivors-told v before after (different t s n) s n f (sym e) w c)
+      let held = writes-survivors .compares v before a b (different t s n) (sym e) in
+      let apart = right-verdict v a b before (different t s n) (sym e) in (
+        apart .0,
+        rw w (apart .1),
+        smallest t s n (sym e),
+        survivors-told v before after (different t s n) s n f (sym e) w c held,
+      )
   comparison-returns (compared.Refused n p) e w =
       (comparison-follows v a b (length before) .refused-only n p (sym e), w ∙ rw (← e))
 
@@ -107,7 +120,8 @@ module _ (v before after room filled : List ℕ) where
       let f = classification-follows v (length before) (length room) in
       let c = answered v (length before) (length room) (countsOf s n) (sym e) in
       let wrote : filled ≡ taxonomy v ++ drop taxonomyBytes room = k ∙ rw (← e) in (
-        survivors-told v before after (countsOf s n) s n f (sym e) w (tally v (countsOf s n) (c .answer)),
+        survivors-told v before after (countsOf s n) s n f (sym e) w (tally v (countsOf s n) (c .answer))
+            (writes-survivors .classifies v before room (countsOf s n) (sym e)),
         wrote,
         right-table v (c .good) (c .few) room filled (c .second) wrote,
       )
@@ -135,7 +149,7 @@ pub making-returns : (before : List ℕ) (roles : ℕ) (after : List ℕ) (r : L
     → after ≡ bufferAfter (making (length before) roles) before → MakingReturns before roles after r
 making-returns before roles after (lengthened.Length n) e w =
     let f = making-follows (length before) roles .accepted-only n (sym e) in
-    (f .0, f .1, w ∙ writes-vocabularies .makes before roles n (sym e))
+    (f .0, f .1, rw w (writes-vocabularies .makes before roles n (sym e)))
 making-returns before roles after (lengthened.Refused n p) e w = (
   making-follows (length before) roles .refused-only n p (sym e),
   w ∙ demand-1 .unmade before roles n p (sym e),

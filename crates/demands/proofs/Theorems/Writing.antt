@@ -243,7 +243,10 @@ module _ (roles : ℕ) where
 pub writes-vocabularies : WritesVocabularies
 writes-vocabularies =
     record {
-      makes = λ lent roles n e. rw (making-succeeded (length lent) roles n e .outcome);
+      makes = λ lent roles n e. record {
+        wrote = rw (making-succeeded (length lent) roles n e .outcome);
+        accepts = shows roles (bufferAfter (making (length lent) roles) lent) n [] (state-start roles lent n e) .accepts;
+      };
       only = λ buffer used n x e.
           let done = adding-succeeded buffer used x n e in rw (done .outcome) (only-new buffer used x n done);
       reader = as-reader;

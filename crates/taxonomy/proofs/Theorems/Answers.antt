@@ -1,10 +1,12 @@
 -- Where the classification answers: exactly where no row refuses, with the counts of the comparison.
 --   Answered, answered   what an answer gives
 --   answers-always       where no row refuses, it answers
+--   first-survivors      the first buffer then holds the survivors
 -- Assumes nothing.
 use Prim.Native.Nat.{ℕ, _≤_}
 use mathlib.Core.Path.{_≡_, sym, _∙_}
 use mathlib.Core.List.{List}
+use lib.ListN.{length, drop}
 use lib.Dec.{leb}
 use borrow.Author.Tests.{leb-true, le-leb}
 use Rattle.records.specs.Outcome.{accepted, _then_}
@@ -14,7 +16,9 @@ use Rattle.records.proofs.Laws.Checks.{require-passed, then-passed}
 use Rattle.records.proofs.Theorems.Accepted.{AcceptedFacts, rows-vocabulary, vocabulary-then}
 use Rattle.types.specs.declared.answers.Counts.{Counts}
 use Rattle.types.specs.Comparison.{atomLimit, bitmapBytes, atomsCheck, lentCheck, sizeCheck, counts}
-use Rattle.taxonomy.specs.Taxonomy.{taxonomyBytes, tableCheck, classification}
+use Rattle.types.specs.Bitmap.{HoldsSurvivors}
+use Rattle.types.proofs.Theorems.ReadBack.{bitmap-holds}
+use Rattle.taxonomy.specs.Taxonomy.{taxonomyBytes, tableCheck, classification, firstAfter}
 
 pub record Answered (v : List ℕ) (lent room : ℕ) (c : Counts) : Type 0 where
   pub good : AcceptedFacts v
@@ -47,3 +51,10 @@ module _ (v : List ℕ) (lent room : ℕ) where
   unfolding classification
   answers-always m e few first second =
       rw (e, le-leb (atoms v) atomLimit few, le-leb bitmapBytes lent first, le-leb taxonomyBytes room second)
+
+-- "The first buffer .. as in the comparison": it holds the survivors.
+pub first-survivors : (v lent room : List ℕ) (c : Counts) → classification v (length lent) (length room) ≡ accepted c
+    → HoldsSurvivors v (firstAfter v lent room)
+first-survivors v lent room c e =
+    let a = answered v (length lent) (length room) c e in
+    rw e (bitmap-holds v (a .good) (a .few) (drop bitmapBytes lent))
