@@ -158,7 +158,7 @@ pub record Shows (v : List ℕ) (n : ℕ) (l : List Addition) : Type 0 where
   pub records : contents v ≡ l
   pub statements : stated v ≡ statementsOf l
 
--- "a call makes an empty vocabulary with a role count": its header, and later bytes keep their content; the vocabulary is accepted.
+-- "a call makes an empty vocabulary with a role count": its header, and later bytes keep their content; it is accepted.
 pub record MadeEmpty (lent : List ℕ) (roles n : ℕ) (after : List ℕ) : Type 0 where
   pub wrote : after ≡ recordBytes (emptyHeader roles) ++ drop 8 lent
   pub accepts : AcceptedVocabulary (take n after)

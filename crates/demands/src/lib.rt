@@ -25,6 +25,24 @@ ghost use Rattle.scripts.specs.Answers.{judged};
 ghost use Rattle.scripts.specs.Run.{scriptCheck};
 ghost use Rattle.demands.specs.Returns.{VocabularyReturns, OffsetReturns, RecordReturns, ComparisonReturns};
 ghost use Rattle.demands.specs.Returns.{ClassificationReturns, ScriptReturns, MakingReturns, AdditionReturns};
+ghost use Rattle.demands.specs.Demands.{Demand1, Demand2, Demand3};
+ghost use Rattle.demands.specs.Promises.{WritesSurvivors, NearestNames, WritesVocabularies, EditionsAgree};
+ghost use Rattle.demands.specs.Limits.{Limits};
+ghost use Rattle.demands.specs.Samples.{Samples};
+
+// Every demand, every promise and the samples, as one contract. It does nothing: it is here so that no statement, and no proof of
+// one, can be taken away unseen (tests/statements.sh). A later promise joins it.
+pub fn hold()
+    ensures { λ _. ⌜ Demand1 ⌝ }
+    ensures { λ _. ⌜ Demand2 ⌝ }
+    ensures { λ _. ⌜ Demand3 ⌝ }
+    ensures { λ _. ⌜ WritesSurvivors ⌝ }
+    ensures { λ _. ⌜ NearestNames ⌝ }
+    ensures { λ _. ⌜ WritesVocabularies ⌝ }
+    ensures { λ _. ⌜ EditionsAgree ⌝ }
+    ensures { λ _. ⌜ Limits ⌝ }
+    ensures { λ _. ⌜ Samples ⌝ }
+{}
 
 // The vocabulary check.
 pub fn check_vocabulary(v: &[u8]) -> Counted

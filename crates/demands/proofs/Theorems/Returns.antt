@@ -73,8 +73,8 @@ record-returns v number part e = at (recordCall v number) refl e
 
 -- The answer of a call that follows its table and writes the survivors.
 survivors-told : {A : Type 0} {rows : List Row} {value : A} {o : Outcome A} (v before after : List ℕ) (x : A) (alive done : ℕ)
-    → Follows rows value o → o ≡ accepted x → after ≡ written o v before → Tally v alive done → HoldsSurvivors v (written o v before)
-    → SurvivorsTold rows v before after alive done
+    → Follows rows value o → o ≡ accepted x → after ≡ written o v before → Tally v alive done
+    → HoldsSurvivors v (written o v before) → SurvivorsTold rows v before after alive done
 survivors-told v before after x alive done f e w c held =
     record {
       none = f .accepted-only x e .0;

@@ -33,8 +33,8 @@ use Rattle.records.specs.Finite.{isNil}
 use Rattle.scripts.specs.Run.{isStart, connects, reduces, hasRoom, stepCheck, run, chainCheck, writtenOut, stepAt, scriptCheck}
 use Rattle.records.proofs.Laws.Checks.{then-pass, then-assoc}
 use Rattle.records.proofs.Theorems.Accepted.{vocabulary-then}
-use Rattle.demands.specs.Table.{Row, row, Follows, recordRows, nextRows, recordsTable, vocabularyTable, recordTable, termRow}
-use Rattle.demands.specs.Table.{makingTable, additionTable}
+use Rattle.demands.specs.Table.{Row, row, Follows, recordRows, nextRows, recordsTable, vocabularyTable, recordTable}
+use Rattle.demands.specs.Table.{termRow, makingTable, additionTable}
 use Rattle.demands.specs.Table.{comparisonTable, classificationTable, entryRows, nextStepRows, formTable, OpenFrames}
 use Rattle.demands.specs.Table.{opensFrame, framesAfter, stepRows, laterRows, chainTable, scriptTable, TermOf, InForm}
 use Rattle.demands.proofs.Laws.Rows.{none-passed, row-passed, Tries, follows, tries-append, tries-row, tries-plain}
