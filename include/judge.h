@@ -40,8 +40,11 @@
  * crates/demands/specs, Demands.antt states the demands, and Promises.antt what is promised of names, of what is
  * written and of editions.
  *
+ * TESTED, not proved: this header. All proofs pass with two parameters of a call exchanged in the source, so that
+ * tests/boundary.sh compares the names, order and widths there with those here and in the wrappers.
+ *
  * TRUSTED: the Rattle kit (its logic and its prover), and that its back end and the linker make of the source what it
- * says; this header, which is tested; the caller:
+ * says; the caller:
  *   - a pointer has as many readable bytes as the length beside it says, and is not null, even where the length is 0;
  *   - the buffers of a comparison, of a classification and of a vocabulary that is written are writable, and each
  *     overlaps nothing else that is lent to the call; no other thread writes to what is lent;

@@ -5,6 +5,7 @@ from __future__ import annotations
 import ctypes
 import operator
 import os
+from ctypes import c_char_p, c_size_t, c_uint8, c_uint16, c_uint32, c_uint64, c_void_p
 from pathlib import Path
 from typing import Any, Dict, Final, List, Sequence, Tuple, Union
 
@@ -18,20 +19,38 @@ Writable = Union[bytearray, memoryview]
 #: The name by which the system knows the library.
 SONAME: Final = "libjudge.so.1"
 
-_POINTER, _LENGTH = ctypes.c_void_p, ctypes.c_size_t
-_BUFFER: Final = (_POINTER, _LENGTH)
-_U8, _U16, _U32 = ctypes.c_uint8, ctypes.c_uint16, ctypes.c_uint32
-
-#: The calls, with the types of their arguments (include/judge.h). Each answers 64 bits.
-_CALLS: Final[Dict[str, Tuple[Any, ...]]] = {
-    "judge_check_vocabulary": (*_BUFFER,),
-    "judge_record": (*_BUFFER, _U32),
-    "judge_compare": (*_BUFFER, _U32, _U32, *_BUFFER),
-    "judge_classify": (*_BUFFER, *_BUFFER, *_BUFFER),
-    "judge_check_script": (*_BUFFER, *_BUFFER),
-    "judge_make_vocabulary": (*_BUFFER, _U32),
-    "judge_add_term": (*_BUFFER, _LENGTH, _U8, _U16, _U16),
-    "judge_add_statement": (*_BUFFER, _LENGTH, _U16, _U16),
+#: The calls, with the names and types of their parameters as include/judge.h has them (tests/boundary.sh compares all of it).
+#: What is only read is given as bytes (c_char_p), and what is written as an address (c_void_p). Each call answers 64 bits.
+_CALLS: Final[Dict[str, Dict[str, Any]]] = {
+    "judge_check_vocabulary": {"vocabulary": c_char_p, "vocabulary_len": c_size_t},
+    "judge_record": {"vocabulary": c_char_p, "vocabulary_len": c_size_t, "number": c_uint32},
+    "judge_compare": {
+        "vocabulary": c_char_p,
+        "vocabulary_len": c_size_t,
+        "a": c_uint32,
+        "b": c_uint32,
+        "buffer": c_void_p,
+        "buffer_len": c_size_t,
+    },
+    "judge_classify": {
+        "vocabulary": c_char_p,
+        "vocabulary_len": c_size_t,
+        "survivors": c_void_p,
+        "survivors_len": c_size_t,
+        "taxonomy": c_void_p,
+        "taxonomy_len": c_size_t,
+    },
+    "judge_check_script": {"vocabulary": c_char_p, "vocabulary_len": c_size_t, "script": c_char_p, "script_len": c_size_t},
+    "judge_make_vocabulary": {"buffer": c_void_p, "buffer_len": c_size_t, "roles": c_uint32},
+    "judge_add_term": {
+        "buffer": c_void_p,
+        "buffer_len": c_size_t,
+        "used": c_size_t,
+        "kind": c_uint8,
+        "a": c_uint16,
+        "b": c_uint16,
+    },
+    "judge_add_statement": {"buffer": c_void_p, "buffer_len": c_size_t, "used": c_size_t, "a": c_uint16, "b": c_uint16},
 }
 
 
@@ -54,10 +73,10 @@ def candidates(package: Path, chosen: str) -> List[str]:
 
 
 def _declare(library: ctypes.CDLL) -> None:
-    for name, types in _CALLS.items():
+    for name, parameters in _CALLS.items():
         call = getattr(library, name)
-        call.argtypes = types
-        call.restype = ctypes.c_uint64
+        call.argtypes = list(parameters.values())
+        call.restype = c_uint64
 
 
 def load(names: Sequence[str]) -> Tuple[ctypes.CDLL, ctypes.PyDLL]:
@@ -98,7 +117,7 @@ def number(name: str, value: int, bits: int) -> int:
 
 def length(name: str, value: int) -> int:
     """A number of bytes."""
-    return number(name, value, 8 * ctypes.sizeof(_LENGTH))
+    return number(name, value, 8 * ctypes.sizeof(c_size_t))
 
 
 def view(data: Readable) -> memoryview:

@@ -65,13 +65,22 @@ class Header(unittest.TestCase):
         self.assertEqual([rule.sentence for rule in judge.Rule], sentences[1:])
 
     def test_calls(self) -> None:
-        sizes = {"size_t": ctypes.c_size_t, "uint32_t": ctypes.c_uint32, "uint16_t": ctypes.c_uint16, "uint8_t": ctypes.c_uint8}
-        declared = {}
-        for name, arguments in re.findall(r"^uint64_t (judge_\w+)\(([^)]*)\);", HEADER, re.MULTILINE):
-            kinds = [ctypes.c_void_p if "*" in argument else sizes[argument.split()[0]] for argument in arguments.split(",")]
-            declared[name] = tuple(kinds)
-        self.assertEqual(len(declared), 8)
-        self.assertEqual(_library._CALLS, declared)
+        """What ctypes knows of the calls; tests/boundary.sh compares the names of the parameters, too."""
+        types = {
+            "const uint8_t *": ctypes.c_char_p,
+            "uint8_t *": ctypes.c_void_p,
+            "size_t ": ctypes.c_size_t,
+            "uint32_t ": ctypes.c_uint32,
+            "uint16_t ": ctypes.c_uint16,
+            "uint8_t ": ctypes.c_uint8,
+        }
+        declared = re.findall(r"^uint64_t (judge_\w+)\(([^)]*)\);", HEADER, re.MULTILINE)
+        self.assertEqual([name for name, _ in declared], list(_library._CALLS))
+        for name, parameters in declared:
+            expected = [types[re.sub(r"\w+$", "", parameter.strip())] for parameter in parameters.split(",")]
+            for library in (_library.FREE, _library.HELD):
+                call = getattr(library, name)
+                self.assertEqual((list(call.argtypes), call.restype), (expected, ctypes.c_uint64), name)
 
     def test_version(self) -> None:
         workspace = re.search(r'^version = "(.*)"$', (ROOT / "Cargo.toml").read_text(), re.MULTILINE)
