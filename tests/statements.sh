@@ -13,7 +13,7 @@ work=$(mktemp -d)
 trap 'rm -rf -- "$work"' EXIT
 
 # What has landed, so that no statement goes away together with its contract. Each request adds its own.
-landed='Demand1 Demand2 Demand3 NearestNames WritesVocabularies EditionsAgree Samples'
+landed='Demand1 Demand2 Demand3 Limits WritesSurvivors NearestNames WritesVocabularies EditionsAgree Samples'
 # No statement, but data: Row is a line of the table of refusals.
 data='Row'
 
