@@ -1,2 +1,2 @@
--- What can be read off the numbers that the calls answer.
+-- What the bits of the numbers say that the calls answer.
 pub mod Unpacked

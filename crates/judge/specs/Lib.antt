@@ -1,2 +1,3 @@
--- The numbers that the calls from C answer.
+-- The numbers that the calls from C answer, and what their bits say.
 pub mod Packed
+pub mod Unpacked

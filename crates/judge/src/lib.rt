@@ -1,5 +1,6 @@
 // The boundary to C. Every call answers one number, so that nothing but a lent buffer is ever written;
-// include/judge.h declares the calls, and specs/Packed.antt says which number stands for which outcome.
+// include/judge.h declares the calls, specs/Packed.antt says which number stands for which outcome, and specs/Unpacked.antt
+// what its bits say.
 use records::answers::Counted;
 use records::answers::Located;
 use scripts::answers::Judged;
@@ -19,6 +20,12 @@ ghost use Rattle.types.specs.Bitmap.{written};
 ghost use Rattle.taxonomy.specs.Taxonomy.{classification, firstAfter, secondAfter};
 ghost use Rattle.scripts.specs.Run.{scriptCheck};
 ghost use Rattle.judge.specs.Packed.{valueOf, packed, flag, packedParts, packedVerdict, packedCounts};
+ghost use Rattle.judge.specs.Unpacked.{TakenApart};
+
+// What the bits of every answer say, as a contract, so that the statement cannot be taken away unseen (tests/statements.sh).
+pub fn hold()
+    ensures { λ _. ⌜ TakenApart ⌝ }
+{}
 
 // Bits 0 to 7: the refusal's number, or 0. Bits 8 to 39: its place, or the value answered.
 fn pack(number: u8, value: usize) -> u64

@@ -1,4 +1,4 @@
--- `judge::judge_add_term` meets its contract. The new length fits its bits (`addition-unpacked`).
+-- `judge::judge_add_term` meets its contract. The new length fits its bits (`addition-fits`).
 -- Assumes nothing.
 use Prim.Native.Nat.{ℕ, _<_, _^_}
 use mathlib.Core.Path.{sym, ap, subst, _∙_}
@@ -7,7 +7,7 @@ use borrow.Author.Needs.{needs}
 use Rattle.records.specs.Outcome.{Outcome}
 use Rattle.writer.specs.Additions.{term}
 use Rattle.judge.specs.Packed.{valueOf, packed}
-use Rattle.judge.proofs.Unpacked.{addition-unpacked}
+use Rattle.judge.proofs.Unpacked.{addition-fits}
 use Rattle.judge.proofs.judge_add_term.Statement.{statement}
 use Rattle.judge.proofs.judge_add_term.Tie as tie
 
@@ -16,7 +16,7 @@ pack-length-requires c κs =
     let k = c .before .before in
     let a = k .before .before .before .args in
     subst (λ (o : Outcome ℕ). valueOf o < 2 ^ 32) (sym (k .add-term .ensures .0))
-    (addition-unpacked (now (a .buffer)) (a .used) (term (a .kind) (a .a) (a .b)) .fits)
+    (addition-fits (now (a .buffer)) (a .used) (term (a .kind) (a .a) (a .b)))
 
 returns : tie.Need-returns
 returns c =

@@ -1,4 +1,4 @@
--- `judge::judge_make_vocabulary` meets its contract. The new length fits its bits (`making-unpacked`).
+-- `judge::judge_make_vocabulary` meets its contract. The new length fits its bits (`making-fits`).
 -- Assumes nothing.
 use Prim.Native.Nat.{ℕ, _<_, _^_}
 use mathlib.Core.Path.{sym, ap, subst, _∙_}
@@ -7,7 +7,7 @@ use denote.Ref.{now}
 use borrow.Author.Needs.{needs}
 use Rattle.records.specs.Outcome.{Outcome}
 use Rattle.judge.specs.Packed.{valueOf, packed}
-use Rattle.judge.proofs.Unpacked.{making-unpacked}
+use Rattle.judge.proofs.Unpacked.{making-fits}
 use Rattle.judge.proofs.judge_make_vocabulary.Statement.{statement}
 use Rattle.judge.proofs.judge_make_vocabulary.Tie as tie
 
@@ -16,7 +16,7 @@ pack-length-requires c κs =
     let k = c .before .before in
     let a = k .before .before .before .args in
     subst (λ (o : Outcome ℕ). valueOf o < 2 ^ 32) (sym (k .make-vocabulary .ensures .0))
-    (making-unpacked (length (now (a .buffer))) (a .roles) .fits)
+    (making-fits (length (now (a .buffer))) (a .roles))
 
 returns : tie.Need-returns
 returns c =
