@@ -1,7 +1,8 @@
 #!/bin/sh
 # Holds the code of the crates to what docs/ARCHITECTURE.md says of it, so that contracts stay readable: a line has at most
 # 130 characters, a contract names its limits, a function has at most 9 parameters and a body of at most 40 lines. Lines of
-# specs/ and proofs/ are as short, but for those that say what to unfold.
+# specs/ and proofs/ are as short, but for those that say what to unfold. A path in proofs/ goes back at most four `.before` at a
+# time: what lies further back is reached by waypoints with names.
 #
 # usage: contracts.sh [FILE..]        (no FILE: every file of crates/*/src, and the lines of crates/*/specs and proofs)
 # Exit status: 0 all is so; 1 some line is not, and each is told.
@@ -16,9 +17,16 @@ tell_long() {
         sed 's/:\([0-9]*\):.*/:\1: over 130 characters/' >> "$told" || :
 }
 
+# Tells the paths of proofs that go further back than four places.
+tell_paths() {
+    grep -HnE '(\.before ?){5,}' "$@" |
+        sed 's/:\([0-9]*\):.*/:\1: a path of more than four `.before`, where a waypoint names the place/' >> "$told" || :
+}
+
 if [ $# -eq 0 ]; then
     set -- crates/*/src/*.rt
     tell_long -r --include='*.antt' crates
+    tell_paths -r --include='*.antt' crates/*/proofs
 fi
 tell_long "$@"
 

@@ -46,13 +46,13 @@ fn tabulate(v: &[u8], k: usize, lent: &mut [u8], room: &mut [u8]) -> Classified
     ensures { λ _. ⌜ now (room .exit) ≡ taxonomy (now (v .entry)) ++ drop taxonomyBytes (now (room .entry)) ⌝ }
 {
     let mut alive = [false; TypeData::TYPES];
-    let counts = settle_types(v, k, &mut alive, lent);
+    let settled = settle_types(v, k, &mut alive, lent);
     let names = list_names(v);
     let meets = find_broader(v, names, k, &alive);
     write_table(names, &meets, room);
     Classified::Counts {
-        survivors: counts.survivors,
-        rounds: counts.rounds,
+        survivors: settled.survivors,
+        rounds: settled.rounds,
     }
 }
 

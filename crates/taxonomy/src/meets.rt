@@ -33,20 +33,23 @@ fn meet_halves(alive: &[bool; TypeData::TYPES], size: usize) -> Halves
     ensures { λ r. ⌜ Meets low (now (alive .entry)) size (r .low) ⌝ }
     ensures { λ r. ⌜ Meets high (now (alive .entry)) size (r .high) ⌝ }
 {
-    let mut low = [Halves::ALL; Halves::COUNT];
-    let mut high = [Halves::ALL; Halves::COUNT];
+    let mut lows = [Halves::ALL; Halves::COUNT];
+    let mut highs = [Halves::ALL; Halves::COUNT];
     let mut t = 0;
     while t < size {
         if alive[t] {
             let x = t % Halves::COUNT;
             let y = t / Halves::COUNT;
             let word = t as u16;
-            low[x] = low[x] & word;
-            high[y] = high[y] & word;
+            lows[x] = lows[x] & word;
+            highs[y] = highs[y] & word;
         }
         t += 1;
     }
-    Halves { low, high }
+    Halves {
+        low: lows,
+        high: highs,
+    }
 }
 
 // The meet of those words of a table whose place has bit p.

@@ -38,18 +38,21 @@ pub fn list_names(v: &[u8]) -> Names
     ensures { λ r. ⌜ NamesListed (now (v .entry)) r ⌝ }
 {
     let records = v.len() / Record::SIZE;
-    let mut atoms = [0; TypeData::ATOMS];
+    let mut numbers = [0; TypeData::ATOMS];
     let mut count = 0;
     let mut atom = 0;
     let mut i = 0;
     while i < records {
         let kind = read_at(v, i).kind;
         if is_name(kind) {
-            atoms[count] = atom;
+            numbers[count] = atom;
             count += 1;
         }
         atom += atoms_in(kind);
         i += 1;
     }
-    Names { count, atoms }
+    Names {
+        count,
+        atoms: numbers,
+    }
 }

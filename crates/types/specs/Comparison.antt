@@ -21,7 +21,7 @@ pub data Verdict : Type 0 where
 
 -- "with either go the number of survivors and of rounds that removed something"
 abbrev pub countsOf : ℕ → ℕ → Counts
-countsOf survivors rounds = record { survivors = survivors; rounds = rounds }
+countsOf alive done = record { survivors = alive; rounds = done }
 
 abbrev pub counts : List ℕ → Counts
 counts v = countsOf (members (survivors v)) (rounds v)
@@ -35,8 +35,8 @@ abbrev pub firstDistinguishing : List ℕ → ℕ → ℕ → ℕ
 firstDistinguishing v a b = least (distinguishes v a b) (types v)
 
 abbrev pub verdictWith : Bool → ℕ → ℕ → ℕ → Verdict
-verdictWith true element survivors rounds = different element survivors rounds
-verdictWith false element survivors rounds = equal survivors rounds
+verdictWith true element alive done = different element alive done
+verdictWith false element alive done = equal alive done
 
 unfoldable pub verdict : List ℕ → ℕ → ℕ → Verdict
 verdict v a b =

@@ -15,7 +15,7 @@ types v = 2 ^ atoms v
 
 -- "whose bit j is the truth of atom j. Other terms have their truth at a type by top, bottom, not, and, or."
 abbrev pub truthRule : List ℕ → ℕ → (ℕ → Bool) → ℕ → Bool
-truthRule v t truth i = evaluate (constructOf (recordAt v i)) (bit t (rank v i)) truth
+truthRule v t operand i = evaluate (constructOf (recordAt v i)) (bit t (rank v i)) operand
 
 unfoldable pub truth : List ℕ → ℕ → ℕ → Bool
 truth v t i = inRecordOrder false (truthRule v t) i

@@ -86,9 +86,9 @@ pub fn settle_query(
     ensures { λ _. ⌜ Settled (now (v .entry)) a b (now (alive .exit)) (now (differs .exit)) ⌝ }
     ensures { λ _. ⌜ now (lent .exit) ≡ bitmap (now (v .entry)) ++ drop bitmapBytes (now (lent .entry)) ⌝ }
 {
-    let counts = settle(v, a, b, k, alive, differs);
+    let settled = settle(v, a, b, k, alive, differs);
     write_bitmap(alive, 1 << k, lent);
-    counts
+    settled
 }
 
 // The same with no query: the header, which differs from itself at no type, stands for both terms.

@@ -15,9 +15,21 @@ use Rattle.judge.specs.Packed.{packedCounts}
 use Rattle.judge.proofs.judge_classify.Statement.{statement}
 use Rattle.judge.proofs.judge_classify.Tie as tie
 
--- the places of the calls, backwards
+-- the places of the call, backwards: the arms of the match, the answer, the lengths of the slices known, the start
+abbrev sized : tie.After-classify-arg2 → tie.After-slice-known2
+sized c = c .before .before
+
 abbrev start : tie.After-classify → tie.Start
-start c = c .before .before .before .before .before .before
+start c = sized (c .before) .before .before .before
+
+abbrev answered : tie.After-slice-known4 → tie.After-classify
+answered c = c .before .before .before .before
+
+abbrev counts-told : tie.After-known-told → tie.After-classify
+counts-told c = answered (c .before .before .before)
+
+abbrev refused-told : tie.After-known-told2 → tie.After-classify
+refused-told c = answered (c .before .before .before)
 
 -- the answer fits its bits
 small : (c : tie.After-classify) (o : Classified) → c .classify .result ≡ o → SmallCounts recordLimit (classified o)
@@ -28,12 +40,12 @@ small c o e =
 
 pack-verdict-requires : tie.Need-pack-verdict-requires
 pack-verdict-requires c κs =
-    let s = small (c .before .before .before .before .before .before .before) _ (c .before .answer .given .1) in
+    let s = small (counts-told c) _ (c .before .answer .given .1) in
     (omega arith, (omega (arith, s .0), omega (arith, s .1)))
 
 pack-requires : tie.Need-pack-requires
 pack-requires c κs =
-    omega (arith, small (c .before .before .before .before .before .before .before) _ (c .before .answer2 .given .1))
+    omega (arith, small (refused-told c) _ (c .before .answer2 .given .1))
 
 -- the answer's number is the definition's
 packed-answer : (c : tie.After-classify) (o : Classified) (n : ℕ) → c .classify .result ≡ o → n ≡ packedCounts (classified o)
@@ -43,13 +55,13 @@ packed-answer c o n e p = p ∙ ap packedCounts (sym (ap classified e) ∙ c .cl
 
 returns : tie.Need-returns
 returns c =
-    let k = c .before .before .before .before .before .before .before .before in
+    let k = counts-told (c .before) in
     let e = k .classify .ensures in
     (packed-answer k _ _ (c .before .before .answer .given .1) (c .pack-verdict .ensures), (e .1 .0, (e .1 .1 .0, refl)))
 
 returns-2 : tie.Need-returns-2
 returns-2 c =
-    let k = c .before .before .before .before .before .before .before .before in
+    let k = refused-told (c .before) in
     let e = k .classify .ensures in
     (packed-answer k _ _ (c .before .before .answer2 .given .1) (c .pack .ensures), (e .1 .0, (e .1 .1 .0, refl)))
 

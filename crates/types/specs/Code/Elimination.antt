@@ -79,10 +79,10 @@ Joins v S table = (x : ℕ) → x < 2 ^ width v → getD table x 0 ≡ joins v S
 
 -- What a word of restrictions needs for one role is met by a table of joins; what type t needs, by a table of such words.
 abbrev pub metBy : List ℕ → ℕ → ℕ → Bool
-metBy joins mask word = eqb (bitOr (getD joins (bitOr word mask) 0) mask) (bitOr word mask)
+metBy table mask word = eqb (bitOr (getD table (bitOr word mask) 0) mask) (bitOr word mask)
 
 abbrev pub metAt : List ℕ → ℕ → List ℕ → ℕ → Bool
-metAt joins mask held t = metBy joins mask (getD held t 0)
+metAt table mask held t = metBy table mask (getD held t 0)
 
 -- What a test keeps of a set.
 pub record Keeps (test : ℕ → Bool) (S R : List Bool) : Type 0 where

@@ -10,6 +10,10 @@ use Rattle.columns.proofs.Refinement.Groups.{group-negation, group-incl
 use Rattle.columns.proofs.group.group_column.Statement.{statement}
 use Rattle.columns.proofs.group.group_column.Tie as tie
 
+-- the match's arms of several kinds, seen from the kinds above a name's
+abbrev rest : tie.Else3 → tie.At-match-rest
+rest c = c .before .before .before
+
 returns : tie.Need-returns
 returns c =
     let a = c .before .before .args in
@@ -31,18 +35,20 @@ returns-3 c =
 
 returns-4 : tie.Need-returns-4
 returns-4 c =
-    let m = c .before .before .before .before .before in
+    let above = c .before .before in
+    let m = rest above in
     let a = m .before .args in
-    let least : 5 ≤ a .fields .kind = omega (arith, c .before .before .if3 .left, m .match .rest .0 .1) in
+    let least : 5 ≤ a .fields .kind = omega (arith, above .if3 .left, m .match .rest .0 .1) in
     c .junction-column .ensures
     ∙ same-at _ _ _ _ _ _ (sym (group-junction (a .fields) (a .i) (a .fields .kind) least (c .before .if4 .taken)))
 
 returns-5 : tie.Need-returns-5
 returns-5 c =
-    let a = c .before .before .before .before .before .before .before .args in
+    let above = c .before .before in
+    let a = rest (above .before) .before .args in
     c .restriction-column .ensures
     ∙ same-at _ _ _ _ _ _
-    (sym (group-restriction (a .fields) (a .i) (a .fields .kind) (c .before .before .if4 .left) (c .before .if5 .taken)))
+    (sym (group-restriction (a .fields) (a .i) (a .fields .kind) (above .if4 .left) (c .before .if5 .taken)))
 
 returns-6 : tie.Need-returns-6
 returns-6 c =

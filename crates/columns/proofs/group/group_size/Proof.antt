@@ -9,6 +9,10 @@ use Rattle.columns.proofs.Refinement.Groups.{group-low, group-name, gro
 use Rattle.columns.proofs.group.group_size.Statement.{statement}
 use Rattle.columns.proofs.group.group_size.Tie as tie
 
+-- the match's arms of several kinds, seen from the kinds above a name's
+abbrev rest : tie.Else3 → tie.At-match-rest
+rest c = c .before .before .before
+
 returns : tie.Need-returns
 returns c =
     let a = c .before .before .args in
@@ -27,9 +31,10 @@ returns-3 c =
 
 returns-4 : tie.Need-returns-4
 returns-4 c =
-    let m = c .before .before .before .before .before in
+    let above = c .before .before in
+    let m = rest above in
     let a = m .before .args in
-    let least : 5 ≤ a .fields .kind = omega (arith, c .before .before .if3 .left, m .match .rest .0 .1) in
+    let least : 5 ≤ a .fields .kind = omega (arith, above .if3 .left, m .match .rest .0 .1) in
     λ i. c .size-at4 .ensures ∙ size-triple (a .fields) i (a .n) (a .fields .kind) least (c .before .if4 .taken)
 
 returns-5 : tie.Need-returns-5
@@ -46,7 +51,7 @@ returns-6 c =
 
 returns-7 : tie.Need-returns-7
 returns-7 c =
-    let m = c .before .before .before .before in
+    let m = rest (c .before) in
     let a = m .before .args in
     let k = a .fields .kind in
     let most : 10 ≤ k = omega (arith, c .if4 .left, m .match .rest .1) in

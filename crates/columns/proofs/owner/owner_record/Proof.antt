@@ -14,6 +14,13 @@ use Rattle.columns.proofs.Theorems.Owners.{columns-record, columns-sile
 use Rattle.columns.proofs.owner.owner_record.Statement.{statement}
 use Rattle.columns.proofs.owner.owner_record.Tie as tie
 
+-- the start, and the read record, backwards
+abbrev start : tie.After-read-at → tie.Start
+start c = c .before .before .before
+
+abbrev read : tie.After-has-columns → tie.After-read-at
+read c = c .before .before
+
 good : (c : tie.Start) → AcceptedFacts (now (c .args .v))
 good c = accepted-vocabulary _ _ (c .pre .vocabulary)
 
@@ -24,29 +31,26 @@ returns c =
     λ q n. columns-past (now (b .args .v)) q (good b) (b .args .owner) n (c .if1 .taken)
 
 element-copy-out-has-columns : tie.Need-element-copy-out-has-columns
-element-copy-out-has-columns c = omega (arith, good (c .before .before .before) .sized .most)
-
--- Place: the start.
-abbrev start : tie.After-has-columns → tie.Start
-start c = c .before .before .before .before .before
+element-copy-out-has-columns c = omega (arith, good (start c) .sized .most)
 
 -- whether the record states something
-stated : (c : tie.After-has-columns) → let a = start c .args in c .has-columns .result ≡ states (now (a .v)) (a .owner)
+stated : (c : tie.After-has-columns) → let a = start (read c) .args in c .has-columns .result ≡ states (now (a .v)) (a .owner)
 stated c =
-    let a = start c .args in
-    c .has-columns .ensures (now (a .v)) (a .owner) (c .before .before .read-at .ensures) (start c .pre .marked (a .owner))
+    let s = start (read c) in
+    let a = s .args in
+    c .has-columns .ensures (now (a .v)) (a .owner) (read c .read-at .ensures) (s .pre .marked (a .owner))
 
 returns-2 : tie.Need-returns-2
 unfolding kindOf
 returns-2 c =
-    let a = start (c .before) .args in
+    let a = start (read (c .before)) .args in
     λ q n. columns-silent (now (a .v)) q (a .owner) n (sym (stated (c .before)) ∙ not-true _ (c .if2 .taken))
 
 returns-3 : tie.Need-returns-3
 returns-3 c =
-    let a = start (c .before) .args in
+    let a = start (read (c .before)) .args in
     λ q n. columns-record (now (a .v)) q (a .owner) n (sym (stated (c .before)) ∙ not-false _ (c .if2 .left))
-    ∙ ap (λ (r : Record). columnsOf (a .owner) (constructOf r)) (sym (c .before .before .before .read-at .ensures))
+    ∙ ap (λ (r : Record). columnsOf (a .owner) (constructOf r)) (sym (read (c .before) .read-at .ensures))
 
 pub owner-record-spec : {M : Type 1} → statement M
 owner-record-spec =

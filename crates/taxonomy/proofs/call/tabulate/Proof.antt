@@ -18,9 +18,12 @@ use Rattle.taxonomy.proofs.Refinement.Table.{table-right}
 use Rattle.taxonomy.proofs.call.tabulate.Statement.{statement}
 use Rattle.taxonomy.proofs.call.tabulate.Tie as tie
 
--- the places of the calls, backwards
+-- the places of the calls, backwards; at `sized` the lengths of the slices are known
+abbrev sized : tie.After-settle-types-arg → tie.After-slice-known2
+sized c = c .before .before
+
 abbrev start : tie.After-settle-types → tie.Start
-start c = c .before .before .before .before .before .before
+start c = sized (c .before) .before .before .before
 
 abbrev settled : tie.After-list-names → tie.After-settle-types
 settled c = c .before .before .before
@@ -30,7 +33,7 @@ listed c = c .before .before
 
 settle-types-requires : tie.Need-settle-types-requires
 settle-types-requires c κs =
-    let p = c .before .before .before .before .before .pre in
+    let p = sized c .before .before .before .pre in
     (p .0, (record { none = λ t. ends-empty typeLimit 0 t (omega arith); size = refl }, p .1 .0))
 
 list-names-requires : tie.Need-list-names-requires

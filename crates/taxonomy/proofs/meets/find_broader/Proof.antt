@@ -13,6 +13,13 @@ use Rattle.taxonomy.proofs.Refinement.Broader.{meets-above}
 use Rattle.taxonomy.proofs.meets.find_broader.Statement.{statement}
 use Rattle.taxonomy.proofs.meets.find_broader.Tie as tie
 
+-- the places of the calls, backwards
+abbrev start : tie.After-meet-halves → tie.Start
+start c = c .before .before
+
+abbrev halves-met : tie.After-highs2 → tie.After-meet-halves
+halves-met c = c .before .before .before .before
+
 -- the size is the number of types
 size : (c : tie.Start) → (1 * 2 ^ c .args .k) % 18446744073709551616 ≡ types (now (c .args .v))
 size c = let s = c .pre .0 in size-word (now (c .args .v)) (c .args .k) (s .few) (s .counts)
@@ -26,14 +33,14 @@ meet-halves-requires c κs =
 
 meet-names-requires : tie.Need-meet-names-requires
 meet-names-requires c κs =
-    let s = c .before .before .before .before .before .before in
+    let s = start (halves-met c) in
     let listed = s .pre .1 .0 in
     (omega (arith, listed .all, names-few (now (s .args .v)) (count (now (s .args .v))), s .pre .0 .few), listed .small)
 
 returns : tie.Need-returns
 returns c =
-    let halves = c .before .before .before .before .before in
-    let s = halves .before .before in
+    let halves = halves-met (c .before) in
+    let s = start halves in
     let v = now (s .args .v) in
     let alive = now (s .args .alive) in
     let tables = halves .meet-halves .result in

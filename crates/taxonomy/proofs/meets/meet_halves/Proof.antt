@@ -19,10 +19,10 @@ record Meeting (alive : List Bool) (size : ℕ) (lows highs : List ℕ) (t : ℕ
   by-high : Meets high alive t highs
 
 abbrev Inv-loop : tie.InvT-loop
-Inv-loop alive size low₀ high₀ t₀ lows highs t = Meeting alive size lows highs t
+Inv-loop alive size lows₀ highs₀ t₀ lows highs t = Meeting alive size lows highs t
 
 abbrev μ-loop : tie.MeasureT-loop
-μ-loop alive size low₀ high₀ t₀ lows highs t = size - t
+μ-loop alive size lows₀ highs₀ t₀ lows highs t = size - t
 
 loop-holds : tie.Need-loop-holds Inv-loop μ-loop
 loop-holds c =
@@ -41,13 +41,13 @@ loop-again c =
     ⊎-elim
     (λ s. rw (s .1, s .2) record {
       within = omega arith;
-      by-low = meets-more low alive (l .low) (l .t) (w .by-low) (s .0 .taken) (omega arith);
-      by-high = meets-more high alive (l .high) (l .t) (w .by-high) (s .0 .taken) (omega (arith, in-loop .before .before .pre));
+      by-low = meets-more low alive (l .lows) (l .t) (w .by-low) (s .0 .taken) (omega arith);
+      by-high = meets-more high alive (l .highs) (l .t) (w .by-high) (s .0 .taken) (omega (arith, in-loop .before .before .pre));
     })
     (λ s. rw (s .1, s .2) record {
       within = omega arith;
-      by-low = meets-same low alive (l .low) (l .t) (w .by-low) (s .0 .left);
-      by-high = meets-same high alive (l .high) (l .t) (w .by-high) (s .0 .left);
+      by-low = meets-same low alive (l .lows) (l .t) (w .by-low) (s .0 .left);
+      by-high = meets-same high alive (l .highs) (l .t) (w .by-high) (s .0 .left);
     }) (c .if1 .came)
 
 returns : tie.Need-returns Inv-loop μ-loop
@@ -55,8 +55,8 @@ returns c =
     let l = c .before .loop in
     let a = c .before .before .args in
     let e : l .t ≡ a .size = omega (arith, l .inv .within) in (
-      subst (λ (n : ℕ). Meets low (now (a .alive)) n (l .low)) e (l .inv .by-low),
-      subst (λ (n : ℕ). Meets high (now (a .alive)) n (l .high)) e (l .inv .by-high),
+      subst (λ (n : ℕ). Meets low (now (a .alive)) n (l .lows)) e (l .inv .by-low),
+      subst (λ (n : ℕ). Meets high (now (a .alive)) n (l .highs)) e (l .inv .by-high),
     )
 
 pub meet-halves-spec : {M : Type 1} → statement M

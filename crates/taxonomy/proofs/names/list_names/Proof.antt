@@ -40,10 +40,20 @@ below v i few h e =
     omega (arith, rank-next v i (name-atom (recordAt v i .kind) e), rank-mono v (suc i) (count v) (omega arith))
 
 abbrev Inv-loop : tie.InvT-loop
-Inv-loop v records atoms₀ n₀ atom₀ i₀ atoms n atom i = Listing v atoms n atom i
+Inv-loop v records numbers₀ n₀ atom₀ i₀ numbers n atom i = Listing v numbers n atom i
 
 abbrev μ-loop : tie.MeasureT-loop
-μ-loop v records atoms₀ n₀ atom₀ i₀ atoms n atom i = count v - i
+μ-loop v records numbers₀ n₀ atom₀ i₀ numbers n atom i = count v - i
+
+-- the function's start and the places of a turn, backwards
+abbrev start : tie.In-loop Inv-loop μ-loop → tie.Start Inv-loop μ-loop
+start c = c .before .before .before
+
+abbrev turn : tie.After-is-name Inv-loop μ-loop → tie.In-loop Inv-loop μ-loop
+turn c = c .before .before
+
+abbrev name-tested : tie.After-atoms-in Inv-loop μ-loop → tie.After-is-name Inv-loop μ-loop
+name-tested c = c .before .before
 
 loop-holds : tie.Need-loop-holds Inv-loop μ-loop
 unfolding rank
@@ -59,46 +69,47 @@ loop-holds c =
 -- the record is in the vocabulary, and what the test tells of it
 inside : (c : tie.In-loop Inv-loop μ-loop) → c .before .loop .i < recordLimit
 inside c =
-    let start = c .before .before .before in
-    omega (arith, c .before .loop .inv .within, accepted-vocabulary (now (start .args .v)) _ (start .pre .0) .sized .most)
+    let s = start c in
+    omega (arith, c .before .loop .inv .within, accepted-vocabulary (now (s .args .v)) _ (s .pre .0) .sized .most)
 
 tested : (c : tie.After-is-name Inv-loop μ-loop)
-    → c .is-name .result ≡ named (now (c .before .before .before .before .before .args .v)) (c .before .before .before .loop .i)
+    → c .is-name .result ≡ named (now (start (turn c) .args .v)) (turn c .before .loop .i)
 tested c = c .is-name .ensures ∙ ap (λ (r : Record). isName (r .kind)) (c .before .read-at .ensures)
 
-free : (c : tie.Then1 Inv-loop μ-loop) → c .before .before .before .before .loop .count < atomLimit
+free : (c : tie.Then1 Inv-loop μ-loop) → turn (c .before) .before .loop .count < atomLimit
 free c =
-    let l = c .before .before .before .before in
-    let v = now (l .before .before .args .v) in
-    let i = l .loop .i in
+    let in-loop = turn (c .before) in
+    let s = start in-loop in
+    let v = now (s .args .v) in
+    let l = in-loop .before .loop in
     omega (
       arith,
-      l .loop .inv .total,
-      names-few v i,
-      below v i (l .before .before .pre .1) (c .before .before .before .loop-test .taken)
-          (sym (tested (c .before)) ∙ c .if1 .taken),
+      l .inv .total,
+      names-few v (l .i),
+      below v (l .i) (s .pre .1) (in-loop .loop-test .taken) (sym (tested (c .before)) ∙ c .if1 .taken),
     )
 
-mul-atoms : tie.Need-mul-atoms Inv-loop μ-loop
-mul-atoms c = omega (arith, free c)
+mul-numbers : tie.Need-mul-numbers Inv-loop μ-loop
+mul-numbers c = omega (arith, free c)
 
-array-write-atoms : tie.Need-array-write-atoms Inv-loop μ-loop
-array-write-atoms c = free c
+array-write-numbers : tie.Need-array-write-numbers Inv-loop μ-loop
+array-write-numbers c = free c
 
 add-count : tie.Need-add-count Inv-loop μ-loop
 add-count c = omega (arith, free c)
 
 -- the record counts as an atom or not
 atoms-here : (c : tie.After-atoms-in Inv-loop μ-loop)
-    → c .atoms-in .result ≡ digit (isAtom (recordAt (now (c .before .before .before .before .before .before .before .args .v))
-    (c .before .before .before .before .before .loop .i) .kind))
-atoms-here c = c .atoms-in .ensures ∙ ap (λ (r : Record). digit (isAtom (r .kind))) (c .before .before .before .read-at .ensures)
+    → let in-loop = turn (name-tested c) in
+    c .atoms-in .result ≡ digit (isAtom (recordAt (now (start in-loop .args .v)) (in-loop .before .loop .i) .kind))
+atoms-here c =
+    c .atoms-in .ensures ∙ ap (λ (r : Record). digit (isAtom (r .kind))) (name-tested c .before .read-at .ensures)
 
 add-atom : tie.Need-add-atom Inv-loop μ-loop
 add-atom c =
-    let in-loop = c .before .before .before .before in
+    let in-loop = turn (name-tested c) in
     let l = in-loop .before .loop in
-    let v = now (in-loop .before .before .before .args .v) in
+    let v = now (start in-loop .args .v) in
     omega (
       arith,
       l .inv .ranked,
@@ -109,31 +120,32 @@ add-atom c =
     )
 
 add-i : tie.Need-add-i Inv-loop μ-loop
-add-i c = omega (arith, inside (c .before .before .before .before))
+add-i c = omega (arith, inside (turn (name-tested c)))
 
 loop-again : tie.Need-loop-again Inv-loop μ-loop
 loop-again c =
-    let in-loop = c .before .before .before .before in
+    let in-loop = turn (name-tested c) in
     let l = in-loop .before .loop in
     let w = l .inv in
-    let start = in-loop .before .before .before in
-    let v = now (start .args .v) in
+    let s = start in-loop in
+    let v = now (s .args .v) in
     let h : l .i + 1 ≤ count v = omega arith in
     let next = rank-turn v (l .i) (l .atom) _ (w .ranked) refl in
     let ranked : l .atom + c .atoms-in .result ≡ rank v (l .i + 1) = ap (λ (n : ℕ). l .atom + n) (atoms-here c) ∙ next in
     ⊎-elim
-    (λ s. let e : named v (l .i) ≡ true = sym (tested (c .before .before)) ∙ s .0 .taken in
-    let less = below v (l .i) (start .pre .1) (omega arith) e in
+    (λ z. let e : named v (l .i) ≡ true = sym (tested (name-tested c)) ∙ z .0 .taken in
+    let less = below v (l .i) (s .pre .1) (omega arith) e in
     let room : l .count < atomLimit = omega (arith, w .total, names-few v (l .i)) in
-    rw (s .1, s .2) record {
+    rw (z .1, z .2) record {
       within = h;
       total = total-turn (named v) (l .count) (l .i) (w .total) true e;
       ranked = ranked;
       filled = fill-entry-more (named v) _ (l .i) (w .total) 0 _ (rank v) _ (w .filled) _ room e (w .ranked);
-      small = numbers-set (l .atoms) (l .count) (l .atom) (w .small) (omega (arith, w .filled .size)) (omega (arith, w .ranked));
+      small = numbers-set (l .numbers) (l .count) (l .atom) (w .small) (omega (arith, w .filled .size))
+          (omega (arith, w .ranked));
     })
-    (λ s. let e : named v (l .i) ≡ false = sym (tested (c .before .before)) ∙ s .0 .left in
-    rw (s .1, s .2) record {
+    (λ z. let e : named v (l .i) ≡ false = sym (tested (name-tested c)) ∙ z .0 .left in
+    rw (z .1, z .2) record {
       within = h;
       total = omega (arith, total-turn (named v) (l .count) (l .i) (w .total) false e);
       ranked = ranked;
@@ -156,5 +168,5 @@ returns c =
 pub list-names-spec : {M : Type 1} → statement M
 list-names-spec =
     tie.close
-    (tie.spec Inv-loop μ-loop loop-holds (λ c κs. omega arith) (λ c κs. search needs) mul-atoms array-write-atoms add-count
+    (tie.spec Inv-loop μ-loop loop-holds (λ c κs. omega arith) (λ c κs. search needs) mul-numbers array-write-numbers add-count
     (λ c κs. search needs) add-atom add-i (λ c. omega arith) loop-again returns)

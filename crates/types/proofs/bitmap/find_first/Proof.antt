@@ -15,19 +15,24 @@ Inv-loop alive differs size t₀ t = (t ≤ size) × None (inBoth alive differs)
 abbrev μ-loop : tie.MeasureT-loop
 μ-loop alive differs size t₀ t = size - t
 
+-- the loop, seen from its first test
+abbrev turn : tie.After-if12 Inv-loop μ-loop → tie.At-loop Inv-loop μ-loop
+turn c = c .before .before
+
 loop-holds : tie.Need-loop-holds Inv-loop μ-loop
 loop-holds c = (omega arith, none-start (inBoth (now (c .args .alive)) (now (c .args .differs))))
 
 returns : tie.Need-returns Inv-loop μ-loop
 returns c =
-    let w = c .before .before .before .before .before in
+    let is-alive = c .before .before in
+    let w = turn (is-alive .before) in
     let a = w .before .args in
-    first-found (now (a .alive)) (now (a .differs)) (w .loop .t) (a .size) (c .before .before .before .before .loop-test .taken)
-    (w .loop .inv .1) (c .before .before .if1 .taken) (c .if2 .taken)
+    first-found (now (a .alive)) (now (a .differs)) (w .loop .t) (a .size) (is-alive .before .before .loop-test .taken)
+    (w .loop .inv .1) (is-alive .if1 .taken) (c .if2 .taken)
 
 loop-again : tie.Need-loop-again Inv-loop μ-loop
 loop-again c =
-    let w = c .before .before .before in
+    let w = turn (c .before) in
     let a = w .before .args in (
       omega arith,
       ⊎-elim

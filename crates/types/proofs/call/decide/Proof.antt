@@ -15,12 +15,18 @@ use Rattle.records.proofs.Laws.Filling.{ends-empty}
 use Rattle.types.proofs.call.decide.Statement.{statement}
 use Rattle.types.proofs.call.decide.Tie as tie
 
--- the places of the calls, backwards
-abbrev start : tie.After-settle-query → tie.Start
-start c = c .before .before .before .before .before .before
+-- the places of the calls, backwards; at `sized` the lengths of the slices are known, at `returned` the lent bytes are back
+abbrev sized : tie.After-settle-query-arg → tie.After-slice-known
+sized c = c .before .before .before
 
-abbrev settled : tie.After-find-first → tie.After-settle-query
-settled c = c .before .before .before .before .before
+abbrev start : tie.After-settle-query → tie.Start
+start c = sized (c .before) .before .before
+
+abbrev settled : tie.After-slice-known2 → tie.After-settle-query
+settled c = c .before .before
+
+abbrev returned : tie.After-differs2 → tie.After-slice-known2
+returned c = c .before .before
 
 -- the size is the number of types
 size : (c : tie.After-settle-query) → (1 * 2 ^ start c .args .k) % 18446744073709551616 ≡ types (now (start c .args .v))
@@ -28,7 +34,7 @@ size c = let q = start c .pre .0 .settles in size-word (now (start c .args .v)) 
 
 settle-query-requires : tie.Need-settle-query-requires
 settle-query-requires c κs =
-    let p = c .before .before .before .before .before .pre in (
+    let p = sized c .before .before .pre in (
       p .0,
       (
         record {
@@ -40,17 +46,17 @@ settle-query-requires c κs =
     )
 
 shl-size : tie.Need-shl-size
-shl-size c = let q = start (c .before .before) .pre .0 .settles in omega (arith, q .few, q .counts)
+shl-size c = let q = start (settled c) .pre .0 .settles in omega (arith, q .few, q .counts)
 
 find-first-requires : tie.Need-find-first-requires
 find-first-requires c κs =
-    let s = c .before .before .before .before in
+    let s = settled (returned c) in
     omega (arith, size s, types-bound (now (start s .args .v)) (start s .pre .0 .settles .few))
 
 returns : tie.Need-returns
 returns c =
     let first = c .before in
-    let s = settled first in
+    let s = settled (returned (first .before)) in
     let a = start s .args in
     let v = now (a .v) in
     let last = s .settle-query .last in

@@ -32,11 +32,27 @@ Inv-loop v roles bits held filling size alive₀ masks remaining₀ joins₀ lef
 abbrev μ-loop : tie.MeasureT-loop
 μ-loop v roles bits held filling size alive₀ masks remaining₀ joins₀ left₀ done₀ alive remaining joins left done = types v - done
 
+-- the places of the calls and of the loop, backwards
+abbrev start : tie.After-list-masks Inv-loop μ-loop → tie.Start Inv-loop μ-loop
+start c = c .before .before
+
+abbrev masked : tie.After-list-alive Inv-loop μ-loop → tie.After-list-masks Inv-loop μ-loop
+masked c = c .before .before .before
+
+abbrev start-at : tie.At-loop Inv-loop μ-loop → tie.Start Inv-loop μ-loop
+start-at c = start (masked (c .before))
+
+abbrev turn : tie.After-remove-unserved-arg Inv-loop μ-loop → tie.At-loop Inv-loop μ-loop
+turn c = c .before .before .before .before
+
+abbrev loop-at : tie.After-remove-unserved Inv-loop μ-loop → tie.At-loop Inv-loop μ-loop
+loop-at c = turn (c .before)
+
 list-alive-requires : tie.Need-list-alive-requires Inv-loop μ-loop
 list-alive-requires c κs =
-    let start = c .before .before .before .before in
-    let v = now (start .args .v) in
-    let p = start .pre in
+    let s = start (c .before .before) in
+    let v = now (s .args .v) in
+    let p = s .pre in
     let size = p .1 .1 .1 .1 .1 .1 .0 in (
       omega (arith, size, types-bound v (p .1 .0)),
       (λ t h. (p .1 .1 .1 .1 .1 .1 .1 .0) t ∙ stage-ends v 0 t (omega (arith, size)), refl),
@@ -44,18 +60,17 @@ list-alive-requires c κs =
 
 loop-holds : tie.Need-loop-holds Inv-loop μ-loop
 loop-holds c =
-    let masked = c .before .before .before in
-    let start = masked .before .before in
-    let p = start .pre in
+    let s = start (masked c) in
+    let p = s .pre in
     let same = p .1 .1 .1 .1 .1 .1 .1 .0 in record {
       state = record {
         accepts = p .0;
         few = p .1 .0;
         wide = p .1 .1 .0;
-        masked = masked .list-masks .ensures;
+        masked = masked c .list-masks .ensures;
         held-words = p .1 .1 .1 .1 .0;
         listed = c .list-alive .ensures;
-        ends = λ t h. same t ∙ stage-ends (now (start .args .v)) 0 t h;
+        ends = λ t h. same t ∙ stage-ends (now (s .args .v)) 0 t h;
         size = p .1 .1 .1 .1 .1 .1 .1 .1;
       };
       stage = record { same = same; counted = c .list-alive .ensures .counted ∙ members-same _ _ same };
@@ -63,16 +78,9 @@ loop-holds c =
       room = refl;
     }
 
--- the loop and the function's start, seen from a round's end
-abbrev loop-at : tie.After-remove-unserved Inv-loop μ-loop → tie.At-loop Inv-loop μ-loop
-loop-at c = c .before .before .before .before .before
-
-abbrev start-at : tie.At-loop Inv-loop μ-loop → tie.Start Inv-loop μ-loop
-start-at c = c .before .before .before .before .before .before
-
 remove-unserved-requires : tie.Need-remove-unserved-requires Inv-loop μ-loop
 remove-unserved-requires c κs =
-    let loop = c .before .before .before .before in
+    let loop = turn c in
     let i = loop .loop .inv in
     (i .state, (start-at loop .pre .1 .1 .1 .1 .1 .0, i .room))
 

@@ -20,6 +20,10 @@ Inv-loop v roles bits count masks₀ role₀ masks role = (role ≤ roleCount v)
 abbrev μ-loop : tie.MeasureT-loop
 μ-loop v roles bits count masks₀ role₀ masks role = count - role
 
+-- the function's start, seen from a turn of the loop
+abbrev start : tie.In-loop Inv-loop μ-loop → tie.Start Inv-loop μ-loop
+start c = c .before .before .before .before
+
 read-at-requires : tie.Need-read-at-requires Inv-loop μ-loop
 read-at-requires c κs = omega (arith, accepted-vocabulary (now (c .before .args .v)) _ (c .before .pre .0) .sized .least)
 
@@ -28,17 +32,16 @@ loop-holds c = (omega arith, fill-start 0 roleLimit _ _ refl)
 
 other-roles-requires : tie.Need-other-roles-requires Inv-loop μ-loop
 other-roles-requires c κs =
-    let start = c .before .before .before .before in
-    omega (arith, start .pre .1 .1 .0, start .pre .1 .0, width-bound (now (start .args .v)))
+    let s = start c in
+    omega (arith, s .pre .1 .1 .0, s .pre .1 .0, width-bound (now (s .args .v)))
 
 -- the role is one of the vocabulary's, so of the table's
-below : (c : tie.In-loop Inv-loop μ-loop) → c .before .loop .role < roleCount (now (c .before .before .before .before .args .v))
+below : (c : tie.In-loop Inv-loop μ-loop) → c .before .loop .role < roleCount (now (start c .args .v))
 below c = omega (arith, c .loop-test .taken, ap (λ (r : Record). r .b) (c .before .before .read-at .ensures))
 
 inside : (c : tie.In-loop Inv-loop μ-loop) → c .before .loop .role < roleLimit
 inside c =
-    let start = c .before .before .before .before in
-    omega (arith, below c, accepted-vocabulary (now (start .args .v)) _ (start .pre .0) .roles)
+    omega (arith, below c, accepted-vocabulary (now (start c .args .v)) _ (start c .pre .0) .roles)
 
 cast-masks : tie.Need-cast-masks Inv-loop μ-loop
 cast-masks c = omega (arith, inside (c .before))
@@ -55,10 +58,10 @@ add-role c = omega (arith, inside (c .before))
 loop-again : tie.Need-loop-again Inv-loop μ-loop
 loop-again c =
     let loop = c .before .before .loop in
-    let start = c .before .before .before .before .before in
-    let made = c .other-roles .ensures ∙ otherRoleWord-done (now (start .args .v)) (now (start .args .roles))
-    (start .args .bits) (loop .role)
-    (start .pre .1 .1 .0) (start .pre .1 .1 .1) in
+    let s = start (c .before) in
+    let made = c .other-roles .ensures ∙ otherRoleWord-done (now (s .args .v)) (now (s .args .roles))
+    (s .args .bits) (loop .role)
+    (s .pre .1 .1 .0) (s .pre .1 .1 .1) in
     (omega (arith, below (c .before)), fill-turn 0 roleLimit _ _ _ _ (inside (c .before)) (loop .inv .1) made)
 
 returns : tie.Need-returns Inv-loop μ-loop

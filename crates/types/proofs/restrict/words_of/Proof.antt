@@ -30,6 +30,16 @@ Inv-loop values listing held₀ filling₀ m₀ held filling m =
 abbrev μ-loop : tie.MeasureT-loop
 μ-loop values listing held₀ filling₀ m₀ held filling m = m
 
+-- the places of a turn, backwards: both words have a bit more, the first has, the restriction is read
+abbrev pushed : tie.After-push-bit2 Inv-loop μ-loop → tie.After-push-bit Inv-loop μ-loop
+pushed c = c .before .before .before
+
+abbrev read : tie.After-push-bit Inv-loop μ-loop → tie.After-filler Inv-loop μ-loop
+read c = c .before .before .before
+
+abbrev turn : tie.After-filler Inv-loop μ-loop → tie.In-loop Inv-loop μ-loop
+turn c = c .before .before .before
+
 loop-holds : tie.Need-loop-holds Inv-loop μ-loop
 loop-holds c =
     let l = c .args .t2 in
@@ -62,14 +72,14 @@ element-copy-out-filler : tie.Need-element-copy-out-filler Inv-loop μ-loop
 element-copy-out-filler c = let w = c .before .before in omega (arith, inside w, w .before .before .pre .few)
 
 cast-filler : tie.Need-cast-filler Inv-loop μ-loop
-cast-filler c = let w = c .before .before .before in omega (arith, w .before .before .pre .filler-below _ (inside w))
+cast-filler c = let w = turn c in omega (arith, w .before .before .pre .filler-below _ (inside w))
 
 element-copy-out-apply-sign : tie.Need-element-copy-out-apply-sign Inv-loop μ-loop
-element-copy-out-apply-sign c = let w = c .before .before .before in w .before .before .pre .place-below _ (inside w)
+element-copy-out-apply-sign c = let w = turn c in w .before .before .pre .place-below _ (inside w)
 
 push-bit-requires : tie.Need-push-bit-requires Inv-loop μ-loop
 push-bit-requires c κs =
-    let at = c .before .before .before .before .before .before in
+    let at = turn (c .before .before) .before in
     let l = at .before .args .t2 in
     word-bound (l .count) (bits (now (at .before .args .values)) (l .places) (l .signs)) atomLimit (at .loop .m) _
     (at .before .pre .few)
@@ -77,12 +87,12 @@ push-bit-requires c κs =
 
 element-copy-out-apply-sign-2 : tie.Need-element-copy-out-apply-sign-2 Inv-loop μ-loop
 element-copy-out-apply-sign-2 c =
-    let w = c .before .before .before .before .before .before in
+    let w = turn (read c) in
     w .before .before .pre .filler-below _ (inside w)
 
 push-bit-requires-2 : tie.Need-push-bit-requires-2 Inv-loop μ-loop
 push-bit-requires-2 c κs =
-    let at = c .before .before .before .before .before .before .before .before .before in
+    let at = turn (read (c .before .before)) .before in
     let l = at .before .args .t2 in
     word-bound (l .count) (bits (now (at .before .args .values)) (l .fillers) (l .signs)) atomLimit (at .loop .m) _
     (at .before .pre .few)
@@ -90,8 +100,8 @@ push-bit-requires-2 c κs =
 
 loop-again : tie.Need-loop-again Inv-loop μ-loop
 loop-again c =
-    let first = c .before .before .before in
-    let at = first .before .before .before .before .before .before .before in
+    let first = pushed c in
+    let at = turn (read first) .before in
     let l = at .before .args .t2 in
     let values = now (at .before .args .values) in
     let w = at .loop .inv in record {

@@ -17,8 +17,11 @@ restricted c = c .before .before .before
 abbrev decoded : tie.After-list-statements → tie.After-decode
 decoded c = c .before .before .before
 
+abbrev values-lent : tie.After-filling → tie.After-values
+values-lent c = c .before .before .before .before
+
 abbrev stated : tie.After-filling → tie.After-list-statements
-stated c = c .before .before .before .before .before .before .before
+stated c = values-lent c .before .before .before
 
 abbrev described : tie.After-eliminate-arg → tie.After-describe-types
 described c = c .before .before .before .before

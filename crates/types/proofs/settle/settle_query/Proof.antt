@@ -15,9 +15,12 @@ use Rattle.types.proofs.Theorems.Survivors.{types-bound, size-word}
 use Rattle.types.proofs.settle.settle_query.Statement.{statement}
 use Rattle.types.proofs.settle.settle_query.Tie as tie
 
--- the places of the calls, backwards
+-- the places of the calls, backwards; at `sized` the lengths of the slices are known
+abbrev sized : tie.After-settle-arg2 → tie.After-slice-known
+sized c = c .before .before
+
 abbrev start : tie.After-settle → tie.Start
-start c = c .before .before .before .before .before
+start c = sized (c .before) .before .before
 
 abbrev settled : tie.After-write-bitmap-arg2 → tie.After-settle
 settled c = c .before .before
@@ -27,7 +30,7 @@ size : (c : tie.After-settle) → (1 * 2 ^ start c .args .k) % 18446744073709551
 size c = let q = start c .pre .0 .settles in size-word (now (start c .args .v)) (start c .args .k) (q .few) (q .counts)
 
 settle-requires : tie.Need-settle-requires
-settle-requires c κs = let p = c .before .before .before .before .pre in (p .0, p .1 .0)
+settle-requires c κs = let p = sized c .before .before .pre in (p .0, p .1 .0)
 
 shl-write-bitmap : tie.Need-shl-write-bitmap
 shl-write-bitmap c = let q = start (c .before) .pre .0 .settles in omega (arith, q .few, q .counts)

@@ -10,9 +10,13 @@ use Rattle.records.proofs.Theorems.Accepted.{accepted-vocabulary}
 use Rattle.types.proofs.settle.settle_types.Statement.{statement}
 use Rattle.types.proofs.settle.settle_types.Tie as tie
 
+-- before the tables are lent: the lengths of the slices are known
+abbrev sized : tie.After-settle-query-arg2 → tie.After-slice-known
+sized c = c .before .before .before
+
 settle-query-requires : tie.Need-settle-query-requires
 settle-query-requires c κs =
-    let s = c .before .before .before .before .before in
+    let s = sized c .before .before in
     let p = s .pre in
     let v = now (s .args .v) in
     let some : 0 < count v = omega (arith, accepted-vocabulary v _ (p .0 .accepts) .sized .least) in (

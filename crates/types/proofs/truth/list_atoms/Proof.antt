@@ -62,27 +62,34 @@ Inv-loop v records places₀ found₀ i₀ places found i = Listing v places fou
 abbrev μ-loop : tie.MeasureT-loop
 μ-loop v records places₀ found₀ i₀ places found i = count v - i
 
+-- the function's start and the loop's turn, seen from the turn and from its test
+abbrev start : tie.In-loop Inv-loop μ-loop → tie.Start Inv-loop μ-loop
+start c = c .before .before .before
+
+abbrev turn : tie.After-is-atom Inv-loop μ-loop → tie.In-loop Inv-loop μ-loop
+turn c = c .before .before
+
 loop-holds : tie.Need-loop-holds Inv-loop μ-loop
 loop-holds c = record { within = omega arith; total = sym (entries-none _); filled = fill-start _ _ _ _ refl }
 
 -- the record is in the vocabulary, and what the test tells of it
 inside : (c : tie.In-loop Inv-loop μ-loop) → c .before .loop .i < recordLimit
 inside c =
-    let start = c .before .before .before in
-    omega (arith, c .before .loop .inv .within, accepted-vocabulary (now (start .args .v)) _ (start .pre .0) .sized .most)
+    let s = start c in
+    omega (arith, c .before .loop .inv .within, accepted-vocabulary (now (s .args .v)) _ (s .pre .0) .sized .most)
 
 tested : (c : tie.After-is-atom Inv-loop μ-loop)
-    → c .is-atom .result ≡ atom (now (c .before .before .before .before .before .args .v)) (c .before .before .before .loop .i)
+    → c .is-atom .result ≡ atom (now (start (turn c) .args .v)) (turn c .before .loop .i)
 tested c = c .is-atom .ensures ∙ ap (λ (r : Record). isAtom (r .kind)) (c .before .read-at .ensures)
 
-free : (c : tie.Then1 Inv-loop μ-loop) → c .before .before .before .before .loop .found < atomLimit
+free : (c : tie.Then1 Inv-loop μ-loop) → turn (c .before) .before .loop .found < atomLimit
 free c =
-    let l = c .before .before .before .before in
-    room _ _ _ (l .loop .inv .total) (l .before .before .pre .1) (c .before .before .before .loop-test .taken)
+    let in-loop = turn (c .before) in
+    room _ _ _ (in-loop .before .loop .inv .total) (start in-loop .pre .1) (in-loop .loop-test .taken)
     (sym (tested (c .before)) ∙ c .if1 .taken)
 
 cast-places : tie.Need-cast-places Inv-loop μ-loop
-cast-places c = omega (arith, inside (c .before .before .before))
+cast-places c = omega (arith, inside (turn (c .before)))
 
 mul-places : tie.Need-mul-places Inv-loop μ-loop
 mul-places c = omega (arith, free c)
@@ -94,18 +101,18 @@ add-found : tie.Need-add-found Inv-loop μ-loop
 add-found c = omega (arith, free c)
 
 add-i : tie.Need-add-i Inv-loop μ-loop
-add-i c = omega (arith, inside (c .before .before .before))
+add-i c = omega (arith, inside (turn (c .before)))
 
 loop-again : tie.Need-loop-again Inv-loop μ-loop
 loop-again c =
-    let in-loop = c .before .before .before in
+    let in-loop = turn (c .before) in
     let l = in-loop .before .loop in
     let w = l .inv in
-    let v = now (in-loop .before .before .before .args .v) in
+    let v = now (start in-loop .args .v) in
     let h : l .i + 1 ≤ count v = omega arith in
     ⊎-elim
     (λ s. let e : atom v (l .i) ≡ true = sym (tested (c .before)) ∙ s .0 .taken in
-    let r = room v (l .found) (l .i) (w .total) (in-loop .before .before .before .pre .1) (omega arith) e in
+    let r = room v (l .found) (l .i) (w .total) (start in-loop .pre .1) (omega arith) e in
     rw (s .1, s .2) record {
       within = h;
       total = total-turn (atom v) (l .found) (l .i) (w .total) true e;

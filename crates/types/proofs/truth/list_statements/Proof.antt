@@ -21,24 +21,28 @@ Inv-loop v statements₀ records marks found₀ i₀ statements found i =
 abbrev μ-loop : tie.MeasureT-loop
 μ-loop v statements₀ records marks found₀ i₀ statements found i = count v - i
 
+-- the function's start, seen from the marking
+abbrev start : tie.After-mark-chain Inv-loop μ-loop → tie.Start Inv-loop μ-loop
+start c = c .before .before .before
+
 mark-chain-requires : tie.Need-mark-chain-requires Inv-loop μ-loop
 mark-chain-requires c κs =
-    let start = c .before .before in (
-      accepted-well-formed (now (start .args .v)) _ (start .pre .0),
+    let s = c .before .before in (
+      accepted-well-formed (now (s .args .v)) _ (s .pre .0),
       none-marked recordLimit,
     )
 
 -- the record, and its place in the list, are in the tables
 inside : (c : tie.In-loop Inv-loop μ-loop) → c .before .loop .i < recordLimit
 inside c =
-    let start = c .before .before .before .before .before in
-    omega (arith, accepted-vocabulary (now (start .args .v)) _ (start .pre .0) .sized .most)
+    let s = start (c .before .before) in
+    omega (arith, accepted-vocabulary (now (s .args .v)) _ (s .pre .0) .sized .most)
 
 free : (c : tie.In-loop Inv-loop μ-loop) → c .before .loop .found < recordLimit
 free c = omega (arith, inside c, listed-few _ _ _ _ _ (c .before .loop .inv .1))
 
 loop-holds : tie.Need-loop-holds Inv-loop μ-loop
-loop-holds c = (omega arith, list-start _ _ _ (c .before .before .before .pre .1))
+loop-holds c = (omega arith, list-start _ _ _ (start c .pre .1))
 
 array-read-if1 : tie.Need-array-read-if1 Inv-loop μ-loop
 array-read-if1 c = inside c
@@ -70,11 +74,11 @@ loop-again c =
 returns : tie.Need-returns Inv-loop μ-loop
 returns c =
     let marked = c .before .before in
-    let start = marked .before .before .before in
-    let v = now (start .args .v) in
+    let s = start marked in
+    let v = now (s .args .v) in
     let l = c .before .loop in
     let e : l .i ≡ count v = omega arith in
-    stating v (accepted-vocabulary v _ (start .pre .0)) _ (marked .mark-chain .ensures) _ _
+    stating v (accepted-vocabulary v _ (s .pre .0)) _ (marked .mark-chain .ensures) _ _
     (subst (ListedBelow _ recordLimit (l .statements) (l .found)) e (l .inv .1))
 
 pub list-statements-spec : {M : Type 1} → statement M

@@ -72,6 +72,19 @@ Inv-loop v code k places t values₀ records i₀ values i = Filling v t values 
 abbrev μ-loop : tie.MeasureT-loop
 μ-loop v code k places t values₀ records i₀ values i = count v - i
 
+-- the places of the calls and of the loop, backwards
+abbrev atoms-set : tie.In-loop Inv-loop μ-loop → tie.After-set-atoms Inv-loop μ-loop
+atoms-set c = c .before .before
+
+abbrev start : tie.In-loop Inv-loop μ-loop → tie.Start Inv-loop μ-loop
+start c = atoms-set c .before .before .before
+
+abbrev turn : tie.After-second Inv-loop μ-loop → tie.In-loop Inv-loop μ-loop
+turn c = c .before .before
+
+abbrev fetched : tie.After-apply Inv-loop μ-loop → tie.After-second Inv-loop μ-loop
+fetched c = c .before .before .before .before
+
 set-atoms-requires : tie.Need-set-atoms-requires Inv-loop μ-loop
 set-atoms-requires c κs =
     let p = c .before .before .pre in
@@ -86,9 +99,6 @@ loop-holds c =
     }
 
 -- the record is in the tables, and its operands no later
-abbrev start : tie.In-loop Inv-loop μ-loop → tie.Start Inv-loop μ-loop
-start c = c .before .before .before .before .before
-
 good : (c : tie.In-loop Inv-loop μ-loop) → AcceptedFacts (now (start c .args .v))
 good c = accepted-vocabulary _ _ (start c .pre .0)
 
@@ -123,29 +133,29 @@ element-copy-out-second : tie.Need-element-copy-out-second Inv-loop μ-loop
 element-copy-out-second c = omega (arith, inside (c .before))
 
 cast-second : tie.Need-cast-second Inv-loop μ-loop
-cast-second c = omega (arith, second-inside (c .before .before))
+cast-second c = omega (arith, second-inside (turn c))
 
 mul-apply : tie.Need-mul-apply Inv-loop μ-loop
-mul-apply c = omega (arith, inside (c .before .before))
+mul-apply c = omega (arith, inside (turn c))
 
 element-copy-out-apply : tie.Need-element-copy-out-apply Inv-loop μ-loop
-element-copy-out-apply c = omega (arith, inside (c .before .before))
+element-copy-out-apply c = omega (arith, inside (turn c))
 
 element-copy-out-apply-2 : tie.Need-element-copy-out-apply-2 Inv-loop μ-loop
-element-copy-out-apply-2 c = first-inside (c .before .before .before)
+element-copy-out-apply-2 c = first-inside (turn (c .before))
 
 element-copy-out-apply-3 : tie.Need-element-copy-out-apply-3 Inv-loop μ-loop
-element-copy-out-apply-3 c = second-inside (c .before .before .before .before)
+element-copy-out-apply-3 c = second-inside (turn (c .before .before))
 
 element-write-values : tie.Need-element-write-values Inv-loop μ-loop
-element-write-values c = inside (c .before .before .before .before .before .before)
+element-write-values c = inside (turn (fetched c))
 
 add-i : tie.Need-add-i Inv-loop μ-loop
-add-i c = omega (arith, inside (c .before .before .before .before .before .before))
+add-i c = omega (arith, inside (turn (fetched c)))
 
 loop-again : tie.Need-loop-again Inv-loop μ-loop
 loop-again c =
-    let in-loop = c .before .before .before .before .before .before in
+    let in-loop = turn (fetched c) in
     let l = in-loop .before .loop in
     let a = start in-loop .args in
     next (now (a .v)) (now (a .code)) (good in-loop) (start in-loop .pre .1 .1 .1 .0) (l .i) (in-loop .loop-test .taken)
