@@ -25,20 +25,20 @@
  * keeps no state, and answers what specs/ of the crates defines, which docs/FORMATS.md says in words. A refusal is the
  * first in the table's order, has the table's number and place, and alters no lent byte. Of two terms of an accepted
  * vocabulary of at most 12 atoms, with at least 512 bytes lent, Equal is answered exactly when they are equal in every
- * finite interpretation that satisfies the statements; with Different, the bytes written, read back, are such an
- * interpretation, in which the element belongs to just one of the terms. Of two names a and b of such a vocabulary,
- * with at least 512 and 144 bytes lent, the taxonomy's entry is 2 exactly if they are equal in every finite
- * interpretation that satisfies the statements; 1 exactly if b is strictly broader (a lies within b in every such
- * interpretation, and not the other way round) and no name is strictly between; otherwise 0. Over an accepted
- * vocabulary, a script is accepted exactly when it keeps the form and its chain of steps is a derivation of at most 64
- * open frames; then its first term lies within its second in every finite interpretation that satisfies the
- * statements. For every list of additions that succeed from an empty vocabulary, the bytes in use are an accepted
- * vocabulary, and reading them shows exactly those terms and statements in their order, the statements on the chain;
- * an addition that succeeds changes its eight bytes, the link that reaches them and, in a header of edition 2, the
- * number of atoms, which stays true, and no other byte. Of accepted vocabularies that differ in edition alone,
- * comparison, classification and script check answer and write the same. The packing of the answers is proved too. In
- * crates/demands/specs, Demands.antt states the demands, and Promises.antt what is promised of names, of what is
- * written and of editions.
+ * finite interpretation that satisfies the statements. With either answer the bytes written hold the survivors and,
+ * read back, are such an interpretation where any bit is set; the element of Different belongs to just one of the terms
+ * in it. Of two names a and b of such a vocabulary, with at least 512 and 144 bytes lent, the taxonomy's entry is 2
+ * exactly if they are equal in every finite interpretation that satisfies the statements; 1 exactly if b is strictly
+ * broader (a lies within b in every such interpretation, and not the other way round) and no name is strictly between;
+ * otherwise 0. Over an accepted vocabulary, a script is accepted exactly when it keeps the form and its chain of steps
+ * is a derivation of at most 64 open frames; then its first term lies within its second in every finite interpretation
+ * that satisfies the statements. An empty vocabulary that is made is accepted. For every list of additions that succeed
+ * from it, the bytes in use are an accepted vocabulary, and reading them shows exactly those terms and statements in
+ * their order, the statements on the chain; an addition that succeeds changes its eight bytes, the link that reaches
+ * them and, in a header of edition 2, the number of atoms, which stays true, and no other byte. Of accepted
+ * vocabularies that differ in edition alone, comparison, classification and script check answer and write the same. The
+ * packing of the answers, and what their bits say, is proved too. In crates/demands/specs, Demands.antt states the
+ * demands, and Promises.antt what is promised beside them.
  *
  * TESTED, not proved: this header. All proofs pass with two parameters of a call exchanged in the source, so that
  * tests/boundary.sh compares the names, order and widths there with those here and in the wrappers.
