@@ -33,7 +33,8 @@ compare() {
 }
 
 {
-    compare demands Demand1 Demand2 Demand3 Limits WritesSurvivors NearestNames WritesVocabularies EditionsAgree Samples
+    compare demands Demand1 Demand2 Demand3 Limits ChainsEnd WritesSurvivors NearestNames WritesVocabularies EditionsAgree \
+        Samples
     compare judge TakenApart
 } > "$work/report"
 cat "$work/report"

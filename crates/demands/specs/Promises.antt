@@ -1,6 +1,6 @@
--- What the papers promise beside the demands: paper 01 of the survivors, and each request of paper 02. Statements over the
--- definitions of the crates below and nothing else; proofs/Theorems/Promises.antt proves each. The contracts of src/lib.rt carry
--- them to the calls, as they do the demands.
+-- What the papers promise beside the demands: paper 01 of chains and of survivors, and each request of paper 02. Statements
+-- over the definitions of the crates below and nothing else; proofs/Theorems/Promises.antt proves each. The contracts of
+-- src/lib.rt carry them to the calls, as they do the demands.
 use Prim.Native.Nat.{ℕ, _+_, _*_, _≤_, _<_}
 use mathlib.Core.Path.{_≡_}
 use mathlib.Core.Bool.{true}
@@ -8,8 +8,8 @@ use mathlib.Core.List.{List, [], _∷_, _++_}
 use mathlib.Core.Logic.{_⊎_}
 use lib.ListN.{length, getD, take, drop}
 use Rattle.records.specs.Outcome.{accepted}
-use Rattle.records.specs.Format.{wordAt, recordBytes, count, roleCount, edition, atomsHeld}
-use Rattle.records.specs.Chain.{chain}
+use Rattle.records.specs.Format.{wordAt, recordBytes, count, firstStatement, roleCount, edition, atomsHeld}
+use Rattle.records.specs.Chain.{follow, nextStatement, chain}
 use Rattle.records.specs.Check.{vocabularyCheck}
 use Rattle.records.specs.Atoms.{atoms}
 use Rattle.records.specs.Finite.{members}
@@ -20,11 +20,22 @@ use Rattle.types.specs.Survivors.{survivors, rounds, Largest}
 use Rattle.types.specs.Comparison.{Verdict, equal, counts, comparison}
 use Rattle.types.specs.declared.answers.Counts.{Counts}
 use Rattle.types.specs.Bitmap.{bitmap, written, HoldsSurvivors}
+use Rattle.scripts.specs.Format as script
+use Rattle.scripts.specs.Format.{entries, firstStep, nextStep}
 use Rattle.scripts.specs.Run.{scriptCheck}
 use Rattle.alike.specs.Editions.{DifferInEdition}
 use Rattle.taxonomy.specs.Nearest.{NameOf, Nearest}
 use Rattle.taxonomy.specs.Taxonomy.{names, nameCount, nameAt, classification, firstAfter, secondAfter}
-use Rattle.demands.specs.Table.{vocabularyTable, AcceptedVocabulary, TermOf, Refuses, Follows}
+use Rattle.demands.specs.Table.{vocabularyTable, AcceptedVocabulary, TermOf, InForm, Refuses, Follows}
+
+-- Paper 01, "Vocabulary records" and "Scripts".
+
+-- The promise. "Chains run by next, and zero ends the chain.": however far one follows it, the chain of an accepted vocabulary,
+-- and that of a script that keeps the form, is the same. So no statement and no step is cut off.
+pub record ChainsEnd : Type 0 where
+  pub statements : (v : List ℕ) (n : ℕ) → AcceptedVocabulary v → count v ≤ n
+      → follow (nextStatement v) n (firstStatement v) ≡ chain v
+  pub steps : (v s : List ℕ) (n : ℕ) → InForm v s → entries s ≤ n → follow (nextStep s) n (firstStep s) ≡ script.chain s
 
 -- Paper 01, "Types and comparison".
 

@@ -26,7 +26,7 @@ ghost use Rattle.scripts.specs.Run.{scriptCheck};
 ghost use Rattle.demands.specs.Returns.{VocabularyReturns, OffsetReturns, RecordReturns, ComparisonReturns};
 ghost use Rattle.demands.specs.Returns.{ClassificationReturns, ScriptReturns, MakingReturns, AdditionReturns};
 ghost use Rattle.demands.specs.Demands.{Demand1, Demand2, Demand3};
-ghost use Rattle.demands.specs.Promises.{WritesSurvivors, NearestNames, WritesVocabularies, EditionsAgree};
+ghost use Rattle.demands.specs.Promises.{ChainsEnd, WritesSurvivors, NearestNames, WritesVocabularies, EditionsAgree};
 ghost use Rattle.demands.specs.Limits.{Limits};
 ghost use Rattle.demands.specs.Samples.{Samples};
 
@@ -36,6 +36,7 @@ pub fn hold()
     ensures { λ _. ⌜ Demand1 ⌝ }
     ensures { λ _. ⌜ Demand2 ⌝ }
     ensures { λ _. ⌜ Demand3 ⌝ }
+    ensures { λ _. ⌜ ChainsEnd ⌝ }
     ensures { λ _. ⌜ WritesSurvivors ⌝ }
     ensures { λ _. ⌜ NearestNames ⌝ }
     ensures { λ _. ⌜ WritesVocabularies ⌝ }

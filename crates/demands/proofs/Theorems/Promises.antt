@@ -1,4 +1,5 @@
 -- The promises of the requests, proved: specs/Promises.antt states them.
+--   chains-end                 paper 01, of chains
 --   writes-survivors           paper 01, of the survivors
 --   right-entry, right-table   an entry, and the second buffer, of a vocabulary that is compared
 --   nearest-names              slip 1
@@ -14,6 +15,7 @@ use lib.Seq.{drop-at}
 use Rattle.records.specs.Format.{count}
 use Rattle.records.specs.Atoms.{atoms}
 use Rattle.records.proofs.Theorems.Accepted.{AcceptedFacts, accepted-vocabulary}
+use Rattle.records.proofs.Theorems.Chains as chains
 use Rattle.types.specs.Comparison.{atomLimit}
 use Rattle.types.specs.Meaning.{AlwaysEqual}
 use Rattle.types.proofs.Theorems.Survivors.{survivors-largest}
@@ -24,16 +26,25 @@ use Rattle.taxonomy.proofs.Theorems.Names.{name-is, name-found, names-rise}
 use Rattle.taxonomy.proofs.Theorems.Entries.{entry-equal, equal-entry, entry-nearest, nearest-entry, entry-else}
 use Rattle.taxonomy.proofs.Theorems.Entries.{taxonomy-entry, taxonomy-rest, length-taxonomy}
 use Rattle.taxonomy.proofs.Theorems.Answers.{answers-always, first-survivors}
+use Rattle.scripts.proofs.Theorems.Form as form
 use Rattle.alike.proofs.Theorems.Editions.{editions-alike}
 use Rattle.alike.proofs.Theorems.Comparison.{vocabulary-alike, comparison-alike, written-alike}
 use Rattle.alike.proofs.Theorems.Taxonomy.{classification-alike, first-alike, second-alike}
 use Rattle.alike.proofs.Theorems.Scripts.{script-alike}
 use Rattle.alike.specs.Alike.{Alike}
 use Rattle.demands.specs.Table.{AcceptedVocabulary}
-use Rattle.demands.specs.Promises.{WritesSurvivors, RightEntry, RightTable, NearestNames, SameAnswers}
-use Rattle.demands.specs.Promises.{EditionsAgree}
-use Rattle.demands.proofs.Theorems.Tables.{vocabulary-follows, term-passed}
+use Rattle.demands.specs.Promises.{ChainsEnd, WritesSurvivors, RightEntry, RightTable, NearestNames}
+use Rattle.demands.specs.Promises.{SameAnswers, EditionsAgree}
+use Rattle.demands.proofs.Theorems.Tables.{vocabulary-follows, term-passed, form-passed}
 pub use Rattle.demands.proofs.Theorems.Writing.{writes-vocabularies, addition-accepted}
+
+pub chains-end : ChainsEnd
+chains-end =
+    record {
+      statements = λ v n good.
+          chains.chain-ends v (accepted-vocabulary v (count v) (vocabulary-follows v .accepted-always good)) n;
+      steps = λ v s n kept. form.chain-ends v s (form.keeps-form v s (form-passed v s kept)) n;
+    }
 
 pub writes-survivors : WritesSurvivors
 writes-survivors =

@@ -1,7 +1,8 @@
 -- `demands::hold` meets its contract: the statements are proved.
 -- Assumes nothing.
 use Rattle.demands.proofs.Theorems.Demands.{demand-1, demand-2, demand-3}
-use Rattle.demands.proofs.Theorems.Promises.{writes-survivors, nearest-names, writes-vocabularies, editions-agree}
+use Rattle.demands.proofs.Theorems.Promises.{chains-end, writes-survivors, nearest-names, writes-vocabularies}
+use Rattle.demands.proofs.Theorems.Promises.{editions-agree}
 use Rattle.demands.proofs.Theorems.Samples.{limits, samples}
 use Rattle.demands.proofs.hold.Statement.{statement}
 use Rattle.demands.proofs.hold.Tie as tie
@@ -14,14 +15,17 @@ returns c = (
     (
       demand-3,
       (
-        writes-survivors,
+        chains-end,
         (
-          nearest-names,
+          writes-survivors,
           (
-            writes-vocabularies,
+            nearest-names,
             (
-              editions-agree,
-              (limits, samples),
+              writes-vocabularies,
+              (
+                editions-agree,
+                (limits, samples),
+              ),
             ),
           ),
         ),

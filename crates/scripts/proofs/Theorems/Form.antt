@@ -8,7 +8,7 @@
 --   step-listed, line-step, step-fits        row 18: a step uses what is listed; at a record; at a record of the chain
 --   chain-few                                the length of the chain
 --   query-below                              the query's numbers have 16 bits
---   OnChain, chain-ahead                     the chain has steps alone
+--   OnChain, chain-ahead, chain-ends         the chain has steps alone; followed as far as one likes it is the chain
 --   steps-listed, chain-listed               each of these uses what is listed
 -- Assumes nothing.
 use Prim.Native.Nat.{ℕ, _+_, _*_, _-_, _%_, _≤_, _<_}
@@ -25,8 +25,9 @@ use Rattle.records.specs.Outcome.{pass, _then_, require, inTurn}
 use Rattle.records.specs.Format.{recordAt, count}
 use Rattle.records.specs.Kinds.{isTerm}
 use Rattle.records.proofs.Laws.Tests.{both-left, both-right, implies-rest}
+use Rattle.records.specs.Chain.{follow}
 use Rattle.records.proofs.Laws.Checks.{require-passed, then-passed, turn-at}
-use Rattle.records.proofs.Theorems.Following.{Ahead, Onward, follow-few, follow-target}
+use Rattle.records.proofs.Theorems.Following.{Ahead, Onward, follow-few, follow-ends, follow-target}
 use Rattle.records.proofs.Laws.Lists.{All, all-occurring}
 use Rattle.types.specs.Comparison.{termCheck}
 use Rattle.columns.specs.Columns.{columnAt, takesY}
@@ -205,6 +206,9 @@ module _ (v s : List ℕ) where
     chain-ahead =
         all-occurring (OnChain s) (chain s)
         (λ i o. follow-target (nextStep s) (IsStepAt s) (entries s) (f .links) (entries s) 0 (firstStep s) i (f .first) o)
+
+    pub chain-ends : (n : ℕ) → entries s ≤ n → follow (nextStep s) n (firstStep s) ≡ chain s
+    chain-ends n h = follow-ends (nextStep s) (IsStepAt s) (entries s) (f .links) n (firstStep s) (f .first) h
 
     pub step-fits : (i : ℕ) → OnChain s i → stepFits v s i (recordStep s i) ≡ true
     step-fits i a = line-step i (lineAt s i) (f .steps i (a .later) (a .within))
