@@ -34,7 +34,7 @@ compare() {
 
 {
     compare demands Demand1 Demand2 Demand3 Limits ChainsEnd WritesSurvivors NearestNames WritesVocabularies EditionsAgree \
-        Samples
+        EditionsConvert Samples
     compare judge TakenApart
 } > "$work/report"
 cat "$work/report"

@@ -23,7 +23,7 @@ use Rattle.types.specs.Bitmap.{bitmap, written, HoldsSurvivors}
 use Rattle.scripts.specs.Format as script
 use Rattle.scripts.specs.Format.{entries, firstStep, nextStep}
 use Rattle.scripts.specs.Run.{scriptCheck}
-use Rattle.alike.specs.Editions.{DifferInEdition}
+use Rattle.alike.specs.Editions.{DifferInEdition, inEdition}
 use Rattle.taxonomy.specs.Nearest.{NameOf, Nearest}
 use Rattle.taxonomy.specs.Taxonomy.{names, nameCount, nameAt, classification, firstAfter, secondAfter}
 use Rattle.demands.specs.Table.{vocabularyTable, AcceptedVocabulary, TermOf, InForm, Refuses, Follows}
@@ -201,3 +201,15 @@ pub record SameAnswers (v w : List ℕ) : Type 0 where
 -- The promise: "for accepted vocabularies that differ only in edition".
 abbrev pub EditionsAgree : Type 0
 EditionsAgree = (v w : List ℕ) → AcceptedVocabulary v → AcceptedVocabulary w → DifferInEdition v w → SameAnswers v w
+
+-- A vocabulary with the header of an edition: it is accepted, has as many records, is of that edition, and differs from what it
+-- was in edition alone.
+pub record Converted (v : List ℕ) (e : ℕ) : Type 0 where
+  pub accepts : AcceptedVocabulary (inEdition e v)
+  pub counted : vocabularyCheck (inEdition e v) ≡ vocabularyCheck v
+  pub converted : edition (inEdition e v) ≡ e
+  pub differs : DifferInEdition v (inEdition e v)
+
+-- The promise: "Edition 1 is still read", so that every accepted vocabulary can be had in either edition.
+abbrev pub EditionsConvert : Type 0
+EditionsConvert = (v : List ℕ) (e : ℕ) → AcceptedVocabulary v → (e ≡ 1) ⊎ (e ≡ 2) → Converted v e

@@ -26,7 +26,8 @@ ghost use Rattle.scripts.specs.Run.{scriptCheck};
 ghost use Rattle.demands.specs.Returns.{VocabularyReturns, OffsetReturns, RecordReturns, ComparisonReturns};
 ghost use Rattle.demands.specs.Returns.{ClassificationReturns, ScriptReturns, MakingReturns, AdditionReturns};
 ghost use Rattle.demands.specs.Demands.{Demand1, Demand2, Demand3};
-ghost use Rattle.demands.specs.Promises.{ChainsEnd, WritesSurvivors, NearestNames, WritesVocabularies, EditionsAgree};
+ghost use Rattle.demands.specs.Promises.{ChainsEnd, WritesSurvivors, NearestNames, WritesVocabularies};
+ghost use Rattle.demands.specs.Promises.{EditionsAgree, EditionsConvert};
 ghost use Rattle.demands.specs.Limits.{Limits};
 ghost use Rattle.demands.specs.Samples.{Samples};
 
@@ -41,6 +42,7 @@ pub fn hold()
     ensures { λ _. ⌜ NearestNames ⌝ }
     ensures { λ _. ⌜ WritesVocabularies ⌝ }
     ensures { λ _. ⌜ EditionsAgree ⌝ }
+    ensures { λ _. ⌜ EditionsConvert ⌝ }
     ensures { λ _. ⌜ Limits ⌝ }
     ensures { λ _. ⌜ Samples ⌝ }
 {}

@@ -1,5 +1,4 @@
 -- A vocabulary in another edition: it is accepted where the vocabulary is, and differs from it in edition alone.
---   inEdition                  the vocabulary with a header of that edition
 --   fields-alike, well-alike   rows 3 to 8 do not look at what differs; so of rows 1 to 8 the header's row is left
 --   convert-differs            only edition and k change
 --   convert-edition            the edition is the one asked for
@@ -33,13 +32,9 @@ use Rattle.records.proofs.Laws.Search.{any-cong}
 use Rattle.records.proofs.Theorems.Accepted.{AcceptedFacts, RowsPassed, well-formed-rows, accepted-well-formed}
 use Rattle.records.proofs.Theorems.Accepted.{accepted-vocabulary}
 use Rattle.records.proofs.Theorems.Bounds.{vocabulary-count}
-use Rattle.alike.specs.Editions.{DifferInEdition}
+use Rattle.alike.specs.Editions.{DifferInEdition, inEdition}
 use Rattle.alike.proofs.Theorems.Truth.{atoms-alike}
 use Rattle.alike.proofs.Theorems.Editions.{kind-alike, a-alike, b-alike, record-alike, count-alike, editions-alike}
-
--- A vocabulary with a header of edition e, 1 or 2: what `desk edition` makes of it.
-abbrev pub inEdition : ℕ → List ℕ → List ℕ
-inEdition e v = put (put v 1 (e ∷ [])) placeOfNext (wordBytes (cond (eqb e 2) (atoms v) 0))
 
 module _ (v w : List ℕ) (differ : DifferInEdition v w) where
   label-alike : (i label : ℕ) → labelled w i label ≡ labelled v i label

@@ -5,10 +5,11 @@
 --   nearest-names              slip 1
 --   writes-vocabularies        slip 4 (Writing has it)
 --   editions-agree             slip 5
+--   editions-convert           slip 5, of a vocabulary in the other edition
 -- Assumes nothing.
 use Prim.Native.Nat.{ℕ, _≤_}
 use native.Mathlib.Omega.{arith}
-use mathlib.Core.Path.{_≡_, _∙_}
+use mathlib.Core.Path.{_≡_, sym, _∙_}
 use mathlib.Core.List.{List, _++_}
 use lib.ListN.{length, drop, length-append, length-drop}
 use lib.Seq.{drop-at}
@@ -28,13 +29,15 @@ use Rattle.taxonomy.proofs.Theorems.Entries.{taxonomy-entry, taxonomy-rest, len
 use Rattle.taxonomy.proofs.Theorems.Answers.{answers-always, first-survivors}
 use Rattle.scripts.proofs.Theorems.Form as form
 use Rattle.alike.proofs.Theorems.Editions.{editions-alike}
+use Rattle.alike.proofs.Theorems.Conversion.{convert-differs, convert-edition, convert-accepted}
 use Rattle.alike.proofs.Theorems.Comparison.{vocabulary-alike, comparison-alike, written-alike}
 use Rattle.alike.proofs.Theorems.Taxonomy.{classification-alike, first-alike, second-alike}
 use Rattle.alike.proofs.Theorems.Scripts.{script-alike}
 use Rattle.alike.specs.Alike.{Alike}
+use Rattle.alike.specs.Editions.{inEdition}
 use Rattle.demands.specs.Table.{AcceptedVocabulary}
 use Rattle.demands.specs.Promises.{ChainsEnd, WritesSurvivors, RightEntry, RightTable, NearestNames}
-use Rattle.demands.specs.Promises.{SameAnswers, EditionsAgree}
+use Rattle.demands.specs.Promises.{SameAnswers, EditionsAgree, EditionsConvert}
 use Rattle.demands.proofs.Theorems.Tables.{vocabulary-follows, term-passed, form-passed}
 pub use Rattle.demands.proofs.Theorems.Writing.{writes-vocabularies, addition-accepted}
 
@@ -116,3 +119,15 @@ alike-answers v w alike first second =
 
 pub editions-agree : EditionsAgree
 editions-agree v w first second differ = alike-answers v w (editions-alike v w differ) first second
+
+pub editions-convert : EditionsConvert
+editions-convert v e good is =
+    let accepts = vocabulary-follows v .accepted-always good in
+    let least = accepted-vocabulary v (count v) accepts .sized .least in
+    let passes = convert-accepted v (count v) accepts e is in
+    record {
+      accepts = vocabulary-follows (inEdition e v) .accepted-only (count v) passes .0;
+      counted = passes ∙ sym accepts;
+      converted = convert-edition v e least;
+      differs = convert-differs v e least;
+    }
