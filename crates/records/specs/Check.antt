@@ -2,11 +2,11 @@
 use Prim.Native.Nat.{ℕ, _-_, _*_, _%_}
 use mathlib.Core.Path.{_≡_}
 use mathlib.Core.Bool.{Bool, not, _&&_, _||_}
-use mathlib.Core.List.{List}
+use mathlib.Core.List.{List, [], _∷_}
 use lib.ListN.{length}
 use lib.Dec.{ltb, leb, eqb}
 use Rattle.records.specs.Finite.{anyBelow}
-use Rattle.records.specs.Outcome.{Outcome, Check, accepted, pass, _then_, require, inTurn}
+use Rattle.records.specs.Outcome.{Outcome, Check, accepted, pass, _then_, require, inRows, inTurn}
 use Rattle.records.specs.Format.{recordSize, recordLimit, roleLimit, recordAt, count, firstStatement, roleCount}
 use Rattle.records.specs.Format.{edition, atomsHeld}
 use Rattle.records.specs.Kinds.{Sorts, isTerm, isStatement, sortsOf, kinds}
@@ -82,9 +82,13 @@ rowFits v i n s r = clear v i n (s .a) (r .a) && (clear v i n (s .b) (r .b) && c
 abbrev pub rowCheck : List ℕ → ℕ → ℕ → Sorts → Record → Check
 rowCheck v i n s r = require (rowFits v i n s r) n i
 
+-- The rows of fields: those that the table has at "each record in turn" behind row 3, in its order.
+abbrev pub fieldRows : List ℕ
+fieldRows = 4 ∷ 5 ∷ 6 ∷ 7 ∷ []
+
 -- Rows 4 to 7, at one record
 abbrev pub rowsCheck : List ℕ → ℕ → Sorts → Record → Check
-rowsCheck v i s r = rowCheck v i 4 s r then rowCheck v i 5 s r then rowCheck v i 6 s r then rowCheck v i 7 s r
+rowsCheck v i s r = inRows (λ n. rowCheck v i n s r) fieldRows
 
 -- Rows 3 to 7
 abbrev pub fieldsCheck : List ℕ → ℕ → Record → Check

@@ -19,6 +19,7 @@ use lib.ListN.{length}
 use mathlib.Core.Logic.{inl, inr}
 use lib.Dec.{ltb, leb, eqb}
 use borrow.Author.Tests.{ltb-true, leb-true, eqb-true, eq-eqb, not-true}
+use Rattle.records.specs.Finite.{occurs}
 use Rattle.records.specs.Outcome.{Outcome, Check, accepted, refused, pass, _then_, inTurn}
 use Rattle.records.specs.Format.{recordSize, recordLimit, roleLimit, recordAt, count, firstStatement, roleCount}
 use Rattle.records.specs.Kinds.{Construct, none, top, bottom, name, negation, conjunction, disjunction, existential}
@@ -161,6 +162,7 @@ module _ (v : List ℕ) (i : ℕ) where
           }
 
   field-held : (sort : Sort) (x : ℕ) → fieldFits v i sort x ≡ true → SortHolds v i sort x
+  unfolding fieldFits occurs
   field-held Spare x e = eqb-true x 0 e
   field-held Term x e = operand x e
   field-held Role x e = ltb-true x (roleCount v) e
