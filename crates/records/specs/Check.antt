@@ -39,13 +39,13 @@ kindFits r = leb 1 (r .kind) && (ltb (r .kind) (length kinds) && eqb (r .second)
 abbrev pub kindCheck : Record → ℕ → Check
 kindCheck r i = require (kindFits r) 3 i
 
--- record j is a name with this label
-abbrev pub named : List ℕ → ℕ → ℕ → Bool
-named v label j = eqb (recordAt v j .kind) 3 && eqb (recordAt v j .a) label
+-- record j is of this kind, one that has labels, and has this label
+abbrev pub named : List ℕ → ℕ → ℕ → ℕ → Bool
+named v kind label j = eqb (recordAt v j .kind) kind && eqb (recordAt v j .a) label
 
--- "label of an earlier name" than record i
-abbrev pub labelled : List ℕ → ℕ → ℕ → Bool
-labelled v i label = anyBelow (named v label) i
+-- a record of this kind that is earlier than record i has this label
+abbrev pub labelled : List ℕ → ℕ → ℕ → ℕ → Bool
+labelled v i kind label = anyBelow (named v kind label) i
 
 -- "A term number in a field is 1 or more, below the record's own number, and names a term."
 abbrev pub termFits : List ℕ → ℕ → ℕ → Bool
@@ -55,12 +55,12 @@ termFits v i x = leb 1 x && (ltb x i && isTerm (recordAt v x .kind))
 abbrev pub linkFits : List ℕ → ℕ → ℕ → Bool
 linkFits v i x = eqb x 0 || (ltb i x && (ltb x (count v) && isStatement (recordAt v x .kind)))
 
--- Whether x may stand in a field of record i that holds this sort.
+-- Whether x may stand in a field of record i that holds this sort. A label is a name's, and no "label of an earlier name".
 abbrev pub sortFits : List ℕ → ℕ → Sort → ℕ → Bool
 sortFits v i Spare x = eqb x 0
 sortFits v i Term x = termFits v i x
 sortFits v i Role x = ltb x (roleCount v)
-sortFits v i Label x = not (labelled v i x)
+sortFits v i Label x = not (labelled v i 3 x)
 sortFits v i Link x = linkFits v i x
 
 -- The row that speaks of a field of this sort: 4 "unused field not zero", 5 "term number", 6 "role not below the count",

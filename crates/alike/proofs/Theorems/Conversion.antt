@@ -42,16 +42,16 @@ abbrev pub inEdition : ℕ → List ℕ → List ℕ
 inEdition e v = put (put v 1 (e ∷ [])) placeOfNext (wordBytes (cond (eqb e 2) (atoms v) 0))
 
 module _ (v w : List ℕ) (differ : DifferInEdition v w) where
-  label-alike : (i label : ℕ) → labelled w i label ≡ labelled v i label
-  label-alike i label =
-      any-cong (named w label) (named v label) i
+  label-alike : (i kind label : ℕ) → labelled w i kind label ≡ labelled v i kind label
+  label-alike i kind label =
+      any-cong (named w kind label) (named v kind label) i
       (λ j h. rw (← kind-alike v w differ j, ← a-alike v w differ j))
 
   sort-alike : (i : ℕ) (sort : Sort) (x : ℕ) → sortFits w i sort x ≡ sortFits v i sort x
   sort-alike i Spare x = refl
   sort-alike i Term x = rw (← kind-alike v w differ x)
   sort-alike i Role x = rw (← b-alike v w differ 0)
-  sort-alike i Label x = rw (label-alike i x)
+  sort-alike i Label x = rw (label-alike i 3 x)
   sort-alike i Link x = rw (← kind-alike v w differ x, ← count-alike v w differ)
 
   row-alike : (n i : ℕ) (s : Sorts) (r : Record) → rowFits w i n s r ≡ rowFits v i n s r

@@ -94,19 +94,21 @@ module _ (v w : List ℕ) (r : Record) (well : IsWellFormed v) (few : count v < 
       at (yes l) = rw (grows .kind x (omega arith))
       at (no n) = rw (le-ltb x i (omega arith))
 
-  named-same : (label j : ℕ) → j < count v → named w label j ≡ named v label j
-  named-same label zero h = rw (grows .kind 0 some, good .header)
-  named-same label (suc j) h = rw (grows .kind (suc j) h, grows .a (suc j) (omega arith) h)
+  -- labels are the same, of any kind but the header's
+  named-same : (kind label j : ℕ) → (16 ≡ kind → ⊥) → j < count v → named w kind label j ≡ named v kind label j
+  named-same kind label zero n h = rw (grows .kind 0 some, good .header, ne-eqb 16 kind n)
+  named-same kind label (suc j) n h = rw (grows .kind (suc j) h, grows .a (suc j) (omega arith) h)
 
-  labelled-same : (i label : ℕ) → i ≤ count v → labelled w i label ≡ labelled v i label
-  labelled-same i label h = any-cong (named w label) (named v label) i (λ j l. named-same label j (omega arith))
+  labelled-same : (i kind label : ℕ) → (16 ≡ kind → ⊥) → i ≤ count v → labelled w i kind label ≡ labelled v i kind label
+  labelled-same i kind label n h =
+      any-cong (named w kind label) (named v kind label) i (λ j l. named-same kind label j n (omega arith))
 
   clear-same : (n i : ℕ) (sort : Sort) (x : ℕ) → occurs n fieldRows ≡ true → i ≤ count v
       → clear w i n sort x ≡ clear v i n sort x
   clear-same n i Spare x h l = refl
   clear-same n i Term x h l = rw (term-same i x l)
   clear-same n i Role x h l = rw (grows .b 0 some)
-  clear-same n i Label x h l = rw (labelled-same i x l)
+  clear-same n i Label x h l = rw (labelled-same i 3 x (λ e. omega arith) l)
   clear-same n i Link x h l = rw (ne-eqb (row Link) n (λ e. link-apart n h (sym e)))
 
   row-same : (n i : ℕ) (s : Sorts) (q : Record) → occurs n fieldRows ≡ true → i ≤ count v
