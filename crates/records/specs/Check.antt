@@ -1,5 +1,5 @@
 -- Rows 1 to 8 and 28 of the table of refusals, and the vocabulary check.
-use Prim.Native.Nat.{ℕ, _-_, _*_, _%_}
+use Prim.Native.Nat.{ℕ, _-_, _%_}
 use mathlib.Core.Path.{_≡_}
 use mathlib.Core.Bool.{Bool, not, _&&_, _||_}
 use mathlib.Core.List.{List, [], _∷_}
@@ -7,18 +7,16 @@ use lib.ListN.{length}
 use lib.Dec.{ltb, leb, eqb}
 use Rattle.records.specs.Finite.{anyBelow}
 use Rattle.records.specs.Outcome.{Outcome, Check, accepted, pass, _then_, require, inRows, inTurn}
-use Rattle.records.specs.Format.{recordSize, recordLimit, roleLimit, recordAt, count, firstStatement, roleCount}
-use Rattle.records.specs.Format.{edition, atomsHeld}
+use Rattle.records.specs.Format.{recordAt, count, firstStatement, roleCount, edition, atomsHeld}
 use Rattle.records.specs.Kinds.{Sorts, isTerm, isStatement, sortsOf, kinds}
 use Rattle.records.specs.Atoms.{atoms}
 use Rattle.records.specs.declared.fields.Record.{Record}
 use Rattle.records.specs.declared.kinds.Sort.{Sort}
 use Rattle.records.specs.declared.kinds.Sort.the-variants.{Spare, Term, Role, Label, Link}
 
--- Row 1: "under 8, over 4,096 or no multiple of 8"; "At most 512 records, header included."
+-- Row 1: "under 8, over 4,096 or no multiple of 8"
 abbrev pub lengthFits : List ℕ → Bool
-lengthFits v =
-    leb recordSize (length v) && (leb (length v) (recordSize * recordLimit) && eqb (length v % recordSize) 0)
+lengthFits v = leb 8 (length v) && (leb (length v) 4096 && eqb (length v % 8) 0)
 
 abbrev pub lengthCheck : List ℕ → Check
 lengthCheck v = require (lengthFits v) 1 0
@@ -27,7 +25,7 @@ lengthCheck v = require (lengthFits v) 1 0
 -- next 0". Slip 5 of paper 02: "Refusal 2 admits the new second byte with any next."
 abbrev pub headerFits : Record → Bool
 headerFits r =
-    eqb (r .kind) 16 && (leb (r .b) roleLimit && (eqb (r .second) 2 || (eqb (r .second) 1 && eqb (r .next) 0)))
+    eqb (r .kind) 16 && (leb (r .b) 64 && (eqb (r .second) 2 || (eqb (r .second) 1 && eqb (r .next) 0)))
 
 abbrev pub headerCheck : List ℕ → Check
 headerCheck v = require (headerFits (recordAt v 0)) 2 0
