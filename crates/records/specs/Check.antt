@@ -1,24 +1,22 @@
 -- Rows 1 to 8 and 28 of the table of refusals, and the vocabulary check.
-use Prim.Native.Nat.{ℕ, _-_, _*_, _%_}
+use Prim.Native.Nat.{ℕ, _-_, _%_}
 use mathlib.Core.Path.{_≡_}
 use mathlib.Core.Bool.{Bool, not, _&&_, _||_}
-use mathlib.Core.List.{List}
+use mathlib.Core.List.{List, [], _∷_}
 use lib.ListN.{length}
 use lib.Dec.{ltb, leb, eqb}
 use Rattle.records.specs.Finite.{anyBelow}
-use Rattle.records.specs.Outcome.{Outcome, Check, accepted, pass, _then_, require, inTurn}
-use Rattle.records.specs.Format.{recordSize, recordLimit, roleLimit, recordAt, count, firstStatement, roleCount}
-use Rattle.records.specs.Format.{edition, atomsHeld}
+use Rattle.records.specs.Outcome.{Outcome, Check, accepted, pass, _then_, require, inRows, inTurn}
+use Rattle.records.specs.Format.{recordAt, count, firstStatement, roleCount, edition, atomsHeld}
 use Rattle.records.specs.Kinds.{Sorts, isTerm, isStatement, sortsOf, kinds}
 use Rattle.records.specs.Atoms.{atoms}
 use Rattle.records.specs.declared.fields.Record.{Record}
 use Rattle.records.specs.declared.kinds.Sort.{Sort}
 use Rattle.records.specs.declared.kinds.Sort.the-variants.{Spare, Term, Role, Label, Link}
 
--- Row 1: "under 8, over 4,096 or no multiple of 8"; "At most 512 records, header included."
+-- Row 1: "under 8, over 4,096 or no multiple of 8"
 abbrev pub lengthFits : List ℕ → Bool
-lengthFits v =
-    leb recordSize (length v) && (leb (length v) (recordSize * recordLimit) && eqb (length v % recordSize) 0)
+lengthFits v = leb 8 (length v) && (leb (length v) 4096 && eqb (length v % 8) 0)
 
 abbrev pub lengthCheck : List ℕ → Check
 lengthCheck v = require (lengthFits v) 1 0
@@ -27,7 +25,7 @@ lengthCheck v = require (lengthFits v) 1 0
 -- next 0". Slip 5 of paper 02: "Refusal 2 admits the new second byte with any next."
 abbrev pub headerFits : Record → Bool
 headerFits r =
-    eqb (r .kind) 16 && (leb (r .b) roleLimit && (eqb (r .second) 2 || (eqb (r .second) 1 && eqb (r .next) 0)))
+    eqb (r .kind) 16 && (leb (r .b) 64 && (eqb (r .second) 2 || (eqb (r .second) 1 && eqb (r .next) 0)))
 
 abbrev pub headerCheck : List ℕ → Check
 headerCheck v = require (headerFits (recordAt v 0)) 2 0
@@ -39,13 +37,13 @@ kindFits r = leb 1 (r .kind) && (ltb (r .kind) (length kinds) && eqb (r .second)
 abbrev pub kindCheck : Record → ℕ → Check
 kindCheck r i = require (kindFits r) 3 i
 
--- record j is a name with this label
-abbrev pub named : List ℕ → ℕ → ℕ → Bool
-named v label j = eqb (recordAt v j .kind) 3 && eqb (recordAt v j .a) label
+-- record j is of this kind, one that has labels, and has this label
+abbrev pub named : List ℕ → ℕ → ℕ → ℕ → Bool
+named v kind label j = eqb (recordAt v j .kind) kind && eqb (recordAt v j .a) label
 
--- "label of an earlier name" than record i
-abbrev pub labelled : List ℕ → ℕ → ℕ → Bool
-labelled v i label = anyBelow (named v label) i
+-- a record of this kind that is earlier than record i has this label
+abbrev pub labelled : List ℕ → ℕ → ℕ → ℕ → Bool
+labelled v i kind label = anyBelow (named v kind label) i
 
 -- "A term number in a field is 1 or more, below the record's own number, and names a term."
 abbrev pub termFits : List ℕ → ℕ → ℕ → Bool
@@ -55,12 +53,12 @@ termFits v i x = leb 1 x && (ltb x i && isTerm (recordAt v x .kind))
 abbrev pub linkFits : List ℕ → ℕ → ℕ → Bool
 linkFits v i x = eqb x 0 || (ltb i x && (ltb x (count v) && isStatement (recordAt v x .kind)))
 
--- Whether x may stand in a field of record i that holds this sort.
+-- Whether x may stand in a field of record i that holds this sort. A label is a name's, and no "label of an earlier name".
 abbrev pub sortFits : List ℕ → ℕ → Sort → ℕ → Bool
 sortFits v i Spare x = eqb x 0
 sortFits v i Term x = termFits v i x
 sortFits v i Role x = ltb x (roleCount v)
-sortFits v i Label x = not (labelled v i x)
+sortFits v i Label x = not (labelled v i 3 x)
 sortFits v i Link x = linkFits v i x
 
 -- The row that speaks of a field of this sort: 4 "unused field not zero", 5 "term number", 6 "role not below the count",
@@ -82,9 +80,13 @@ rowFits v i n s r = clear v i n (s .a) (r .a) && (clear v i n (s .b) (r .b) && c
 abbrev pub rowCheck : List ℕ → ℕ → ℕ → Sorts → Record → Check
 rowCheck v i n s r = require (rowFits v i n s r) n i
 
+-- The rows of fields: those that the table has at "each record in turn" behind row 3, in its order.
+abbrev pub fieldRows : List ℕ
+fieldRows = 4 ∷ 5 ∷ 6 ∷ 7 ∷ []
+
 -- Rows 4 to 7, at one record
 abbrev pub rowsCheck : List ℕ → ℕ → Sorts → Record → Check
-rowsCheck v i s r = rowCheck v i 4 s r then rowCheck v i 5 s r then rowCheck v i 6 s r then rowCheck v i 7 s r
+rowsCheck v i s r = inRows (λ n. rowCheck v i n s r) fieldRows
 
 -- Rows 3 to 7
 abbrev pub fieldsCheck : List ℕ → ℕ → Record → Check

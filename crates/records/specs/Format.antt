@@ -4,6 +4,9 @@ use mathlib.Core.List.{List, [], _∷_, _++_}
 use lib.ListN.{length, getD, take, drop}
 use Rattle.records.specs.declared.fields.Record.{Record}
 
+-- The figures, by names for the code and its laws. Rows 1 and 2 (specs/Check.antt) have the numbers, and could not be met with
+-- others here.
+
 -- "A record is 8 bytes"
 abbrev pub recordSize : ℕ
 recordSize = 8

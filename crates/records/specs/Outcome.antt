@@ -1,6 +1,7 @@
 -- What a call answers, and how the rows of the table follow one another.
 use Prim.Native.Nat.{ℕ, zero, suc}
 use mathlib.Core.Bool.{Bool, true, false}
+use mathlib.Core.List.{List, [], _∷_}
 
 -- "Every refusal gives number and place": a refusal's number and place, or acceptance with what the call answers.
 pub data Outcome (A : Type 0) : Type 0 where
@@ -24,6 +25,11 @@ _then_ (refused n p) b = refused n p
 abbrev pub require : Bool → ℕ → ℕ → Check
 require true n p = pass
 require false n p = refused n p
+
+-- Rows one after the other, by their numbers.
+abbrev pub inRows : (ℕ → Check) → List ℕ → Check
+inRows check [] = pass
+inRows check (n ∷ rows) = check n then inRows check rows
 
 -- "in turn": the check at i, i + 1, .., n of them.
 unfoldable pub inTurn : (ℕ → Check) → ℕ → ℕ → Check

@@ -97,25 +97,25 @@ fn key_of(kind: u8, a: u16) -> u32
     kind as u32 + 65536 * (a as u32)
 }
 
-// Whether record j is a name with this label.
-fn is_named(v: &[u8], label: u16, j: usize) -> bool
+// Whether record j is of this kind and has this label.
+fn is_named(v: &[u8], kind: u8, label: u16, j: usize) -> bool
     requires { ⌜ recordSize * j + recordSize ≤ length (now v) ⌝ }
-    ensures { λ r. ⌜ r ≡ named (now (v .entry)) label j ⌝ }
+    ensures { λ r. ⌜ r ≡ named (now (v .entry)) kind label j ⌝ }
 {
     let fields = read_at(v, j);
-    key_of(fields.kind, fields.a) == key_of(3, label)
+    key_of(fields.kind, fields.a) == key_of(kind, label)
 }
 
-// Row 7: whether an earlier name than record i has this label. The loop has no way out before its end, so that the
-// compiler compares several records at once.
-fn is_labelled(v: &[u8], i: usize, label: u16) -> bool
+// Row 7: whether a record of this kind that is earlier than record i has this label. The loop has no way out before its end, so
+// that the compiler compares several records at once.
+fn is_labelled(v: &[u8], i: usize, kind: u8, label: u16) -> bool
     requires { ⌜ recordSize * i ≤ length (now v) ⌝ }
-    ensures { λ r. ⌜ r ≡ labelled (now (v .entry)) i label ⌝ }
+    ensures { λ r. ⌜ r ≡ labelled (now (v .entry)) i kind label ⌝ }
 {
     let mut found = false;
     let mut j = 0;
     while j < i {
-        if is_named(v, label, j) {
+        if is_named(v, kind, label, j) {
             found = true;
         }
         j += 1;
@@ -164,7 +164,7 @@ fn field_fits(v: &[u8], i: usize, roles: u16, sort: Sort, x: u16) -> bool
         Sort::Spare => x == 0,
         Sort::Term => term_fits(v, i, x),
         Sort::Role => x < roles,
-        Sort::Label => !is_labelled(v, i, x),
+        Sort::Label => !is_labelled(v, i, 3, x),
         Sort::Link => true,
     }
 }
@@ -183,10 +183,10 @@ fn row_of(sort: Sort) -> u8
 }
 
 // The row that refuses a field, unless it fits.
-fn fault_unless(fits: bool, row: u8) -> u8
-    ensures { λ r. ⌜ r ≡ cond fits noFault row ⌝ }
+fn fault_unless(fits: bool, number: u8) -> u8
+    ensures { λ r. ⌜ r ≡ cond fits noFault number ⌝ }
 {
-    if fits { Sort::NO_FAULT } else { row }
+    if fits { Sort::NO_FAULT } else { number }
 }
 
 fn smaller(x: u8, y: u8) -> u8

@@ -19,14 +19,14 @@ use Rattle.records.specs.Finite.{put}
 use Rattle.records.specs.Format.{recordSize, roleLimit, placeOfNext, wordBytes, recordAt, count, firstStatement, roleCount}
 use Rattle.records.specs.Format.{edition, atomsHeld}
 use Rattle.records.specs.Atoms.{atoms}
-use Rattle.records.specs.Check.{named, labelled, sortFits, rowFits, fieldsCheck, recordCheck, linkCheck}
+use Rattle.records.specs.Check.{named, labelled, sortFits, rowFits, rowCheck, fieldRows, fieldsCheck, recordCheck, linkCheck}
 use Rattle.records.specs.Check.{lengthCheck, firstStatementCheck, headerFits, recordsCheck, heldFits, vocabularyRows}
 use Rattle.records.specs.Check.{vocabularyCheck, IsWellFormed}
 use Rattle.records.specs.Kinds.{Sorts, sortsOf}
 use Rattle.records.specs.declared.fields.Record.{Record}
 use Rattle.records.specs.declared.kinds.Sort.{Sort}
 use Rattle.records.specs.declared.kinds.Sort.the-variants.{Spare, Term, Role, Label, Link}
-use Rattle.records.proofs.Laws.Checks.{turns-pass}
+use Rattle.records.proofs.Laws.Checks.{in-rows-same, turns-pass}
 use Rattle.records.proofs.Laws.Parts.{put-length, put-before, put-inside, put-behind, pair-off, record-bytes, held-read}
 use Rattle.records.proofs.Laws.Search.{any-cong}
 use Rattle.records.proofs.Theorems.Accepted.{AcceptedFacts, RowsPassed, well-formed-rows, accepted-well-formed}
@@ -37,16 +37,16 @@ use Rattle.alike.proofs.Theorems.Truth.{atoms-alike}
 use Rattle.alike.proofs.Theorems.Editions.{kind-alike, a-alike, b-alike, record-alike, count-alike, editions-alike}
 
 module _ (v w : List ℕ) (differ : DifferInEdition v w) where
-  label-alike : (i label : ℕ) → labelled w i label ≡ labelled v i label
-  label-alike i label =
-      any-cong (named w label) (named v label) i
+  label-alike : (i kind label : ℕ) → labelled w i kind label ≡ labelled v i kind label
+  label-alike i kind label =
+      any-cong (named w kind label) (named v kind label) i
       (λ j h. rw (← kind-alike v w differ j, ← a-alike v w differ j))
 
   sort-alike : (i : ℕ) (sort : Sort) (x : ℕ) → sortFits w i sort x ≡ sortFits v i sort x
   sort-alike i Spare x = refl
   sort-alike i Term x = rw (← kind-alike v w differ x)
   sort-alike i Role x = rw (← b-alike v w differ 0)
-  sort-alike i Label x = rw (label-alike i x)
+  sort-alike i Label x = rw (label-alike i 3 x)
   sort-alike i Link x = rw (← kind-alike v w differ x, ← count-alike v w differ)
 
   row-alike : (n i : ℕ) (s : Sorts) (r : Record) → rowFits w i n s r ≡ rowFits v i n s r
@@ -55,7 +55,7 @@ module _ (v w : List ℕ) (differ : DifferInEdition v w) where
   fields-alike : (i : ℕ) (r : Record) → fieldsCheck w i r ≡ fieldsCheck v i r
   fields-alike i r =
       let s = sortsOf (r .kind) in
-      rw (row-alike 4 i s r, row-alike 5 i s r, row-alike 6 i s r, row-alike 7 i s r)
+      rw (in-rows-same (λ n. rowCheck w i n s r) (λ n. rowCheck v i n s r) fieldRows (λ n h. rw (row-alike n i s r)))
 
   record-passes : (i : ℕ) → 0 < i → recordCheck w i ≡ recordCheck v i
   unfolding recordCheck

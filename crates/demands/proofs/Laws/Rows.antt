@@ -7,8 +7,8 @@
 use Prim.Native.Nat.{ℕ, zero, suc}
 use mathlib.Core.Path.{_≡_, refl, sym, ap, _∙_}
 use mathlib.Core.Bool.{Bool, true, false, not}
-use mathlib.Core.List.{List, [], _∷_, _++_}
-use Rattle.records.specs.Outcome.{Outcome, Check, accepted, refused, pass, _then_, require, inTurn}
+use mathlib.Core.List.{List, [], _∷_, _++_, map}
+use Rattle.records.specs.Outcome.{Outcome, Check, accepted, refused, pass, _then_, require, inRows, inTurn}
 use Rattle.records.proofs.Laws.Tests.{clash}
 use Rattle.records.proofs.Laws.Checks.{then-assoc, then-stops}
 use Rattle.demands.specs.Table.{Row, row, rowsInTurn, NoneApplies, Refuses, Follows}
@@ -27,7 +27,8 @@ first-then (r ∷ xs) ys =
 pub record Tries (rows : List Row) (check : Check) : Type 0 where
   pub same : first rows ≡ check
 
--- Rows and more rows; a row whose condition is that something is not so, or that it is; the last row; rows in turn.
+-- Rows and more rows; a row whose condition is that something is not so, or that it is; the last row; rows by their numbers; rows
+-- in turn.
 pub tries-append : {xs ys : List Row} {c d : Check} → Tries xs c → Tries ys d → Tries (xs ++ ys) (c then d)
 tries-append {xs} {ys} e f = record { same = first-then xs ys ∙ rw (e .same, f .same) }
 
@@ -43,6 +44,11 @@ tries-plain b n p e = record { same = rw (e .same) }
 pub tries-last : (b : Bool) (n p : ℕ) → Tries (row n p (not b) ∷ []) (require b n p)
 tries-last true n p = record { same = refl }
 tries-last false n p = record { same = refl }
+
+pub tries-rows : (fits : ℕ → Bool) (p : ℕ) (rows : List ℕ)
+    → Tries (map (λ n. row n p (not (fits n))) rows) (inRows (λ n. require (fits n) n p) rows)
+tries-rows fits p [] = record { same = refl }
+tries-rows fits p (n ∷ rows) = tries-row (fits n) n p (tries-rows fits p rows)
 
 pub tries-in-turn : (rows : ℕ → List Row) (check : ℕ → Check) (n i : ℕ) → ((k : ℕ) → Tries (rows k) (check k))
     → Tries (rowsInTurn rows i n) (inTurn check i n)

@@ -14,8 +14,8 @@ use lib.Dec.{ltb, leb}
 use Rattle.records.specs.Outcome.{Check, accepted, refused, pass, _then_, require}
 use Rattle.records.specs.Format.{recordSize, recordLimit, roleLimit, recordBytes, recordAt, count, firstStatement}
 use Rattle.records.specs.Kinds.{sortsOf, isTerm}
-use Rattle.records.specs.Check.{lengthFits, lengthCheck, headerFits, kindFits, rowFits, recordCheck, linkFits, nextFits}
-use Rattle.records.specs.Check.{linkCheck, recordsCheck, heldFits, vocabularyRows, vocabularyCheck}
+use Rattle.records.specs.Check.{lengthFits, lengthCheck, headerFits, kindFits, rowFits, fieldRows, recordCheck, linkFits}
+use Rattle.records.specs.Check.{nextFits, linkCheck, recordsCheck, heldFits, vocabularyRows, vocabularyCheck}
 use Rattle.records.specs.Call.{recordCall}
 use Rattle.records.specs.Atoms.{atoms}
 use Rattle.writer.specs.Additions.{Addition, grown}
@@ -38,7 +38,7 @@ use Rattle.demands.specs.Table.{termRow, makingTable, additionTable}
 use Rattle.demands.specs.Table.{comparisonTable, classificationTable, entryRows, nextStepRows, formTable, OpenFrames}
 use Rattle.demands.specs.Table.{opensFrame, framesAfter, stepRows, laterRows, chainTable, scriptTable, TermOf, InForm}
 use Rattle.demands.proofs.Laws.Rows.{none-passed, row-passed, Tries, follows, tries-append, tries-row, tries-plain}
-use Rattle.demands.proofs.Laws.Rows.{tries-last, tries-in-turn}
+use Rattle.demands.proofs.Laws.Rows.{tries-last, tries-rows, tries-in-turn}
 
 module _ (v : List ℕ) where
   tries-record : (i : ℕ) → Tries (recordRows v i) (recordCheck v i)
@@ -46,10 +46,7 @@ module _ (v : List ℕ) where
   tries-record i =
       let r = recordAt v i in
       let s = sortsOf (r .kind) in
-      tries-row (kindFits r) 3 i
-      (tries-row (rowFits v i 4 s r) 4 i
-      (tries-row (rowFits v i 5 s r) 5 i
-      (tries-row (rowFits v i 6 s r) 6 i (tries-last (rowFits v i 7 s r) 7 i))))
+      tries-row (kindFits r) 3 i (tries-rows (λ n. rowFits v i n s r) i fieldRows)
 
   tries-records : Tries (recordsTable v) (recordsCheck v)
   unfolding recordsCheck linkCheck

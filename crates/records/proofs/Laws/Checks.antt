@@ -2,10 +2,11 @@
 --   then-assoc, then-pass                      checks one after the other, whichever are taken together; and none after them
 --   refusal-same, then-stops                   a refusal's number and place; what a check before a value refuses
 --   then-same                                  what comes after a check that passed
---   RefusesAt, require-at, then-at             checks that refuse at one place
+--   RefusesAt, require-at, then-at, in-rows-at checks that refuse at one place
 --   then-refused, then-refused-as, then-fine   a chain `a then b` where the first check refuses, or passes
 --   require-test                               a row whose test was made by a call
 --   checked-fine                               a check whose answer is `Fine`
+--   in-rows-same                               `inRows` of which each row is the same
 --   turn-refused, turn-passed, turns-end       `inTurn` at one turn, and past its end
 --   require-passed, then-passed                a row that passed; both checks of a chain that was accepted
 --   turn-at, turns-pass, turns-last            each check of a run that passed; all of them; a run with one more at its end
@@ -15,8 +16,12 @@ use native.Mathlib.Numerals.{add-one}
 use native.Mathlib.Omega.{arith}
 use native.Mathlib.Decide.{ℕ-discrete}
 use mathlib.Core.Path.{_≡_, refl, sym, ap, subst, _∙_}
-use mathlib.Core.Bool.{Bool, true, false}
-use Rattle.records.specs.Outcome.{Outcome, Check, accepted, refused, pass, _then_, require, inTurn}
+use mathlib.Core.Bool.{Bool, true, false, or-true}
+use mathlib.Core.List.{List, [], _∷_}
+use lib.Dec.{eqb}
+use borrow.Author.Tests.{eq-eqb}
+use Rattle.records.specs.Finite.{occurs}
+use Rattle.records.specs.Outcome.{Outcome, Check, accepted, refused, pass, _then_, require, inRows, inTurn}
 use Rattle.records.specs.Answers.{checked}
 use Rattle.records.specs.declared.answers.Checked.{Checked}
 use Rattle.records.specs.declared.answers.Checked.the-variants.{Fine, Refused}
@@ -54,6 +59,19 @@ require-at false k i n p e = sym (refusal-same k i n p e .1)
 pub then-at : (i : ℕ) (a b : Check) → RefusesAt i a → RefusesAt i b → RefusesAt i (a then b)
 then-at i (accepted u) b f g n p e = g n p e
 then-at i (refused m q) b f g n p e = f n p e
+
+pub in-rows-at : (i : ℕ) (check : ℕ → Check) → ((n : ℕ) → RefusesAt i (check n)) → (rows : List ℕ)
+    → RefusesAt i (inRows check rows)
+in-rows-at i check each [] n p e = absurd (clash (cc))
+in-rows-at i check each (m ∷ rows) n p e =
+    then-at i (check m) (inRows check rows) (each m) (in-rows-at i check each rows) n p e
+
+pub in-rows-same : (f g : ℕ → Check) (rows : List ℕ) → ((n : ℕ) → occurs n rows ≡ true → f n ≡ g n)
+    → inRows f rows ≡ inRows g rows
+unfolding occurs
+in-rows-same f g [] h = refl
+in-rows-same f g (n ∷ rows) h =
+    rw (h n (rw (eq-eqb n n refl)), in-rows-same f g rows (λ m o. h m (rw o (or-true (eqb m n)))))
 
 pub then-pass : (a : Check) → (a then pass) ≡ a
 then-pass (accepted u) = refl

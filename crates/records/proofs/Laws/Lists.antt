@@ -1,20 +1,25 @@
--- What holds of every entry of a list.
+-- What holds of every entry of a list, and of every number that occurs in one.
 --   All                      the property
 --   all-entry, all-default   it holds at an index; and past the end, where it holds of the default
 --   all-map                  what follows from it
+--   occurs-nil, occurs-cons  a number occurs in no empty list; where it occurs in another
+--   all-occurs               what holds of every entry holds of a number that occurs
 --   all-occurring, map-same  what holds of every number that occurs; so lists of their values are the same
 --   sets-all                 a list of which every entry was set
 -- Assumes nothing.
 use Prim.Native.Nat.{ℕ, zero, suc, _+_, _<_}
 use native.Mathlib.Omega.{arith}
-use mathlib.Core.Path.{_≡_, refl, sym, ap, _∙_}
+use native.Mathlib.Decide.{ℕ-discrete}
+use mathlib.Core.Path.{_≡_, refl, sym, ap, subst, _∙_}
 use mathlib.Core.Bool.{true, or-true}
 use mathlib.Core.List.{List, [], _∷_, _++_, map, append-nil}
+use mathlib.Core.Logic.{_⊎_, inl, inr, ⊎-elim}
 use lib.ListN.{length, getD, drop, drop-of-length-le}
 use lib.Seq.{sets, sets-eq}
 use lib.Dec.{eqb}
-use borrow.Author.Tests.{eq-eqb}
+use borrow.Author.Tests.{eq-eqb, ne-eqb}
 use Rattle.records.specs.Finite.{occurs}
+use Rattle.records.proofs.Laws.Tests.{clash, either-rest}
 
 -- What holds of every entry of a list holds of the entry at an index, and so does what follows from it.
 abbrev pub All : {A : Type 0} → (A → Type 0) → List A → Type 0
@@ -35,6 +40,23 @@ pub all-default : {A : Type 0} (P : A → Type 0) (l : List A) (d : A) → P d �
 all-default P [] d p t k = p
 all-default P (x ∷ xs) d p t zero = t .0
 all-default P (x ∷ xs) d p t (suc k) = all-default P xs d p (t .1) k
+
+pub occurs-nil : (x : ℕ) → occurs x [] ≡ true → ⊥
+unfolding occurs
+occurs-nil x o = clash (cc)
+
+pub occurs-cons : (x y : ℕ) (l : List ℕ) → occurs x (y ∷ l) ≡ true → (x ≡ y) ⊎ (occurs x l ≡ true)
+unfolding occurs
+occurs-cons x y l o = at (ℕ-discrete x y)
+  where
+    at : Dec (x ≡ y) → (x ≡ y) ⊎ (occurs x l ≡ true)
+    at (yes e) = inl e
+    at (no n) = inr (either-rest (eqb x y) (occurs x l) o (ne-eqb x y n))
+
+pub all-occurs : (P : ℕ → Type 0) (l : List ℕ) → All P l → (x : ℕ) → occurs x l ≡ true → P x
+all-occurs P [] t x o = absurd (occurs-nil x o)
+all-occurs P (y ∷ l) t x o =
+    ⊎-elim (λ e. subst P (sym e) (t .0)) (λ p. all-occurs P l (t .1) x p) (occurs-cons x y l o)
 
 pub all-occurring : (P : ℕ → Type 0) (is : List ℕ) → ((i : ℕ) → occurs i is ≡ true → P i) → All P is
 unfolding occurs

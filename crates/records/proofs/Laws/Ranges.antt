@@ -118,10 +118,11 @@ pub statement-kind : (k : ℕ) → isStatement k ≡ true → k ≡ 9
 statement-kind k e = eqb-true k 9 (sym (statement-range k) ∙ e)
 
 -- Kind and A in one number: equal keys have equal parts.
-pub key-same : (k a l x y : ℕ) → k < 256 → x ≡ k + 65536 * a → y ≡ 3 + 65536 * l → eqb x y ≡ (eqb k 3 && eqb a l)
-key-same k a l x y h p q = at (ℕ-discrete k 3) (ℕ-discrete a l)
+pub key-same : (j k a l x y : ℕ) → j < 256 → k < 256 → x ≡ j + 65536 * a → y ≡ k + 65536 * l
+    → eqb x y ≡ (eqb j k && eqb a l)
+key-same j k a l x y h i p q = at (ℕ-discrete j k) (ℕ-discrete a l)
   where
-    at : Dec (k ≡ 3) → Dec (a ≡ l) → eqb x y ≡ (eqb k 3 && eqb a l)
-    at (yes e) (yes f) = rw (eq-eqb x y (omega arith), eq-eqb k 3 e, eq-eqb a l f)
-    at (yes e) (no f) = rw (ne-eqb x y (λ g. f (omega arith)), eq-eqb k 3 e, ne-eqb a l f)
-    at (no e) f = rw (ne-eqb x y (λ g. e (omega arith)), ne-eqb k 3 e)
+    at : Dec (j ≡ k) → Dec (a ≡ l) → eqb x y ≡ (eqb j k && eqb a l)
+    at (yes e) (yes f) = rw (eq-eqb x y (omega arith), eq-eqb j k e, eq-eqb a l f)
+    at (yes e) (no f) = rw (ne-eqb x y (λ g. f (omega arith)), eq-eqb j k e, ne-eqb a l f)
+    at (no e) f = rw (ne-eqb x y (λ g. e (omega arith)), ne-eqb j k e)

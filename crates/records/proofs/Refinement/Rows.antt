@@ -1,4 +1,4 @@
--- Rows 4 to 7 at a record, by the faults of its three fields.
+-- The rows of fields at a record, by the faults of its three fields.
 --   rows-fit             where all three fields fit, the rows pass
 --   rows-unfit           where not all do, the smallest row of those that do not is the first that applies
 --   rows-told            the same, where each field was asked once
@@ -8,22 +8,48 @@
 -- Assumes nothing.
 use Prim.Native.Nat.{ℕ, min, _<_, _≤_}
 use native.Mathlib.Omega.{arith}
-use native.Mathlib.Decide.{ℕ-discrete}
-use mathlib.Core.Path.{_≡_, refl, sym, _∙_}
+use native.Mathlib.Decide.{ℕ-discrete, decLt}
+use mathlib.Core.Path.{_≡_, refl, sym, ap, subst, _∙_}
 use mathlib.Core.Bool.{Bool, true, false, cond, not, _&&_, _||_, or-true, or-false}
-use mathlib.Core.List.{List}
+use mathlib.Core.List.{List, [], _∷_}
+use mathlib.Core.Logic.{_⊎_, inl, inr}
 use lib.Dec.{eqb}
 use borrow.Author.Tests.{eq-eqb, ne-eqb, eqb-true}
-use Rattle.records.specs.Outcome.{Check, refused, pass, _then_, require}
+use Rattle.records.specs.Finite.{occurs}
+use Rattle.records.specs.Outcome.{Check, refused, pass, _then_, require, inRows}
 use Rattle.records.specs.Format.{recordAt}
 use Rattle.records.specs.Kinds.{sortsOf, Sorts, sorts}
-use Rattle.records.specs.Check.{sortFits, row, clear, rowFits, rowsCheck, linkFits, firstStatementCheck}
+use Rattle.records.specs.Check.{sortFits, row, clear, rowCheck, fieldRows, rowsCheck, linkFits, firstStatementCheck}
 use Rattle.records.specs.Code.Fields.{fieldFits, allFit, noFault, firstOf}
 use Rattle.records.specs.declared.fields.Record.{Record}
 use Rattle.records.specs.declared.kinds.Sort.{Sort}
 use Rattle.records.specs.declared.kinds.Sort.the-variants.{Spare, Term, Role, Label, Link}
 use Rattle.records.proofs.Laws.Tests.{clash}
-use Rattle.records.proofs.Laws.Checks.{then-pass, require-passed}
+use Rattle.records.proofs.Laws.Checks.{require-passed, in-rows-same}
+use Rattle.records.proofs.Laws.Lists.{All, occurs-nil, occurs-cons, all-occurs}
+use Rattle.records.proofs.Theorems.Following.{Rising, rising-above}
+
+-- x is one of these rows, or no fault.
+abbrev Fault : List ℕ → ℕ → Type 0
+Fault rows x = (x ≡ noFault) ⊎ (occurs x rows ≡ true)
+
+-- The smaller of two faults is one.
+fault-smaller : (rows : List ℕ) (x y : ℕ) → Fault rows x → Fault rows y → Fault rows (min x y)
+fault-smaller rows x y p q = at (decLt x y)
+  where
+    at : Dec (x < y) → Fault rows (min x y)
+    at (yes h) = subst (Fault rows) (omega arith) p
+    at (no h) = subst (Fault rows) (omega arith) q
+
+-- Of rows that rise it is the first, or behind that and one of the others.
+fault-cases : (n : ℕ) (rows : List ℕ) (x : ℕ) → n < noFault → Rising n rows → Fault (n ∷ rows) x
+    → (x ≡ n) ⊎ ((n < x) × Fault rows x)
+fault-cases n rows x h rise (inl e) = inr (omega arith, inl e)
+fault-cases n rows x h rise (inr o) = at (occurs-cons x n rows o)
+  where
+    at : (x ≡ n) ⊎ (occurs x rows ≡ true) → (x ≡ n) ⊎ ((n < x) × Fault rows x)
+    at (inl e) = inl e
+    at (inr p) = inr (rising-above n rows x rise p, inr p)
 
 -- Three faults, and the rows that they are free of.
 module _ (i a b c : ℕ) where
@@ -47,31 +73,24 @@ module _ (i a b c : ℕ) where
   cleared : (n : ℕ) → n < first → free n ≡ true
   cleared n h = rw (ne-eqb a n (λ e. omega arith), ne-eqb b n (λ e. omega arith), ne-eqb c n (λ e. omega arith))
 
-  -- one row: it is the smallest fault, or the rows after it decide
-  row-turn : (n : ℕ) (rest : Check) → n < noFault → n ≤ first → (n < first → answer ≡ rest)
-      → answer ≡ (require (free n) n i then rest)
-  row-turn n rest l h next = at (ℕ-discrete first n)
+  -- row by row: it is the smallest fault, or the rows after it decide
+  rows-turn : (rows : List ℕ) (low : ℕ) → Rising low rows → All (λ n. n < noFault) rows → Fault rows first
+      → answer ≡ inRows (λ n. require (free n) n i) rows
+  rows-turn [] low rise small (inl e) = rw (eq-eqb first noFault e)
+  rows-turn [] low rise small (inr o) = absurd (occurs-nil first o)
+  rows-turn (n ∷ rows) low rise small known =
+      at (fault-cases n rows first (small .0) (rise .1) known) (rows-turn rows n (rise .1) (small .1))
     where
-      at : Dec (first ≡ n) → answer ≡ (require (free n) n i then rest)
-      at (yes e) = rw (caught n e, e, ne-eqb n noFault (λ z. omega arith))
-      at (no m) = rw (cleared n (omega arith)) (next (omega arith))
-
-  first-row : 4 ≤ first → (7 < first → first ≡ noFault)
-      → answer ≡ (require (free 4) 4 i then require (free 5) 5 i then require (free 6) 6 i then require (free 7) 7 i)
-  first-row low high =
-      row-turn 4 _ (omega arith) low
-      (λ h. row-turn 5 _ (omega arith) h
-      (λ h. row-turn 6 _ (omega arith) h
-      (λ h. row-turn 7 pass (omega arith) h (λ h. rw (eq-eqb first noFault (high h))) ∙ then-pass (require (free 7) 7 i))))
+      at : (first ≡ n) ⊎ ((n < first) × Fault rows first)
+          → (Fault rows first → answer ≡ inRows (λ n. require (free n) n i) rows)
+          → answer ≡ inRows (λ n. require (free n) n i) (n ∷ rows)
+      at (inl e) more = rw (caught n e, e, ne-eqb n noFault (λ z. omega (arith, small .0)))
+      at (inr l) more = rw (cleared n (l .0)) (more (l .1))
 
 -- A row against a field whose own row is m.
 own-row : (m n : ℕ) (ok : Bool) → n < noFault → (not (eqb m n) || ok) ≡ not (eqb (cond ok noFault m) n)
 own-row m n true h = or-true (not (eqb m n)) ∙ rw (ne-eqb noFault n (λ e. omega arith))
 own-row m n false h = or-false (not (eqb m n))
-
-either-row : (ok : Bool) (m : ℕ) → 4 ≤ m → m < 8 → (4 ≤ cond ok noFault m) × (7 < cond ok noFault m → cond ok noFault m ≡ noFault)
-either-row true m l h = (omega arith, λ z. refl)
-either-row false m l h = (l, λ z. absurd (omega arith))
 
 row-small : (sort : Sort) → row sort < noFault
 row-small Spare = omega arith
@@ -80,24 +99,43 @@ row-small Role = omega arith
 row-small Label = omega arith
 row-small Link = omega arith
 
+-- The rows of fields rise, and none of them is `noFault`.
+rows-rise : Rising 0 fieldRows
+rows-rise = (omega arith, (omega arith, (omega arith, (omega arith, tt))))
+
+rows-small : All (λ n. n < noFault) fieldRows
+rows-small = (omega arith, (omega arith, (omega arith, (omega arith, tt))))
+
+-- The fault of a field whose own row is m: one of the rows of fields or not, as it is told.
+module _ (m : ℕ) (ok : Bool) where
+  fault-listed : (listed : Bool) → occurs m fieldRows ≡ listed → Fault fieldRows (cond (not listed || ok) noFault m)
+  fault-listed false e = inl refl
+  fault-listed true e = at ok
+    where
+      at : (ok : Bool) → Fault fieldRows (cond ok noFault m)
+      at true = inl refl
+      at false = inr e
+
+  clear-listed : (n : ℕ) → occurs n fieldRows ≡ true → (listed : Bool) → occurs m fieldRows ≡ listed
+      → (not (eqb m n) || ok) ≡ not (eqb (cond (not listed || ok) noFault m) n)
+  clear-listed n o true e = own-row m n ok (all-occurs (λ n. n < noFault) fieldRows rows-small n o)
+  clear-listed n o false e =
+      let small = all-occurs (λ n. n < noFault) fieldRows rows-small n o in
+      let other : m ≡ n → ⊥ = λ q. let both = sym e ∙ ap (λ (k : ℕ). occurs k fieldRows) q ∙ o in clash (cc) in
+      rw (ne-eqb m n other, ne-eqb noFault n (λ q. omega (arith, small)))
+
 module _ (v : List ℕ) (i : ℕ) where
-  -- the row that refuses x, if one of the rows 4 to 7 does
+  -- the row that refuses x, if one of the rows of fields does
   abbrev fault : Sort → ℕ → ℕ
   fault sort x = cond (fieldFits v i sort x) noFault (row sort)
 
-  clear-fault : (n : ℕ) (sort : Sort) (x : ℕ) → n < 8 → clear v i n sort x ≡ not (eqb (fault sort x) n)
-  clear-fault n Spare x h = own-row 4 n _ (omega arith)
-  clear-fault n Term x h = own-row 5 n _ (omega arith)
-  clear-fault n Role x h = own-row 6 n _ (omega arith)
-  clear-fault n Label x h = own-row 7 n _ (omega arith)
-  clear-fault n Link x h = rw (ne-eqb 8 n (λ e. omega arith), ne-eqb noFault n (λ e. omega arith))
+  clear-fault : (n : ℕ) (sort : Sort) (x : ℕ) → occurs n fieldRows ≡ true → clear v i n sort x ≡ not (eqb (fault sort x) n)
+  unfolding fieldFits
+  clear-fault n sort x o = clear-listed (row sort) (sortFits v i sort x) n o (occurs (row sort) fieldRows) refl
 
-  fault-known : (sort : Sort) (x : ℕ) → (4 ≤ fault sort x) × (7 < fault sort x → fault sort x ≡ noFault)
-  fault-known Spare x = either-row (sortFits v i Spare x) 4 (omega arith) (omega arith)
-  fault-known Term x = either-row (sortFits v i Term x) 5 (omega arith) (omega arith)
-  fault-known Role x = either-row (sortFits v i Role x) 6 (omega arith) (omega arith)
-  fault-known Label x = either-row (sortFits v i Label x) 7 (omega arith) (omega arith)
-  fault-known Link x = (omega arith, λ z. refl)
+  fault-known : (sort : Sort) (x : ℕ) → Fault fieldRows (fault sort x)
+  unfolding fieldFits
+  fault-known sort x = fault-listed (row sort) (sortFits v i sort x) (occurs (row sort) fieldRows) refl
 
 module _ (v : List ℕ) (i : ℕ) (s : Sorts) (r : Record) where
   -- the faults of A, B and next
@@ -110,21 +148,20 @@ module _ (v : List ℕ) (i : ℕ) (s : Sorts) (r : Record) where
   abbrev inNext : ℕ
   inNext = fault v i (s .next) (r .next)
 
+  first-known : Fault fieldRows (first i inA inB inNext)
+  first-known =
+      fault-smaller fieldRows inA (min inB inNext) (fault-known v i (s .a) (r .a))
+      (fault-smaller fieldRows inB inNext (fault-known v i (s .b) (r .b)) (fault-known v i (s .next) (r .next)))
+
   rows-first : answer i inA inB inNext ≡ rowsCheck v i s r
   rows-first =
-      let a = fault-known v i (s .a) (r .a) in
-      let b = fault-known v i (s .b) (r .b) in
-      let c = fault-known v i (s .next) (r .next) in
-      let free-row : (n : ℕ) → n < 8 → free i inA inB inNext n ≡ rowFits v i n s r
-      = λ n h. rw (
-        clear-fault v i n (s .a) (r .a) h,
-        clear-fault v i n (s .b) (r .b) h,
-        clear-fault v i n (s .next) (r .next) h,
-      ) in
-      first-row i inA inB inNext
-      (omega (arith, a .0, b .0, c .0))
-      (λ h. omega (arith, a .1 (omega arith), b .1 (omega arith), c .1 (omega arith)))
-      ∙ rw (free-row 4 (omega arith), free-row 5 (omega arith), free-row 6 (omega arith), free-row 7 (omega arith))
+      rows-turn i inA inB inNext fieldRows 0 rows-rise rows-small first-known
+      ∙ in-rows-same (λ n. require (free i inA inB inNext n) n i) (λ n. rowCheck v i n s r) fieldRows
+      (λ n o. rw (
+        clear-fault v i n (s .a) (r .a) o,
+        clear-fault v i n (s .b) (r .b) o,
+        clear-fault v i n (s .next) (r .next) o,
+      ))
 
 -- Where all fit, or not all, and the smallest row is of the first that applies.
 module _ (v : List ℕ) (i : ℕ) (s : Sorts) (r : Record) where
@@ -172,10 +209,10 @@ module _ (v : List ℕ) (i : ℕ) (s : Sorts) (r : Record) (e : rowsCheck v i s 
       eqb-true _ noFault
       (require-passed (eqb (first i (inA v i s r) (inB v i s r) (inNext v i s r)) noFault) _ i (rows-first v i s r ∙ e))
 
-  unfaulted : (sort : Sort) (x : ℕ) → 7 < fault v i sort x → fieldFits v i sort x ≡ true
-  unfaulted sort x h = at (fieldFits v i sort x) (fault-known v i sort x .1 h)
+  unfaulted : (sort : Sort) (x : ℕ) → noFault ≤ fault v i sort x → fieldFits v i sort x ≡ true
+  unfaulted sort x h = at (fieldFits v i sort x) h
     where
-      at : (ok : Bool) → cond ok noFault (row sort) ≡ noFault → ok ≡ true
+      at : (ok : Bool) → noFault ≤ cond ok noFault (row sort) → ok ≡ true
       at true q = refl
       at false q = absurd (omega (arith, row-small sort))
 

@@ -19,6 +19,7 @@ use lib.ListN.{length}
 use mathlib.Core.Logic.{inl, inr}
 use lib.Dec.{ltb, leb, eqb}
 use borrow.Author.Tests.{ltb-true, leb-true, eqb-true, eq-eqb, not-true}
+use Rattle.records.specs.Finite.{occurs}
 use Rattle.records.specs.Outcome.{Outcome, Check, accepted, refused, pass, _then_, inTurn}
 use Rattle.records.specs.Format.{recordSize, recordLimit, roleLimit, recordAt, count, firstStatement, roleCount}
 use Rattle.records.specs.Kinds.{Construct, none, top, bottom, name, negation, conjunction, disjunction, existential}
@@ -113,7 +114,7 @@ abbrev pub SortHolds : List ℕ → ℕ → Sort → ℕ → Type 0
 SortHolds v i Spare x = x ≡ 0
 SortHolds v i Term x = Operand v i x
 SortHolds v i Role x = x < roleCount v
-SortHolds v i Label x = labelled v i x ≡ false
+SortHolds v i Label x = labelled v i 3 x ≡ false
 SortHolds v i Link x = Unit {0}
 
 pub record Fields (v : List ℕ) (i : ℕ) (s : Sorts) (r : Record) : Type 0 where
@@ -161,10 +162,11 @@ module _ (v : List ℕ) (i : ℕ) where
           }
 
   field-held : (sort : Sort) (x : ℕ) → fieldFits v i sort x ≡ true → SortHolds v i sort x
+  unfolding fieldFits occurs
   field-held Spare x e = eqb-true x 0 e
   field-held Term x e = operand x e
   field-held Role x e = ltb-true x (roleCount v) e
-  field-held Label x e = not-true (labelled v i x) e
+  field-held Label x e = not-true (labelled v i 3 x) e
   field-held Link x e = tt
 
   -- rows 4 to 7 passed
@@ -206,11 +208,11 @@ module _ (v : List ℕ) (i : ℕ) where
       restricted f = ((f .a, tt), (f .b, tt))
 
   record-unlabelled : Fields v i (sortsOf (recordAt v i .kind)) (recordAt v i) → recordAt v i .kind ≡ 3
-      → labelled v i (recordAt v i .a) ≡ false
+      → labelled v i 3 (recordAt v i .a) ≡ false
   unfolding kindOf
   record-unlabelled f q = at (recordAt v i .kind) q (f .a)
     where
-      at : (k : ℕ) → k ≡ 3 → SortHolds v i (sortsOf k .a) (recordAt v i .a) → labelled v i (recordAt v i .a) ≡ false
+      at : (k : ℕ) → k ≡ 3 → SortHolds v i (sortsOf k .a) (recordAt v i .a) → labelled v i 3 (recordAt v i .a) ≡ false
       at k e h = subst (λ (k : ℕ). SortHolds v i (sortsOf k .a) (recordAt v i .a)) e h
 
   record-linked : linkCheck v i ≡ pass → recordAt v i .kind ≡ 9 → Linked v i (recordAt v i .next)
@@ -260,8 +262,8 @@ well-formed-vocabulary v e =
       fields = λ i p h. record-held v i (passed .each i p h);
       labels = λ i j p h q k same.
           let clear = record-unlabelled v i (record-held v i (passed .each i (omega arith) h)) q in
-          let at = any-at (named v (recordAt v i .a)) i clear j p in
-          let hit : named v (recordAt v i .a) j ≡ true = rw (eq-eqb _ 3 k, eq-eqb _ _ (sym same)) in
+          let at = any-at (named v 3 (recordAt v i .a)) i clear j p in
+          let hit : named v 3 (recordAt v i .a) j ≡ true = rw (eq-eqb _ 3 k, eq-eqb _ _ (sym same)) in
           clash (cc);
       first = linked v 0 (firstStatement v) (require-passed (linkFits v 0 (firstStatement v)) 8 0 (passed .first));
       rises = λ i p h q. record-linked v i (passed .links i p h) q;

@@ -5,6 +5,7 @@
 --   follow-same               chains of which each link is the same; 0 has none
 --   follow-ends               followed as far as one likes it is the chain
 --   Rising, follow-rises      each is after the one before
+--   rising-above              so what occurs comes after where they start
 --   follow-target             what is on the chain may be on it
 --   left, left-falls          a walk along the chain ends: what is left of it falls
 --   last-above                the last of a chain that is not empty comes after where it started
@@ -14,15 +15,13 @@
 use Prim.Native.Nat.{ℕ, zero, suc, _+_, _-_, _≤_, _<_}
 use native.Mathlib.Omega.{arith}
 use mathlib.Core.Path.{_≡_, refl, sym, ap, subst, _∙_}
-use mathlib.Core.Bool.{Bool, true, false, _||_}
+use mathlib.Core.Bool.{true}
 use mathlib.Core.List.{List, [], _∷_, _++_}
-use mathlib.Core.Logic.{_⊎_, inl, inr}
+use mathlib.Core.Logic.{_⊎_, inl, inr, ⊎-elim}
 use lib.ListN.{length}
-use lib.Dec.{eqb}
-use borrow.Author.Tests.{eqb-true}
 use Rattle.records.specs.Chain.{follow}
 use Rattle.records.specs.Finite.{occurs, lastOr}
-use Rattle.records.proofs.Laws.Tests.{clash}
+use Rattle.records.proofs.Laws.Lists.{occurs-nil, occurs-cons}
 
 -- x comes after i, below n, and may be on the chain.
 pub record Ahead (Target : ℕ → Type 0) (n i x : ℕ) : Type 0 where
@@ -43,10 +42,6 @@ Rising i (x ∷ xs) = (i < x) × Rising x xs
 abbrev pub left : ℕ → ℕ → ℕ
 left n zero = 0
 left n (suc i) = n - i
-
-none-occurs : (j : ℕ) → occurs j [] ≡ true → ⊥
-unfolding occurs
-none-occurs j e = clash (cc)
 
 pub follow-nil : (next : ℕ → ℕ) (n : ℕ) → follow next n 0 ≡ []
 unfolding follow
@@ -71,6 +66,11 @@ unfolding lastOr
 rising-last i [] r = omega arith
 rising-last i (x ∷ xs) r = omega (arith, r .0, rising-last x xs (r .1))
 
+pub rising-above : (i : ℕ) (l : List ℕ) (x : ℕ) → Rising i l → occurs x l ≡ true → i < x
+rising-above i [] x r o = absurd (occurs-nil x o)
+rising-above i (y ∷ l) x r o =
+    ⊎-elim (λ e. omega (arith, r .0)) (λ p. omega (arith, r .0, rising-above y l x (r .1) p)) (occurs-cons x y l o)
+
 module _ (Target : ℕ → Type 0) (n : ℕ) where
   pub left-falls : (i x : ℕ) → 0 < i → i < n → Onward Target n i x → left n x < left n i
   left-falls zero x p h l = absurd (omega arith)
@@ -79,9 +79,12 @@ module _ (Target : ℕ → Type 0) (n : ℕ) where
   left-falls (suc i) (suc x) p h (inr s) = omega (arith, s .later, s .within)
 
   -- something further ahead
+  ahead-from : (i j x : ℕ) → i ≤ j → Ahead Target n j x → Ahead Target n i x
+  ahead-from i j x h s = record { later = omega (arith, s .later); within = s .within; target = s .target }
+
   pub onward-from : (i j x : ℕ) → i ≤ j → Onward Target n j x → Onward Target n i x
   onward-from i j x h (inl e) = inl e
-  onward-from i j x h (inr s) = inr record { later = omega (arith, s .later); within = s .within; target = s .target }
+  onward-from i j x h (inr s) = inr (ahead-from i j x h s)
 
 -- Chains whose links lead onward.
 module _ (next : ℕ → ℕ) (Target : ℕ → Type 0) (count : ℕ)
@@ -131,19 +134,16 @@ module _ (next : ℕ → ℕ) (Target : ℕ → Type 0) (count : ℕ)
   follow-rises (suc n) i (suc x) (inr s) = (s .later, follow-rises n (suc x) (next (suc x)) (next-onward i x s))
 
   pub follow-target : (n i x j : ℕ) → Onward Target count i x → occurs j (follow next n x) ≡ true → Ahead Target count i j
-  unfolding follow occurs
-  follow-target zero i x j l o = absurd (none-occurs j o)
-  follow-target (suc n) i x j (inl e) o = absurd (none-occurs j (rw e at o))
-  follow-target (suc n) i zero j (inr s) o = absurd (none-occurs j o)
+  unfolding follow
+  follow-target zero i x j l o = absurd (occurs-nil j o)
+  follow-target (suc n) i x j (inl e) o = absurd (occurs-nil j (rw e at o))
+  follow-target (suc n) i zero j (inr s) o = absurd (occurs-nil j o)
   follow-target (suc n) i (suc x) j (inr s) o =
-      at (eqb j (suc x)) refl o (follow-target n (suc x) (next (suc x)) j (next-onward i x s))
-    where
-      at : (b : Bool) → eqb j (suc x) ≡ b → (b || occurs j (follow next n (next (suc x)))) ≡ true
-          → (occurs j (follow next n (next (suc x))) ≡ true → Ahead Target count (suc x) j) → Ahead Target count i j
-      at true q h r = subst (Ahead Target count i) (sym (eqb-true j (suc x) q)) s
-      at false q h r =
-          let t = r h in
-          record { later = omega (arith, s .later, t .later); within = t .within; target = t .target }
+      ⊎-elim
+      (λ e. subst (Ahead Target count i) (sym e) s)
+      (λ p. ahead-from Target count i (suc x) j (omega (arith, s .later))
+      (follow-target n (suc x) (next (suc x)) j (next-onward i x s) p))
+      (occurs-cons j (suc x) (follow next n (next (suc x))) o)
 
   pub last-above : (n i x : ℕ) → Ahead Target count i x → 0 < n → i < lastOr i (follow next n x)
   unfolding follow lastOr

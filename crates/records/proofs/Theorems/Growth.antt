@@ -19,20 +19,21 @@ use lib.ListN.{length}
 use lib.Dec.{eqb}
 use borrow.Author.Tests.{lt-ltb, le-ltb, le-leb, eq-eqb, ne-eqb, eqb-true}
 use Rattle.records.specs.Outcome.{accepted, pass, _then_, inTurn}
-use Rattle.records.specs.Finite.{digit, lastOr}
+use Rattle.records.specs.Finite.{digit, occurs, lastOr}
 use Rattle.records.specs.Format.{recordSize, recordLimit, recordAt, count, firstStatement, edition, atomsHeld}
 use Rattle.records.specs.Kinds.{Sorts, kindOf, isAtom, isStatement, sortsOf}
 use Rattle.records.specs.Atoms.{rank, atoms}
 use Rattle.records.specs.Chain.{nextStatement, follow, chain, chainEnd}
 use Rattle.records.specs.Check.{lengthCheck, headerFits, headerCheck, named, labelled, termFits, linkFits}
-use Rattle.records.specs.Check.{kindFits, kindCheck, clear, rowFits, rowCheck, rowsCheck, fieldsCheck, recordCheck}
-use Rattle.records.specs.Check.{firstStatementCheck, linkCheck, linksCheck, recordsCheck, IsWellFormed}
+use Rattle.records.specs.Check.{kindFits, kindCheck, row, clear, rowFits, rowCheck, fieldRows, rowsCheck, fieldsCheck}
+use Rattle.records.specs.Check.{recordCheck, firstStatementCheck, linkCheck, linksCheck, recordsCheck, IsWellFormed}
 use Rattle.records.specs.Check.{heldFits, heldCheck, vocabularyRows, vocabularyCheck}
 use Rattle.records.specs.declared.fields.Record.{Record}
 use Rattle.records.specs.declared.kinds.Sort.{Sort}
 use Rattle.records.specs.declared.kinds.Sort.the-variants.{Spare, Term, Role, Label, Link}
-use Rattle.records.proofs.Laws.Tests.{implies-true}
-use Rattle.records.proofs.Laws.Checks.{then-pass, RefusesAt, require-at, then-at, turns-pass, turns-last}
+use Rattle.records.proofs.Laws.Tests.{clash, implies-true}
+use Rattle.records.proofs.Laws.Checks.{then-pass, RefusesAt, require-at, then-at, in-rows-at, in-rows-same, turns-pass}
+use Rattle.records.proofs.Laws.Checks.{turns-last}
 use Rattle.records.proofs.Laws.Search.{any-cong}
 use Rattle.records.proofs.Laws.Ranges.{statement-range, statement-kind}
 use Rattle.records.proofs.Theorems.Accepted.{AcceptedFacts, IsStatement, Linked, RowsPassed}
@@ -67,11 +68,13 @@ header-alone v one fits first = rw (one, fits, first)
 pub fields-at : (v : List ℕ) (i : ℕ) (r : Record) → RefusesAt i (fieldsCheck v i r)
 fields-at v i r =
     let s = sortsOf (r .kind) in
-    let row : (n : ℕ) → RefusesAt i (rowCheck v i n s r) = λ n. require-at (rowFits v i n s r) n i in
     then-at i (kindCheck r i) (rowsCheck v i s r) (require-at (kindFits r) 3 i)
-    (then-at i (rowCheck v i 4 s r) (rowCheck v i 5 s r then rowCheck v i 6 s r then rowCheck v i 7 s r) (row 4)
-    (then-at i (rowCheck v i 5 s r) (rowCheck v i 6 s r then rowCheck v i 7 s r) (row 5)
-    (then-at i (rowCheck v i 6 s r) (rowCheck v i 7 s r) (row 6) (row 7))))
+    (in-rows-at i (λ n. rowCheck v i n s r) (λ n. require-at (rowFits v i n s r) n i) fieldRows)
+
+-- A link is for row 8, which is none of them.
+link-apart : (n : ℕ) → occurs n fieldRows ≡ true → n ≡ row Link → ⊥
+unfolding occurs
+link-apart n o e = let listed = subst (λ (m : ℕ). occurs m fieldRows ≡ true) e o in clash (cc)
 
 module _ (v w : List ℕ) (r : Record) (well : IsWellFormed v) (few : count v < recordLimit) (grows : Grows v w r) where
   abbrev good : AcceptedFacts v
@@ -91,21 +94,25 @@ module _ (v w : List ℕ) (r : Record) (well : IsWellFormed v) (few : count v < 
       at (yes l) = rw (grows .kind x (omega arith))
       at (no n) = rw (le-ltb x i (omega arith))
 
-  named-same : (label j : ℕ) → j < count v → named w label j ≡ named v label j
-  named-same label zero h = rw (grows .kind 0 some, good .header)
-  named-same label (suc j) h = rw (grows .kind (suc j) h, grows .a (suc j) (omega arith) h)
+  -- labels are the same, of any kind but the header's
+  named-same : (kind label j : ℕ) → (16 ≡ kind → ⊥) → j < count v → named w kind label j ≡ named v kind label j
+  named-same kind label zero n h = rw (grows .kind 0 some, good .header, ne-eqb 16 kind n)
+  named-same kind label (suc j) n h = rw (grows .kind (suc j) h, grows .a (suc j) (omega arith) h)
 
-  labelled-same : (i label : ℕ) → i ≤ count v → labelled w i label ≡ labelled v i label
-  labelled-same i label h = any-cong (named w label) (named v label) i (λ j l. named-same label j (omega arith))
+  labelled-same : (i kind label : ℕ) → (16 ≡ kind → ⊥) → i ≤ count v → labelled w i kind label ≡ labelled v i kind label
+  labelled-same i kind label n h =
+      any-cong (named w kind label) (named v kind label) i (λ j l. named-same kind label j n (omega arith))
 
-  clear-same : (n i : ℕ) (sort : Sort) (x : ℕ) → n < 8 → i ≤ count v → clear w i n sort x ≡ clear v i n sort x
+  clear-same : (n i : ℕ) (sort : Sort) (x : ℕ) → occurs n fieldRows ≡ true → i ≤ count v
+      → clear w i n sort x ≡ clear v i n sort x
   clear-same n i Spare x h l = refl
   clear-same n i Term x h l = rw (term-same i x l)
   clear-same n i Role x h l = rw (grows .b 0 some)
-  clear-same n i Label x h l = rw (labelled-same i x l)
-  clear-same n i Link x h l = rw (ne-eqb 8 n (λ e. omega arith))
+  clear-same n i Label x h l = rw (labelled-same i 3 x (λ e. omega arith) l)
+  clear-same n i Link x h l = rw (ne-eqb (row Link) n (λ e. link-apart n h (sym e)))
 
-  row-same : (n i : ℕ) (s : Sorts) (q : Record) → n < 8 → i ≤ count v → rowFits w i n s q ≡ rowFits v i n s q
+  row-same : (n i : ℕ) (s : Sorts) (q : Record) → occurs n fieldRows ≡ true → i ≤ count v
+      → rowFits w i n s q ≡ rowFits v i n s q
   row-same n i s q h l =
       rw (
         clear-same n i (s .a) (q .a) h l,
@@ -116,12 +123,7 @@ module _ (v w : List ℕ) (r : Record) (well : IsWellFormed v) (few : count v < 
   pub fields-same : (i : ℕ) (q : Record) → i ≤ count v → fieldsCheck w i q ≡ fieldsCheck v i q
   fields-same i q l =
       let s = sortsOf (q .kind) in
-      rw (
-        row-same 4 i s q (omega arith) l,
-        row-same 5 i s q (omega arith) l,
-        row-same 6 i s q (omega arith) l,
-        row-same 7 i s q (omega arith) l,
-      )
+      rw (in-rows-same (λ n. rowCheck w i n s q) (λ n. rowCheck v i n s q) fieldRows (λ n h. rw (row-same n i s q h l)))
 
   -- a link stays, or it leads from the end of the chain to the new statement
   relink-cases : (j x : ℕ) → (relink v r j x ≡ x) ⊎ ((r .kind ≡ 9) × (j ≡ chainEnd v) × (relink v r j x ≡ count v))

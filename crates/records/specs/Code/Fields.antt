@@ -1,19 +1,20 @@
 -- What the code computes with: rows 4 to 7 at a record, field by field. No promise of a call speaks of it.
 use Prim.Native.Nat.{ℕ, _*_, _≤_, min}
 use mathlib.Core.Path.{_≡_}
-use mathlib.Core.Bool.{Bool, cond, _&&_, _||_}
+use mathlib.Core.Bool.{Bool, cond, not, _&&_, _||_}
 use mathlib.Core.List.{List}
 use lib.ListN.{length}
-use lib.Dec.{eqb}
+use Rattle.records.specs.Finite.{occurs}
 use Rattle.records.specs.Format.{recordSize, roleCount}
 use Rattle.records.specs.Kinds.{Sorts}
-use Rattle.records.specs.Check.{sortFits, row}
+use Rattle.records.specs.Check.{sortFits, row, fieldRows}
 use Rattle.records.specs.declared.fields.Record.{Record}
 use Rattle.records.specs.declared.kinds.Sort.{Sort}
 
--- Rows 4 to 7 have nothing against x in a field of record i that holds this sort. Row 8 comes after all records.
-abbrev pub fieldFits : List ℕ → ℕ → Sort → ℕ → Bool
-fieldFits v i sort x = eqb (row sort) 8 || sortFits v i sort x
+-- The rows of fields have nothing against x in a field of record i that holds this sort. A link is for row 8, which comes after
+-- all records.
+unfoldable pub fieldFits : List ℕ → ℕ → Sort → ℕ → Bool
+fieldFits v i sort x = not (occurs (row sort) fieldRows) || sortFits v i sort x
 
 -- Of the fields that do not fit, the smallest row is the first that applies (proofs/Refinement/Rows.antt); above all rows,
 -- where all fit.

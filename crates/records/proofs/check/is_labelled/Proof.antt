@@ -1,5 +1,5 @@
--- `records::check::is_labelled` meets its contract. The loop's invariant: `found` is whether a record below `j` is a name
--- with this label.
+-- `records::check::is_labelled` meets its contract. The loop's invariant: `found` is whether a record below `j` is of
+-- this kind and has this label.
 -- Assumes nothing.
 use Prim.Native.Nat.{_-_, _≤_}
 use native.Mathlib.Omega.{arith}
@@ -13,10 +13,10 @@ use Rattle.records.proofs.check.is_labelled.Statement.{statement}
 use Rattle.records.proofs.check.is_labelled.Tie as tie
 
 abbrev Inv-loop : tie.InvT-loop
-Inv-loop v i label found₀ j₀ found j = (j ≤ i) × (found ≡ anyBelow (named v label) j)
+Inv-loop v i kind label found₀ j₀ found j = (j ≤ i) × (found ≡ anyBelow (named v kind label) j)
 
 abbrev μ-loop : tie.MeasureT-loop
-μ-loop v i label found₀ j₀ found j = i - j
+μ-loop v i kind label found₀ j₀ found j = i - j
 
 loop-holds : tie.Need-loop-holds Inv-loop μ-loop
 unfolding anyBelow
@@ -27,9 +27,9 @@ loop-again c =
     let a = c .before .before .before .before .before .args in (
       omega arith,
       ⊎-elim
-          (λ w. w .1 ∙ any-hit (named (now (a .v)) (a .label)) (c .before .before .before .loop .j)
+          (λ w. w .1 ∙ any-hit (named (now (a .v)) (a .kind) (a .label)) (c .before .before .before .loop .j)
           (sym (c .before .is-named .ensures) ∙ w .0 .taken))
-          (λ w. w .1 ∙ any-miss (named (now (a .v)) (a .label)) (c .before .before .before .loop .j) _
+          (λ w. w .1 ∙ any-miss (named (now (a .v)) (a .kind) (a .label)) (c .before .before .before .loop .j) _
           (c .before .before .before .loop .inv .1) (sym (c .before .is-named .ensures) ∙ w .0 .left))
           (c .if1 .came),
     )
@@ -37,7 +37,7 @@ loop-again c =
 returns : tie.Need-returns Inv-loop μ-loop
 returns c =
     let a = c .before .before .before .args in
-    let e : c .before .loop .j ≡ a .i = omega arith in c .before .loop .inv .1 ∙ ap (anyBelow (named (now (a .v)) (a .label))) e
+    let e : c .before .loop .j ≡ a .i = omega arith in c .before .loop .inv .1 ∙ ap (anyBelow (named (now (a .v)) (a .kind) (a .label))) e
 
 pub is-labelled-spec : {M : Type 1} → statement M
 is-labelled-spec =

@@ -21,10 +21,11 @@ key-of-requires-2 c κs = search needs
 
 returns : tie.Need-returns
 returns c =
-    key-same (c .before .before .read-at .result .kind) _ _ _ _ (omega (arith, c .before .before .read-at .ok))
+    let read = c .before .before in
+    let args = read .before .before .args in
+    key-same (read .read-at .result .kind) (args .kind) _ _ _ _ (omega (arith, read .read-at .ok)) (omega arith)
     (c .before .key-of .ensures) (c .key-of2 .ensures)
-    ∙ ap (λ (r : Record). eqb (r .kind) 3 && eqb (r .a) (c .before .before .before .before .args .label))
-    (c .before .before .read-at .ensures)
+    ∙ ap (λ (r : Record). eqb (r .kind) (args .kind) && eqb (r .a) (args .label)) (read .read-at .ensures)
 
 pub is-named-spec : {M : Type 1} → statement M
 is-named-spec = tie.close (tie.spec read-at-requires key-of-requires key-of-requires-2 returns)
