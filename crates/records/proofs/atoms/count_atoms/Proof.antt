@@ -7,7 +7,7 @@ use mathlib.Core.Logic.{⊎-elim}
 use mathlib.Core.Path.{_≡_, refl, sym, ap, _∙_}
 use borrow.Author.Needs.{needs}
 use denote.Ref.{now}
-use Rattle.records.specs.Format.{count}
+use Rattle.records.specs.Format.{recordAt, count}
 use Rattle.records.specs.Kinds.{isAtom}
 use Rattle.records.specs.declared.fields.Record.{Record}
 use Rattle.records.specs.Atoms.{rank}
@@ -21,30 +21,34 @@ Inv-loop v records found₀ i₀ found i = (i ≤ count v) × (found ≡ rank v 
 abbrev μ-loop : tie.MeasureT-loop
 μ-loop v records found₀ i₀ found i = count v - i
 
+abbrev start : tie.At-loop Inv-loop μ-loop → tie.Start Inv-loop μ-loop
+start c = c .before .before
+
+-- the test of a turn
+is-atom : (c : tie.After-is-atom Inv-loop μ-loop) → let loop = c .before .before .before in
+    isAtom (recordAt (now (start loop .args .v)) (loop .loop .i) .kind) ≡ c .is-atom .result
+is-atom c = sym (c .is-atom .ensures ∙ ap (λ (r : Record). isAtom (r .kind)) (c .before .read-at .ensures))
+
 loop-holds : tie.Need-loop-holds Inv-loop μ-loop
 unfolding rank
 loop-holds c = (omega arith, refl, omega arith)
 
 loop-again : tie.Need-loop-again Inv-loop μ-loop
 loop-again c =
-    let l = c .before .before .before .before .loop in
-    let a = c .before .before .before .before .before .before .args in (
+    let loop = c .before .before .before .before in
+    let l = loop .loop in
+    let v = now (start loop .args .v) in (
       omega arith,
-      ⊎-elim (λ w. w .1 ∙ rank-turn (now (a .v)) (l .i) (l .found) true (l .inv .1)
-          (sym (c .before .is-atom .ensures ∙ ap (λ (r : Record). isAtom (r .kind)) (c .before .before .read-at .ensures)) ∙
-          w .0 .taken)) (λ w. w .1 ∙ omega (
-            arith,
-            rank-turn (now (a .v)) (l .i) (l .found) false (l .inv .1)
-                (sym (c .before .is-atom .ensures ∙ ap (λ (r : Record). isAtom (r .kind)) (c .before .before .read-at .ensures)) ∙
-                w .0 .left),
-          )) (c .if1 .came),
+      ⊎-elim (λ w. w .1 ∙ rank-turn v (l .i) (l .found) true (l .inv .1) (is-atom (c .before) ∙ w .0 .taken))
+          (λ w. w .1 ∙ omega (arith, rank-turn v (l .i) (l .found) false (l .inv .1) (is-atom (c .before) ∙ w .0 .left)))
+          (c .if1 .came),
       ⊎-elim (λ w. omega (arith, w .1)) (λ w. omega (arith, w .1)) (c .if1 .came),
     )
 
 returns : tie.Need-returns Inv-loop μ-loop
 returns c =
-    let a = c .before .before .before .args in
-    let e : c .before .loop .i ≡ count (now (a .v)) = omega arith in c .before .loop .inv .1 ∙ ap (rank (now (a .v))) e
+    let v = now (start (c .before) .args .v) in
+    let e : c .before .loop .i ≡ count v = omega arith in c .before .loop .inv .1 ∙ ap (rank v) e
 
 pub count-atoms-spec : {M : Type 1} → statement M
 count-atoms-spec =

@@ -7,6 +7,10 @@ use Rattle.records.proofs.Laws.Checks.{then-refused-as, then-fine}
 use Rattle.records.proofs.call.find_record.Statement.{statement}
 use Rattle.records.proofs.call.find_record.Tie as tie
 
+-- the check of the length, which passed
+abbrev length-of : tie.After-enum-told → tie.After-check-length
+length-of c = c .before .before
+
 returns : tie.Need-returns
 unfolding recordCall
 returns c =
@@ -16,17 +20,19 @@ returns c =
 returns-2 : tie.Need-returns-2
 unfolding recordCall
 returns-2 c =
-    then-fine _ _ _ _ (c .before .before .before .before .before .before .check-length .ensures)
-    (c .before .before .before .before .enum-told .given .1)
-    (then-refused-as _ _ _ _ _ _ _ (c .locate-after2 .ensures) (c .before .before .before .pass-if .ensures)
+    let known = c .before .before .before in
+    let passed = known .before in
+    then-fine _ _ _ _ (length-of passed .check-length .ensures) (passed .enum-told .given .1)
+    (then-refused-as _ _ _ _ _ _ _ (c .locate-after2 .ensures) (known .pass-if .ensures)
     (c .before .enum-told4 .given .1))
 
 returns-3 : tie.Need-returns-3
 unfolding recordCall
 returns-3 c =
-    then-fine _ _ _ _ (c .before .before .before .before .before .check-length .ensures)
-    (c .before .before .before .enum-told .given .1)
-    (then-fine _ _ _ _ (c .before .before .pass-if .ensures) (c .enum-told3 .given .1) refl)
+    let known = c .before .before in
+    let passed = known .before in
+    then-fine _ _ _ _ (length-of passed .check-length .ensures) (passed .enum-told .given .1)
+    (then-fine _ _ _ _ (known .pass-if .ensures) (c .enum-told3 .given .1) refl)
 
 pub find-record-spec : {M : Type 1} → statement M
 find-record-spec =

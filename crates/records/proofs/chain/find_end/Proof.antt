@@ -21,13 +21,19 @@ Inv-loop v end₀ at₀ end at = Linked v 0 at × (lastOr end (chainFrom v at) �
 abbrev μ-loop : tie.MeasureT-loop
 μ-loop v end₀ at₀ end at = left (count v) at
 
+-- the places of the walk, backwards
+abbrev begun : tie.At-loop Inv-loop μ-loop → tie.Start Inv-loop μ-loop
+begun c = c .before .before .before .before
+
+abbrev turn : tie.After-struct-known2 Inv-loop μ-loop → tie.In-loop Inv-loop μ-loop
+turn c = c .before .before
+
 good : (c : tie.Start Inv-loop μ-loop) → AcceptedFacts (now (c .args .v))
 good c = well-formed-vocabulary (now (c .args .v)) (c .pre)
 
 -- the statement that the walk stands at
-here : (c : tie.In-loop Inv-loop μ-loop) → Later (now (c .before .before .before .before .before .args .v)) 0
-    (c .before .loop .at)
-here c = linked-here _ (good (c .before .before .before .before .before)) _ (c .before .loop .inv .0) (c .loop-test .taken)
+here : (c : tie.In-loop Inv-loop μ-loop) → Later (now (begun (c .before) .args .v)) 0 (c .before .loop .at)
+here c = linked-here _ (good (begun (c .before))) _ (c .before .loop .inv .0) (c .loop-test .taken)
 
 read-at-requires : tie.Need-read-at-requires Inv-loop μ-loop
 read-at-requires c κs = omega (arith, good (c .before) .sized .least)
@@ -44,15 +50,15 @@ read-at-requires-2 c κs = omega (arith, here c .within)
 
 loop-less : tie.Need-loop-less Inv-loop μ-loop
 loop-less c =
-    walk-falls _ (good (c .before .before .before .before .before .before .before)) _ _ (here (c .before .before))
+    walk-falls _ (good (begun (turn c .before))) _ _ (here (turn c))
     (ap (λ (r : Record). r .next) (c .before .read-at2 .ensures))
 
 loop-again : tie.Need-loop-again Inv-loop μ-loop
 loop-again c =
-    let b = c .before .before .before .before .before .before .before in
-    let l = c .before .before .before .loop in
+    let b = begun (turn c .before) in
+    let l = turn c .before .loop in
     let v = now (b .args .v) in
-    let stands = here (c .before .before) in
+    let stands = here (turn c) in
     let next = ap (λ (r : Record). r .next) (c .before .read-at2 .ensures) in (
       linked-next v (good b) (l .at) _ stands next,
       ap (λ (i : ℕ). lastOr (l .at) (chainFrom v i)) next ∙ end-step v (good b) (l .end) (l .at) stands ∙ l .inv .1,
@@ -60,7 +66,7 @@ loop-again c =
 
 returns : tie.Need-returns Inv-loop μ-loop
 returns c =
-    let v = now (c .before .before .before .before .before .args .v) in
+    let v = now (begun (c .before) .args .v) in
     let l = c .before .loop in
     sym (end-nil v (l .end)) ∙ ap (λ (i : ℕ). lastOr (l .end) (chainFrom v i)) (sym (c .loop-test .left)) ∙ l .inv .1
 

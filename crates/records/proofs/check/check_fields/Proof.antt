@@ -9,17 +9,22 @@ use Rattle.records.proofs.Laws.Checks.{then-refused, then-fine}
 use Rattle.records.proofs.check.check_fields.Statement.{statement}
 use Rattle.records.proofs.check.check_fields.Tie as tie
 
+abbrev start : tie.After-read → tie.Start
+start c = c .before .before .before
+
 returns : tie.Need-returns
 returns c =
-    let a = c .before .before .before .before .before .before .args in
-    then-refused _ _ _ _ _ (c .before .before .check-kind .ensures) (c .enum-told2 .given .1)
-    ∙ ap (λ (r : Record). fieldsCheck (now (a .v)) (a .i) r) (c .before .before .before .read .ensures)
+    let kind = c .before .before in
+    let a = start (kind .before) .args in
+    then-refused _ _ _ _ _ (kind .check-kind .ensures) (c .enum-told2 .given .1)
+    ∙ ap (λ (r : Record). fieldsCheck (now (a .v)) (a .i) r) (kind .before .read .ensures)
 
 returns-2 : tie.Need-returns-2
 returns-2 c =
-    let a = c .before .before .before .before .before .before .before .args in
-    then-fine _ _ _ _ (c .before .before .before .check-kind .ensures) (c .before .enum-told .given .1) (c .check-rows .ensures)
-    ∙ ap (λ (r : Record). fieldsCheck (now (a .v)) (a .i) r) (c .before .before .before .before .read .ensures)
+    let kind = c .before .before .before in
+    let a = start (kind .before) .args in
+    then-fine _ _ _ _ (kind .check-kind .ensures) (c .before .enum-told .given .1) (c .check-rows .ensures)
+    ∙ ap (λ (r : Record). fieldsCheck (now (a .v)) (a .i) r) (kind .before .read .ensures)
 
 pub check-fields-spec : {M : Type 1} → statement M
 check-fields-spec =

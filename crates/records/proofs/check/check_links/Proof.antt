@@ -25,6 +25,13 @@ link-fits-requires c κs = tt
 pass-if-requires : tie.Need-pass-if-requires Inv-loop μ-loop
 pass-if-requires c κs = tt
 
+-- where row 8 at the header had passed
+abbrev headed : tie.At-loop Inv-loop μ-loop → tie.After-enum-told Inv-loop μ-loop
+headed c = c .before
+
+abbrev header-of : tie.After-enum-told Inv-loop μ-loop → tie.After-pass-if Inv-loop μ-loop
+header-of c = c .before .before
+
 -- row 8 at the header
 head : (c : tie.After-pass-if Inv-loop μ-loop)
     → checked (c .pass-if .result) ≡ firstStatementCheck (now (c .before .before .before .before .args .v))
@@ -39,21 +46,22 @@ loop-holds c = refl
 
 returns-2 : tie.Need-returns-2 Inv-loop μ-loop
 returns-2 c =
-    then-fine _ _ _ _ (head (c .before .before .before .before .before .before .before))
-    (c .before .before .before .before .before .enum-told .given .1)
-    (turn-refused _ _ _ _ _ _ (c .before .before .before .loop-test .taken) (c .before .before .check-link .ensures)
-    (c .enum-told4 .given .1)
-    ∙ sym (c .before .before .before .before .loop .inv))
+    let link = c .before .before in
+    let loop = link .before .before in
+    then-fine _ _ _ _ (head (header-of (headed loop))) (headed loop .enum-told .given .1)
+    (turn-refused _ _ _ _ _ _ (link .before .loop-test .taken) (link .check-link .ensures) (c .enum-told4 .given .1)
+    ∙ sym (loop .loop .inv))
 
 loop-again : tie.Need-loop-again Inv-loop μ-loop
 loop-again c =
-    c .before .before .before .before .loop .inv ∙ turn-passed _ _ _ _ (c .before .before .before .loop-test .taken)
-    (c .before .before .check-link .ensures) (c .enum-told3 .given .1)
+    let link = c .before .before in
+    link .before .before .loop .inv
+    ∙ turn-passed _ _ _ _ (link .before .loop-test .taken) (link .check-link .ensures) (c .enum-told3 .given .1)
 
 returns-3 : tie.Need-returns-3 Inv-loop μ-loop
 returns-3 c =
-    then-fine _ _ _ _ (head (c .before .before .before .before))
-    (c .before .before .enum-told .given .1)
+    let loop = c .before in
+    then-fine _ _ _ _ (head (header-of (headed loop))) (headed loop .enum-told .given .1)
     (sym (c .before .loop .inv ∙ turns-end _ _ _ (c .loop-test .left)))
 
 pub check-links-spec : {M : Type 1} → statement M

@@ -9,6 +9,13 @@ use Rattle.records.proofs.Theorems.Accepted.{Sized, length-passed}
 use Rattle.records.proofs.check.check_records.Statement.{statement}
 use Rattle.records.proofs.check.check_records.Tie as tie
 
+-- the places of the checks that passed, backwards: the length, the header
+abbrev sized-at : tie.After-enum-told3 → tie.After-enum-told
+sized-at c = c .before .before .before
+
+abbrev headed-at : tie.After-enum-told5 → tie.After-enum-told3
+headed-at c = c .before .before .before
+
 -- the length has passed
 sized : (c : tie.After-enum-told) → Sized (now (c .before .before .before .before .args .v))
 sized c = length-passed _ (checked-fine _ _ (c .before .before .check-length .ensures) (c .enum-told .given .1))
@@ -29,27 +36,27 @@ returns-2 c =
     (then-refused _ _ _ _ _ (header .check-header .ensures) (c .enum-told4 .given .1))
 
 check-each-requires : tie.Need-check-each-requires
-check-each-requires c κs = sized (c .before .before .before) .least
+check-each-requires c κs = sized (sized-at c) .least
 
 returns-3 : tie.Need-returns-3
 unfolding recordsCheck
 returns-3 c =
     let each = c .before .before in
     let header = each .before in
-    let length = header .before .before .before in
+    let length = sized-at header in
     then-fine _ _ _ _ (length .before .before .check-length .ensures) (length .enum-told .given .1)
     (then-fine _ _ _ _ (header .before .before .check-header .ensures) (header .enum-told3 .given .1)
     (then-refused _ _ _ _ _ (each .check-each .ensures) (c .enum-told6 .given .1)))
 
 check-links-requires : tie.Need-check-links-requires
-check-links-requires c κs = sized (c .before .before .before .before .before .before) .least
+check-links-requires c κs = sized (sized-at (headed-at c)) .least
 
 returns-4 : tie.Need-returns-4
 unfolding recordsCheck
 returns-4 c =
     let each = c .before in
-    let header = each .before .before .before in
-    let length = header .before .before .before in
+    let header = headed-at each in
+    let length = sized-at header in
     then-fine _ _ _ _ (length .before .before .check-length .ensures) (length .enum-told .given .1)
     (then-fine _ _ _ _ (header .before .before .check-header .ensures) (header .enum-told3 .given .1)
     (then-fine _ _ _ _ (each .before .before .check-each .ensures) (each .enum-told5 .given .1) (c .check-links .ensures)))

@@ -11,6 +11,10 @@ use Rattle.records.proofs.Refinement.Rows.{rows-at}
 use Rattle.records.proofs.check.check_rows.Statement.{statement}
 use Rattle.records.proofs.check.check_rows.Tie as tie
 
+-- from where the kind is none of those that have an arm alone
+abbrev start : tie.At-match-rest → tie.Start
+start c = c .before .before
+
 returns : tie.Need-returns
 unfolding kindOf
 returns c =
@@ -35,21 +39,21 @@ returns-3 c =
 returns-4 : tie.Need-returns-4
 unfolding kindOf
 returns-4 c =
-    let a = c .before .before .before .before .before .args in
+    let a = start (c .before .before .before) .args in
     rows-at (now (a .v)) (a .i) (a .f) _ _ (c .check-sorts4 .ensures)
     (between (λ k. junctionFields ≡ sortsOf k) 2 5 (refl, (refl, tt)) (a .f .kind) (omega arith) (omega arith))
 
 returns-5 : tie.Need-returns-5
 unfolding kindOf
 returns-5 c =
-    let a = c .before .before .before .before .before .before .args in
+    let a = start (c .before .before .before .before) .args in
     rows-at (now (a .v)) (a .i) (a .f) _ _ (c .check-sorts5 .ensures)
     (between (λ k. restrictionFields ≡ sortsOf k) 2 7 (refl, (refl, tt)) (a .f .kind) (omega arith) (omega arith))
 
 returns-6 : tie.Need-returns-6
 unfolding kindOf
 returns-6 c =
-    let a = c .before .before .before .before .args in
+    let a = start (c .before .before) .args in
     rows-at (now (a .v)) (a .i) (a .f) _ _ (c .check-sorts6 .ensures)
     (⊎-elim
     (λ w. between (λ k. constantFields ≡ sortsOf k) 3 0 (refl, (refl, (refl, tt))) (a .f .kind) (omega arith) (omega arith))

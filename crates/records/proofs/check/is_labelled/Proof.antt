@@ -18,26 +18,31 @@ Inv-loop v i kind label found₀ j₀ found j = (j ≤ i) × (found ≡ anyBelow
 abbrev μ-loop : tie.MeasureT-loop
 μ-loop v i kind label found₀ j₀ found j = i - j
 
+abbrev start : tie.At-loop Inv-loop μ-loop → tie.Start Inv-loop μ-loop
+start c = c .before .before
+
 loop-holds : tie.Need-loop-holds Inv-loop μ-loop
 unfolding anyBelow
 loop-holds c = (omega arith, refl)
 
 loop-again : tie.Need-loop-again Inv-loop μ-loop
 loop-again c =
-    let a = c .before .before .before .before .before .args in (
+    let loop = c .before .before .before in
+    let a = start loop .args in (
       omega arith,
       ⊎-elim
-          (λ w. w .1 ∙ any-hit (named (now (a .v)) (a .kind) (a .label)) (c .before .before .before .loop .j)
+          (λ w. w .1 ∙ any-hit (named (now (a .v)) (a .kind) (a .label)) (loop .loop .j)
           (sym (c .before .is-named .ensures) ∙ w .0 .taken))
-          (λ w. w .1 ∙ any-miss (named (now (a .v)) (a .kind) (a .label)) (c .before .before .before .loop .j) _
-          (c .before .before .before .loop .inv .1) (sym (c .before .is-named .ensures) ∙ w .0 .left))
+          (λ w. w .1 ∙ any-miss (named (now (a .v)) (a .kind) (a .label)) (loop .loop .j) _
+          (loop .loop .inv .1) (sym (c .before .is-named .ensures) ∙ w .0 .left))
           (c .if1 .came),
     )
 
 returns : tie.Need-returns Inv-loop μ-loop
 returns c =
-    let a = c .before .before .before .args in
-    let e : c .before .loop .j ≡ a .i = omega arith in c .before .loop .inv .1 ∙ ap (anyBelow (named (now (a .v)) (a .kind) (a .label))) e
+    let a = start (c .before) .args in
+    let e : c .before .loop .j ≡ a .i = omega arith in
+    c .before .loop .inv .1 ∙ ap (anyBelow (named (now (a .v)) (a .kind) (a .label))) e
 
 pub is-labelled-spec : {M : Type 1} → statement M
 is-labelled-spec =

@@ -18,8 +18,18 @@ use Rattle.writer.proofs.Theorems.Outcomes.{Fit, adding-refused, adding
 use Rattle.writer.proofs.call.add_statement.Statement.{statement}
 use Rattle.writer.proofs.call.add_statement.Tie as tie
 
+-- the places, backwards: where the record was made, where the checks had passed, where the link was written
+abbrev made : tie.After-check-addition → tie.After-fields-of
+made c = c .before .before
+
 abbrev start : tie.After-check-addition → tie.Start
-start c = c .before .before .before .before
+start c = made c .before .before
+
+abbrev passed : tie.After-link-behind → tie.After-enum-told
+passed c = c .before .before
+
+abbrev linked : tie.After-write-record → tie.After-link-behind
+linked c = c .before .before .before .before
 
 -- the checks are those of the statement
 asked : (c : tie.After-check-addition) → let a = start c .args in
@@ -27,7 +37,7 @@ asked : (c : tie.After-check-addition) → let a = start c .args in
 asked c =
     let a = start c .args in
     c .check-addition .ensures
-    ∙ ap (λ (r : Record). additionCheck (now (a .buffer)) (a .used) true r) (c .before .before .fields-of .ensures)
+    ∙ ap (λ (r : Record). additionCheck (now (a .buffer)) (a .used) true r) (made c .fields-of .ensures)
 
 returns : tie.Need-returns
 returns c =
@@ -54,7 +64,7 @@ link-behind-requires c κs =
 write-record-requires : tie.Need-write-record-requires
 write-record-requires c κs =
     let l = c .before .before .before in
-    let told = l .before .before in
+    let told = passed l in
     let a = start (told .before .before) .args in
     omega (
       arith,
@@ -64,22 +74,22 @@ write-record-requires c κs =
 
 add-length : tie.Need-add-length
 add-length c =
-    let told = c .before .before .before .before .before .before .before .before in
+    let told = passed (linked (c .before .before)) in
     let a = start (told .before .before) .args in
     omega (arith, fit-small (now (a .buffer)) (a .used) (additions.statement (a .a) (a .b)) (fit told))
 
 returns-2 : tie.Need-returns-2
 returns-2 c =
     let w = c .before .before in
-    let l = w .before .before .before .before in
-    let told = l .before .before in
+    let l = linked w in
+    let told = passed l in
     let k = told .before .before in
     let a = start k .args in
     statement-answers (now (a .buffer)) (a .used) _ (fit told) (a .a) (a .b) (l .link-behind .last .0) _
     (adding-fine (now (a .buffer)) (a .used) (additions.statement (a .a) (a .b)) _ (asked k) (told .enum-told .given .1))
     (l .link-behind .ensures)
     (w .write-record .ensures
-    ∙ ap (λ (r : Record). put (l .link-behind .last .0) (a .used) (recordBytes r)) (k .before .before .fields-of .ensures))
+    ∙ ap (λ (r : Record). put (l .link-behind .last .0) (a .used) (recordBytes r)) (made k .fields-of .ensures))
 
 pub add-statement-spec : {M : Type 1} → statement M
 add-statement-spec =

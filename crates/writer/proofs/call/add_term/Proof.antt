@@ -19,8 +19,18 @@ use Rattle.writer.proofs.Theorems.Outcomes.{Fit, adding-refused, adding
 use Rattle.writer.proofs.call.add_term.Statement.{statement}
 use Rattle.writer.proofs.call.add_term.Tie as tie
 
+-- the places, backwards: where the record was made, where the checks had passed, where an atom was counted
+abbrev made : tie.After-check-addition → tie.After-fields-of
+made c = c .before .before .before
+
 abbrev start : tie.After-check-addition → tie.Start
-start c = c .before .before .before .before .before
+start c = made c .before .before
+
+abbrev passed : tie.After-raise-atoms → tie.After-enum-told
+passed c = c .before .before
+
+abbrev raised : tie.After-write-record → tie.After-raise-atoms
+raised c = c .before .before .before .before
 
 -- the checks are those of the term
 asked : (c : tie.After-check-addition) → let a = start c .args in
@@ -29,10 +39,9 @@ asked : (c : tie.After-check-addition) → let a = start c .args in
 asked c =
     let a = start c .args in
     c .check-addition .ensures
-    ∙ ap (λ (b : Bool). additionCheck (now (a .buffer)) (a .used) b (c .before .before .before .fields-of .result))
+    ∙ ap (λ (b : Bool). additionCheck (now (a .buffer)) (a .used) b (made c .fields-of .result))
     (c .before .is-term .ensures)
-    ∙ ap (λ (r : Record). additionCheck (now (a .buffer)) (a .used) (isTerm (a .kind)) r)
-    (c .before .before .before .fields-of .ensures)
+    ∙ ap (λ (r : Record). additionCheck (now (a .buffer)) (a .used) (isTerm (a .kind)) r) (made c .fields-of .ensures)
 
 returns : tie.Need-returns
 returns c =
@@ -60,7 +69,7 @@ raise-atoms-requires c κs =
 write-record-requires : tie.Need-write-record-requires
 write-record-requires c κs =
     let l = c .before .before .before in
-    let told = l .before .before in
+    let told = passed l in
     let a = start (told .before .before) .args in
     omega (
       arith,
@@ -71,23 +80,22 @@ write-record-requires c κs =
 
 add-length : tie.Need-add-length
 add-length c =
-    let told = c .before .before .before .before .before .before .before .before in
+    let told = passed (raised (c .before .before)) in
     let a = start (told .before .before) .args in
     omega (arith, fit-small (now (a .buffer)) (a .used) (term (a .kind) (a .a) (a .b)) (fit told))
 
 returns-2 : tie.Need-returns-2
 returns-2 c =
     let w = c .before .before in
-    let l = w .before .before .before .before in
-    let told = l .before .before in
+    let l = raised w in
+    let told = passed l in
     let k = told .before .before in
     let a = start k .args in
     term-answers (now (a .buffer)) (a .used) (a .kind) (a .a) (a .b) (fit told) (l .raise-atoms .last .0) _
     (adding-fine (now (a .buffer)) (a .used) (term (a .kind) (a .a) (a .b)) _ (asked k) (told .enum-told .given .1))
     (l .raise-atoms .ensures)
     (w .write-record .ensures
-    ∙ ap (λ (r : Record). put (l .raise-atoms .last .0) (a .used) (recordBytes r))
-    (k .before .before .before .fields-of .ensures))
+    ∙ ap (λ (r : Record). put (l .raise-atoms .last .0) (a .used) (recordBytes r)) (made k .fields-of .ensures))
 
 pub add-term-spec : {M : Type 1} → statement M
 add-term-spec =

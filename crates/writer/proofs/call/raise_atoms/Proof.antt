@@ -37,29 +37,39 @@ module _ (v : List ℕ) (r : Record) (kind : ℕ) (e : r ≡ recordAt v 0) where
         let next : r .next ≡ atomsHeld v = ap (λ (q : Record). q .next) e in
         rw (is, ← q, not-false b h, next)
 
+-- the places, backwards: where the header was read, and where it is of edition 2
+abbrev start : tie.After-read-at → tie.Start
+start c = c .before .before .before
+
+abbrev read-of : tie.Else1 → tie.After-read-at
+read-of c = c .before .before
+
+abbrev edition-2 : tie.Else2 → tie.Else1
+edition-2 c = c .before .before
+
 returns : tie.Need-returns
 returns c = of-edition-1 _ _ _ (c .before .before .read-at .ensures) (c .if1 .taken)
 
 returns-2 : tie.Need-returns-2
 returns-2 c =
     let header = c .before .before in
-    of-no-atom _ _ _ (header .before .before .read-at .ensures) (header .if1 .left) _ (c .before .is-atom .ensures)
+    of-no-atom _ _ _ (read-of header .read-at .ensures) (header .if1 .left) _ (c .before .is-atom .ensures)
     (c .if2 .taken)
 
 -- the k held is small
 add-write-word : tie.Need-add-write-word
 add-write-word c =
-    let read = c .before .before .before .before .before .before in
+    let read = read-of (edition-2 (c .before .before)) in
     let next = ap (λ (r : Record). r .next) (read .read-at .ensures) in
-    omega (arith, next, read .before .before .before .pre .1)
+    omega (arith, next, start read .pre .1)
 
 returns-3 : tie.Need-returns-3
 returns-3 c =
     let word = c .before .before in
     let atom = word .before .before .before in
-    let header = atom .before .before in
-    let read = header .before .before in
-    let s = read .before .before .before in
+    let header = edition-2 atom in
+    let read = read-of header in
+    let s = start read in
     part-put (now (s .args .buffer)) placeOfNext _ (wordBytes (read .read-at .result .next + 1)) _ refl
     (word .write-word .ensures)
     ∙ of-atom _ _ _ (read .read-at .ensures) (header .if1 .left) _ (atom .before .is-atom .ensures) (atom .if2 .left)

@@ -10,8 +10,9 @@ use Rattle.writer.proofs.call.write_record.Tie as tie
 
 returns : tie.Need-returns
 returns c =
-    let a = c .before .before .before .before .before .args in
-    part-put (now (a .buffer)) (a .at) _ (recordBytes (a .f)) _ (omega arith) (c .before .before .write .ensures)
+    let write = c .before .before in
+    let a = write .before .before .before .args in
+    part-put (now (a .buffer)) (a .at) _ (recordBytes (a .f)) _ (omega arith) (write .write .ensures)
 
 pub write-record-spec : {M : Type 1} → statement M
 write-record-spec =

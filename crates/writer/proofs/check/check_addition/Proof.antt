@@ -14,25 +14,29 @@ use Rattle.writer.proofs.Refinement.Buffer.{use-length}
 use Rattle.writer.proofs.check.check_addition.Statement.{statement}
 use Rattle.writer.proofs.check.check_addition.Tie as tie
 
+-- from where the length is known to be within the buffer
+abbrev start : tie.After-enum-told → tie.Start
+start c = c .before .before .before .before
+
 returns : tie.Need-returns
 unfolding additionCheck
 returns c = then-refused _ _ _ _ _ (c .before .before .pass-if .ensures) (c .enum-told2 .given .1)
 
 -- the length is within the buffer
-within : (c : tie.After-enum-told) → let a = c .before .before .before .before .args in a .used ≤ length (now (a .buffer))
+within : (c : tie.After-enum-told) → let a = start c .args in a .used ≤ length (now (a .buffer))
 within c =
-    let a = c .before .before .before .before .args in
+    let a = start c .args in
     leb-true _ _ (require-passed (leb (a .used) (length (now (a .buffer)))) 1 0
     (checked-fine _ _ (c .before .before .pass-if .ensures) (c .enum-told .given .1)))
 
 slice-aggregate-check-record-behind : tie.Need-slice-aggregate-check-record-behind
 slice-aggregate-check-record-behind c =
-    let a = c .before .before .before .before .before .args in
+    let a = start (c .before) .args in
     sym (use-length (now (a .buffer)) (a .used) (within (c .before)))
 
 check-record-behind-requires : tie.Need-check-record-behind-requires
 check-record-behind-requires c κs =
-    let a = c .before .before .before .before .before .args in
+    let a = start (c .before) .args in
     omega (arith, within (c .before), use-length (now (a .buffer)) (a .used) (within (c .before)))
 
 returns-2 : tie.Need-returns-2

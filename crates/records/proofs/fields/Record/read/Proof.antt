@@ -6,11 +6,9 @@ use Rattle.records.proofs.fields.Record.read.Tie as tie
 
 returns : tie.Need-returns
 returns c =
-    rw (
-      c .before .before .before .before .before .before .word .ensures,
-      c .before .before .before .word2 .ensures,
-      c .word3 .ensures,
-    )
+    let b = c .before .before .before in
+    let a = b .before .before .before in
+    rw (a .word .ensures, b .word2 .ensures, c .word3 .ensures)
 
 pub read-spec : {M : Type 1} → statement M
 read-spec =

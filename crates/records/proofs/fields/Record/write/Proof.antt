@@ -11,33 +11,38 @@ use Rattle.records.proofs.Laws.Lists.{sets-all}
 use Rattle.records.proofs.fields.Record.write.Statement.{statement}
 use Rattle.records.proofs.fields.Record.write.Tie as tie
 
+-- from where the bytes of A are known
+abbrev start : tie.After-low2 → tie.Start
+start c = c .before .before .before .before
+
 slice-write-part-5 : tie.Need-slice-write-part-5
 slice-write-part-5 c =
-    let s = c .before .before .before .before in
+    let s = start c in
     lt-length-sets (now (s .args .part)) 0 (_ ∷ _ ∷ _ ∷ _ ∷ []) (omega (arith, s .pre))
 
 slice-write-part-6 : tie.Need-slice-write-part-6
 slice-write-part-6 c =
-    let s = c .before .before .before .before .before in
+    let s = start (c .before) in
     lt-length-sets (now (s .args .part)) 0 (_ ∷ _ ∷ _ ∷ _ ∷ _ ∷ []) (omega (arith, s .pre))
 
 slice-write-part-7 : tie.Need-slice-write-part-7
 slice-write-part-7 c =
-    let s = c .before .before .before .before .before .before in
+    let s = start (c .before .before) in
     lt-length-sets (now (s .args .part)) 0 (_ ∷ _ ∷ _ ∷ _ ∷ _ ∷ _ ∷ []) (omega (arith, s .pre))
 
 slice-write-part-8 : tie.Need-slice-write-part-8
 slice-write-part-8 c =
-    let s = c .before .before .before .before .before .before .before in
+    let s = start (c .before .before .before) in
     lt-length-sets (now (s .args .part)) 0 (_ ∷ _ ∷ _ ∷ _ ∷ _ ∷ _ ∷ _ ∷ []) (omega (arith, s .pre))
 
 returns : tie.Need-returns
 returns c =
-    let s = c .before .before .before .before .before .before .before in
+    let b = c .before .before .before in
+    let s = start b in
     rw (
-      c .before .before .before .before .before .low .ensures,
-      c .before .before .before .before .high .ensures,
-      c .before .before .before .low2 .ensures,
+      b .before .before .low .ensures,
+      b .before .high .ensures,
+      b .low2 .ensures,
       c .before .before .high2 .ensures,
       c .before .low3 .ensures,
       c .high3 .ensures,
