@@ -1,22 +1,21 @@
 // The machine: the open frames, handed on by value.
 use columns::column::Column;
 ghost use mathlib.Core.Path.{_≡_};
-ghost use mathlib.Core.Bool.{not};
 ghost use mathlib.Core.List.{[], _∷_};
-ghost use Prim.Native.Nat.{suc, _<_};
-ghost use lib.ListN.{length, getD, drop};
+ghost use Prim.Native.Nat.{_≤_, _<_};
+ghost use lib.ListN.{length, getD};
 ghost use Rattle.columns.specs.Code.Packed.{literals};
-ghost use Rattle.records.specs.Finite.{without, isNil};
+ghost use Rattle.records.specs.Finite.{without};
 ghost use Rattle.scripts.specs.Calculus.{frameLimit};
 ghost use Rattle.scripts.specs.Run.{close, extendBy};
 ghost use Rattle.scripts.specs.Code.Numbered.{noNumber};
-ghost use Rattle.scripts.specs.Code.Machine.{places, opened, framesOf, Standing, Shows};
+ghost use Rattle.scripts.specs.Code.Machine.{frameWidth, framesOf, Shows};
 
-// Frame f's literals stand in a table, which is lent (specs/Code/Machine.antt); the first `closed[f]` of them are closed,
-// and the next is its goal. So handing the machine on copies few bytes.
+// The goal of each frame, and the literal that is open after it; 0 stands for none.
 pub struct Machine {
     pub depth: usize,
-    pub closed: [u8; Machine::FRAMES],
+    pub goals: [u64; Machine::FRAMES],
+    pub others: [u64; Machine::FRAMES],
 }
 
 // The literal at a position of a column.
@@ -35,6 +34,7 @@ pub fn literal_at(column: Column, position: usize) -> u64
 pub fn leave_out(column: Column, position: usize) -> Column
     requires { ⌜ position < length (literals column) ⌝ }
     ensures { λ r. ⌜ literals r ≡ without position (literals column) ⌝ }
+    ensures { λ r. ⌜ length (literals r) ≤ frameWidth ⌝ }
 {
     match position {
         0 => Column {
@@ -55,34 +55,9 @@ pub fn leave_out(column: Column, position: usize) -> Column
     }
 }
 
-// The goal of a frame, of whose literals so many are closed.
-pub fn goal_at(table: &[u64; Machine::PLACES], frame: usize, closed: u8) -> u64
-    requires { ⌜ frame < frameLimit ⌝ }
-    requires { ⌜ closed < length (opened (now table) frame) ⌝ }
-    ensures { λ r. ⌜ r ≡ getD (drop closed (opened (now (table .entry)) frame)) 0 noNumber ⌝ }
-{
-    table[Machine::WIDTH * frame + closed as usize]
-}
-
-// Whether a frame has an open literal after its goal.
-fn has_next(table: &[u64; Machine::PLACES], frame: usize, closed: u8) -> bool
-    requires { ⌜ frame < frameLimit ⌝ }
-    requires { ⌜ closed < length (opened (now table) frame) ⌝ }
-    ensures { λ r. ⌜ r ≡ not (isNil (drop (suc closed) (opened (now (table .entry)) frame))) ⌝ }
-{
-    if closed >= 2 {
-        return false;
-    }
-    table[Machine::WIDTH * frame + closed as usize + 1] != 0
-}
-
 impl Machine {
     // Frames open together.
     pub const FRAMES: usize = 64;
-    // Literals of a frame.
-    pub const WIDTH: usize = 3;
-    // Places of literals.
-    pub const PLACES: usize = Machine::WIDTH * Machine::FRAMES;
 
     // No frame is open.
     pub fn empty() -> Self
@@ -90,47 +65,46 @@ impl Machine {
     {
         Machine {
             depth: 0,
-            closed: [0; Machine::FRAMES],
+            goals: [0; Machine::FRAMES],
+            others: [0; Machine::FRAMES],
         }
     }
 
     // Opens a frame of a column's literals.
-    fn open_frame(mut self, table: &mut [u64; Machine::PLACES], column: Column) -> Self
-        requires { ⌜ Standing (now table) (self .closed) (self .depth) ⌝ }
+    fn open_frame(mut self, column: Column) -> Self
         requires { ⌜ self .depth < frameLimit ⌝ }
         requires { ⌜ 0 < column .first ⌝ }
-        ensures { λ r. ⌜ Shows (now (table .exit)) r (literals column ∷ framesOf (now (table .entry)) self) ⌝ }
+        requires { ⌜ length (literals column) ≤ frameWidth ⌝ }
+        ensures { λ r. ⌜ Shows r (literals column ∷ framesOf self) ⌝ }
     {
         let at = self.depth;
-        let place = Machine::WIDTH * at;
-        table[place] = column.first;
-        table[place + 1] = column.second;
-        table[place + 2] = column.third;
-        self.closed[at] = 0;
+        self.goals[at] = column.first;
+        self.others[at] = column.second;
         self.depth = at + 1;
         self
     }
 
     // Frame 0.
-    pub fn start(self, table: &mut [u64; Machine::PLACES], column: Column) -> Self
+    pub fn start(self, column: Column) -> Self
         requires { ⌜ self .depth ≡ 0 ⌝ }
-        requires { ⌜ length (now table) ≡ places ⌝ }
         requires { ⌜ 0 < column .first ⌝ }
-        ensures { λ r. ⌜ Shows (now (table .exit)) r (literals column ∷ []) ⌝ }
+        requires { ⌜ length (literals column) ≤ frameWidth ⌝ }
+        ensures { λ r. ⌜ Shows r (literals column ∷ []) ⌝ }
     {
-        self.open_frame(table, column)
+        self.open_frame(column)
     }
 
     // The goal is closed: a frame whose literals are all closed goes, and closes the goal under it.
-    pub fn close(mut self, table: &[u64; Machine::PLACES]) -> Self
-        requires { ⌜ Standing (now table) (self .closed) (self .depth) ⌝ }
-        ensures { λ r. ⌜ Shows (now (table .entry)) r (close (framesOf (now (table .entry)) self)) ⌝ }
+    pub fn close(mut self) -> Self
+        requires { ⌜ self .depth ≤ frameLimit ⌝ }
+        ensures { λ r. ⌜ Shows r (close (framesOf self)) ⌝ }
     {
         let mut at = self.depth;
         while at > 0 {
-            let closed = self.closed[at - 1];
-            if has_next(table, at - 1, closed) {
-                self.closed[at - 1] = closed + 1;
+            let other = self.others[at - 1];
+            if other != 0 {
+                self.goals[at - 1] = other;
+                self.others[at - 1] = 0;
                 self.depth = at;
                 return self;
             }
@@ -141,22 +115,23 @@ impl Machine {
     }
 
     // The goal is connected with a column, whose other literals are the next frame; with none it is closed.
-    pub fn extend(self, table: &mut [u64; Machine::PLACES], remainder: Column) -> Self
-        requires { ⌜ Standing (now table) (self .closed) (self .depth) ⌝ }
+    pub fn extend(self, remainder: Column) -> Self
+        requires { ⌜ self .depth ≤ frameLimit ⌝ }
         requires { ⌜ (0 < remainder .first → self .depth < frameLimit) ⌝ }
-        ensures { λ r. ⌜ Shows (now (table .exit)) r (extendBy (literals remainder) (framesOf (now (table .entry)) self)) ⌝ }
+        requires { ⌜ length (literals remainder) ≤ frameWidth ⌝ }
+        ensures { λ r. ⌜ Shows r (extendBy (literals remainder) (framesOf self)) ⌝ }
     {
         if remainder.first == 0 {
-            return self.close(table);
+            return self.close();
         }
-        self.open_frame(table, remainder)
+        self.open_frame(remainder)
     }
 
     // The goal is connected with the goal of a lower frame.
-    pub fn reduce(self, table: &[u64; Machine::PLACES]) -> Self
-        requires { ⌜ Standing (now table) (self .closed) (self .depth) ⌝ }
-        ensures { λ r. ⌜ Shows (now (table .entry)) r (close (framesOf (now (table .entry)) self)) ⌝ }
+    pub fn reduce(self) -> Self
+        requires { ⌜ self .depth ≤ frameLimit ⌝ }
+        ensures { λ r. ⌜ Shows r (close (framesOf self)) ⌝ }
     {
-        self.close(table)
+        self.close()
     }
 }

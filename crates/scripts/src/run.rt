@@ -10,7 +10,6 @@ use crate::index::find_end;
 use crate::index::index_terms;
 use crate::index::origin_in;
 use crate::machine::Machine;
-use crate::machine::goal_at;
 use crate::machine::leave_out;
 use crate::machine::literal_at;
 use columns::column::Column;
@@ -24,6 +23,8 @@ ghost use mathlib.Core.Path.{_≡_};
 ghost use mathlib.Core.Bool.{true, _||_};
 ghost use mathlib.Core.List.{[], _∷_};
 ghost use Prim.Native.Nat.{_≤_, _<_};
+ghost use mathlib.Core.List.{List};
+ghost use Prim.Native.Nat.{ℕ};
 ghost use lib.ListN.{length};
 ghost use lib.Dec.{ltb};
 ghost use Rattle.columns.specs.Code.Packed.{literals};
@@ -33,7 +34,7 @@ ghost use Rattle.records.specs.Finite.{isNil};
 ghost use Rattle.scripts.specs.Run.{extendBy};
 ghost use Rattle.scripts.specs.Code.Codes.{opposed};
 ghost use Rattle.scripts.specs.Code.Index.{TermsBefore, AllNumbered, fewEntries, Blank};
-ghost use Rattle.scripts.specs.Code.Machine.{places, framesFrom, framesOf, Standing, Shows};
+ghost use Rattle.scripts.specs.Code.Machine.{frameWidth, framesFrom, framesOf, Shows};
 ghost use Rattle.scripts.specs.Code.Numbered.{usedNumbers};
 ghost use Rattle.scripts.specs.Code.Tested.{reducesTo, ExtensionTested, TestedAt, runAfter, chainOutcome};
 ghost use Rattle.scripts.specs.Answers.{judged};
@@ -135,19 +136,13 @@ fn test_extension(
 }
 
 // Row 22: whether the goal, that of the last frame, has its complement as the goal of a frame below.
-fn can_reduce(
-    table: &[u64; Machine::PLACES],
-    closed: &[u8; Machine::FRAMES],
-    depth: usize,
-    frame: u16,
-    goal: u64,
-) -> bool
-    requires { ⌜ Standing (now table) (now closed) depth ⌝ }
-    ensures { λ r. ⌜ r ≡ reducesTo (framesFrom (now (table .entry)) (now (closed .entry)) depth) frame goal ⌝ }
+fn can_reduce(goals: &[u64; Machine::FRAMES], depth: usize, frame: u16, goal: u64) -> bool
+    requires { ⌜ depth ≤ frameLimit ⌝ }
+    ensures { λ r. ⌜ ((others : List ℕ) → r ≡ reducesTo (framesFrom (now (goals .entry)) others depth) frame goal) ⌝ }
 {
     let f = frame as usize;
     if f + 1 < depth {
-        return is_opposed(goal_at(table, f, closed[f]), goal);
+        return is_opposed(goals[f], goal);
     }
     false
 }
@@ -160,15 +155,14 @@ fn test_step(
     terms: &[u32],
     header: Entry,
     i: usize,
-    table: &[u64; Machine::PLACES],
-    closed: &[u8; Machine::FRAMES],
+    goals: &[u64; Machine::FRAMES],
     depth: usize,
 ) -> Tested
     requires { ⌜ Ready (now v) (now s) (now marks) header ⌝ }
     requires { ⌜ AllNumbered (now s) (now terms) ⌝ }
     requires { ⌜ IsStep (now s) i ⌝ }
-    requires { ⌜ Standing (now table) (now closed) depth ⌝ }
-    ensures { λ r. ⌜ TestedAt (now (v .entry)) (now (s .entry)) i (now (table .entry)) (now (closed .entry)) depth r ⌝ }
+    requires { ⌜ depth ≤ frameLimit ⌝ }
+    ensures { λ r. ⌜ TestedAt (now (v .entry)) (now (s .entry)) i (now (goals .entry)) depth r ⌝ }
 {
     let answer = pass_if(depth != 0, 25, i);
     let Checked::Fine = answer else {
@@ -176,12 +170,12 @@ fn test_step(
     };
     let e = read_entry(s, i);
     let last = depth - 1;
-    let goal = goal_at(table, last, closed[last]);
+    let goal = goals[last];
     let kind = e.w0;
     match kind {
         4 => test_extension(v, marks, s, terms, header, i, e, goal, depth),
         5 => {
-            let answer = pass_if(can_reduce(table, closed, depth, e.w1, goal), 22, i);
+            let answer = pass_if(can_reduce(goals, depth, e.w1, goal), 22, i);
             no_frame(answer)
         }
         _ => no_frame(Checked::Refused {
@@ -192,28 +186,17 @@ fn test_step(
 }
 
 // The machine after a step that passed.
-fn advance(
-    machine: Machine,
-    table: &mut [u64; Machine::PLACES],
-    reduces: bool,
-    remainder: Column,
-) -> Machine
-    requires { ⌜ Standing (now table) (machine .closed) (machine .depth) ⌝ }
+fn advance(machine: Machine, reduces: bool, remainder: Column) -> Machine
+    requires { ⌜ machine .depth ≤ frameLimit ⌝ }
     requires { ⌜ (0 < remainder .first → machine .depth < frameLimit) ⌝ }
+    requires { ⌜ length (literals remainder) ≤ frameWidth ⌝ }
     requires { ⌜ (reduces ≡ true → remainder .first ≡ 0) ⌝ }
-    ensures { λ r. ⌜ Shows (now (table .exit)) r (extendBy (literals remainder) (framesOf (now (table .entry)) machine)) ⌝ }
+    ensures { λ r. ⌜ Shows r (extendBy (literals remainder) (framesOf machine)) ⌝ }
 {
     if reduces {
-        return machine.reduce(table);
+        return machine.reduce();
     }
-    machine.extend(table, remainder)
-}
-
-// A table with no literals.
-fn empty_table() -> [u64; Machine::PLACES]
-    ensures { λ r. ⌜ length r ≡ places ⌝ }
-{
-    [0; Machine::PLACES]
+    machine.extend(remainder)
 }
 
 // The steps after a start, record `first`, whose column is frame 0.
@@ -229,33 +212,23 @@ fn run_steps(
     requires { ⌜ AllNumbered (now s) (now terms) ⌝ }
     requires { ⌜ IsStep (now s) first ⌝ }
     requires { ⌜ 0 < column .first ⌝ }
+    requires { ⌜ length (literals column) ≤ frameWidth ⌝ }
     ensures { λ r. ⌜ judged r ≡ runAfter (now (v .entry)) (now (s .entry)) (literals column ∷ []) first ⌝ }
 {
     // Read again: kept until here, its words would take registers from the loops of the form.
     let header = read_entry(s, 0);
-    let mut table = empty_table();
-    let mut state = Machine::empty().start(&mut table, column);
+    let mut state = Machine::empty().start(column);
     let mut last = first;
     let mut at = read_entry(s, first).w7 as usize;
     let mut steps = 1;
     while at != 0 {
-        let tested = test_step(
-            v,
-            marks,
-            s,
-            terms,
-            header,
-            at,
-            &table,
-            &state.closed,
-            state.depth,
-        );
+        let tested = test_step(v, marks, s, terms, header, at, &state.goals, state.depth);
         let answer = tested.answer;
         let Checked::Fine = answer else {
             return judge_after(answer, 0);
         };
         let e = read_entry(s, at);
-        state = advance(state, &mut table, e.w0 == 5, tested.remainder);
+        state = advance(state, e.w0 == 5, tested.remainder);
         last = at;
         steps += 1;
         at = e.w7 as usize;
@@ -277,6 +250,7 @@ fn run_numbering(
     requires { ⌜ Ready (now v) (now s) (now marks) (entryAt (now s) 0) ⌝ }
     requires { ⌜ IsStep (now s) first ⌝ }
     requires { ⌜ 0 < column .first ⌝ }
+    requires { ⌜ length (literals column) ≤ frameWidth ⌝ }
     requires { ⌜ TermsBefore (now s) end ⌝ }
     requires { ⌜ end ≤ entries (now s) ⌝ }
     requires { ⌜ Blank (now s) (now links) (now terms) ⌝ }
@@ -298,6 +272,7 @@ fn run_few(
     requires { ⌜ Ready (now v) (now s) (now marks) (entryAt (now s) 0) ⌝ }
     requires { ⌜ IsStep (now s) first ⌝ }
     requires { ⌜ 0 < column .first ⌝ }
+    requires { ⌜ length (literals column) ≤ frameWidth ⌝ }
     requires { ⌜ TermsBefore (now s) end ⌝ }
     requires { ⌜ end ≤ entries (now s) ⌝ }
     requires { ⌜ end ≤ fewEntries ⌝ }

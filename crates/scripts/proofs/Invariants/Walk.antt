@@ -114,16 +114,16 @@ module _ (v s : List ℕ) (f : KeepsForm v s) where
         a ∙ (rw (r) (sym (w .run ∙ (further t ∙ rw no))))
 
 -- no frame is open exactly at depth 0
-nil-frames : (table closed : List ℕ) (n : ℕ) → eqb n 0 ≡ isNil (framesFrom table closed n)
+nil-frames : (goals others : List ℕ) (n : ℕ) → eqb n 0 ≡ isNil (framesFrom goals others n)
 unfolding framesFrom
-nil-frames table closed zero = refl
-nil-frames table closed (suc n) = ne-eqb (suc n) 0 (λ z. absurd (omega arith))
+nil-frames goals others zero = refl
+nil-frames goals others (suc n) = ne-eqb (suc n) 0 (λ z. absurd (omega arith))
 
-pub walk-done : (v s : List ℕ) (whole : Outcome ℕ) (table closed : List ℕ) (n last at steps : ℕ)
-    → Walk v s whole (framesFrom table closed n) last at steps → at ≡ 0 → (answer : Outcome ℕ) (k : Check)
+pub walk-done : (v s : List ℕ) (whole : Outcome ℕ) (goals others : List ℕ) (n last at steps : ℕ)
+    → Walk v s whole (framesFrom goals others n) last at steps → at ≡ 0 → (answer : Outcome ℕ) (k : Check)
     → k ≡ require (eqb n 0) 24 last → answer ≡ (k then accepted steps) → answer ≡ whole
 unfolding run
-walk-done v s whole table closed n last at steps w z answer k e a =
+walk-done v s whole goals others n last at steps w z answer k e a =
     let none : chainFrom s at ≡ [] = rw z (chain-end s) in
     let same : steps + 0 ≡ steps = omega arith in
-    a ∙ (rw (e, nil-frames table closed n) (sym (w .run ∙ rw (none, same))))
+    a ∙ (rw (e, nil-frames goals others n) (sym (w .run ∙ rw (none, same))))

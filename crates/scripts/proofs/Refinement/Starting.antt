@@ -1,5 +1,5 @@
 -- The first step of the chain.
---   start-some, start-column                 a query column has a literal; it is the start's
+--   start-some, start-few, start-column      a query column has a literal, and not three; it is the start's
 --   start-listed                             row 18: a start names one of the two query columns
 --   first-step                               a first step that is not 0 is a step
 --   chain-none, chain-other, chain-started   the chain's outcome: no step, another first step, a start
@@ -21,6 +21,7 @@ use Rattle.columns.specs.Columns.{Query, queryColumns, columnsAt}
 use Rattle.columns.specs.Code.Packed.{packedAt, untilZero}
 use Rattle.scripts.specs.Format.{entryAt, queryIn, firstStep, chainFrom, chain}
 use Rattle.scripts.specs.Run.{stepped, chainCheck}
+use Rattle.scripts.specs.Code.Machine.{frameWidth}
 use Rattle.scripts.specs.Code.Numbered.{startNumbers}
 use Rattle.scripts.specs.Code.Tested.{stepsAfter, runAfter, chainOutcome}
 use Rattle.scripts.specs.Code.Ready.{IsStep}
@@ -44,6 +45,12 @@ pub start-some : (q : Query) (n a b c : ℕ) → n ≤ 1 → untilZero a b c ≡
 start-some q zero a b c h e = some-listed a b c _ e
 start-some q (suc zero) a b c h e = some-listed a b c _ e
 start-some q (suc (suc n)) a b c h e = absurd (omega arith)
+
+pub start-few : (q : Query) (n a b c : ℕ) → n ≤ 1 → untilZero a b c ≡ packedAt 0 0 0 (getD (queryColumns q) n [])
+    → length (untilZero a b c) ≤ frameWidth
+start-few q zero a b c h e = omega (arith, ap length e)
+start-few q (suc zero) a b c h e = omega (arith, ap length e)
+start-few q (suc (suc n)) a b c h e = absurd (omega arith)
 
 pub start-column : (v s : List ℕ) (h : Entry) → h ≡ entryAt s 0 → (n : ℕ) (c : List ℕ)
     → c ≡ packedAt 0 0 0 (getD (queryColumns (queryIn h)) n []) → c ≡ startNumbers v s n

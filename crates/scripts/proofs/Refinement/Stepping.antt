@@ -13,7 +13,7 @@ use native.Mathlib.Omega.{arith}
 use mathlib.Core.Path.{_≡_, refl, sym, ap, subst, _∙_}
 use mathlib.Core.Bool.{Bool, true, false, not, _||_}
 use mathlib.Core.List.{List, []}
-use lib.ListN.{length, getD, drop}
+use lib.ListN.{length, getD}
 use lib.Dec.{ltb, leb, eqb}
 use borrow.Author.Tests.{ltb-true, leb-true, lt-ltb, le-ltb, ne-eqb}
 use Rattle.records.specs.Outcome.{pass, refused, _then_, require}
@@ -28,12 +28,12 @@ use Rattle.scripts.specs.Calculus.{frameLimit}
 use Rattle.records.specs.Finite.{isNil}
 use Rattle.scripts.specs.Run.{isStart, Frames, extendBy, goal, remainderIn, stepCheck, stepped}
 use Rattle.scripts.specs.Code.Codes.{opposed}
-use Rattle.scripts.specs.Code.Machine.{opened, framesFrom}
+use Rattle.scripts.specs.Code.Machine.{framesFrom}
 use Rattle.scripts.specs.Code.Numbered.{noNumber, numbered}
 use Rattle.scripts.specs.Code.Tested.{extensionCheck, reducesTo}
 use Rattle.scripts.specs.Code.Ready.{IsStep}
 use Rattle.scripts.specs.declared.entry.Entry.{Entry}
-use Rattle.scripts.proofs.Refinement.Frames.{frames-length, frame-at}
+use Rattle.scripts.proofs.Refinement.Frames.{frames-length, goal-at}
 use Rattle.scripts.proofs.Refinement.Lines.{by-kind}
 
 pub not-passed : (k : Checked) (n p : ℕ) → k ≡ Refused n p → checked k ≡ pass → ⊥
@@ -43,35 +43,29 @@ pub open-positive : (n : ℕ) → not (eqb n 0) ≡ true → 0 < n
 open-positive zero e = absurd (clash (cc))
 open-positive (suc n) e = omega arith
 
-module _ (table closed : List ℕ) (n : ℕ) where
-  pub open-frames : not (eqb n 0) ≡ not (isNil (framesFrom table closed n))
+module _ (goals others : List ℕ) (n : ℕ) where
+  pub open-frames : not (eqb n 0) ≡ not (isNil (framesFrom goals others n))
   unfolding framesFrom
   open-frames = at n
     where
-      at : (n : ℕ) → not (eqb n 0) ≡ not (isNil (framesFrom table closed n))
+      at : (n : ℕ) → not (eqb n 0) ≡ not (isNil (framesFrom goals others n))
       at zero = refl
       at (suc n) = rw (ne-eqb (suc n) 0 (λ z. absurd (omega arith)))
 
-  -- the goal of frame f, and of the last
-  abbrev goal-of : ℕ → ℕ
-  goal-of f = getD (drop (getD closed f 0) (opened table f)) 0 noNumber
-
-  pub goal-frames : (v s : List ℕ) (last x : ℕ) → 0 < n → last ≡ n - 1 → x ≡ goal-of last
-      → x ≡ goal (numbered v s) (framesFrom table closed n)
-  goal-frames v s last x h l e =
+  pub goal-frames : (v s : List ℕ) (last : ℕ) → 0 < n → last ≡ n - 1
+      → getD goals last 0 ≡ goal (numbered v s) (framesFrom goals others n)
+  goal-frames v s last h l =
       let z : n - suc last ≡ 0 = omega arith in
-      let frame : getD (framesFrom table closed n) 0 [] ≡ drop (getD closed last 0) (opened table last)
-      = subst (λ (j : ℕ). getD (framesFrom table closed n) j [] ≡ drop (getD closed last 0) (opened table last)) z
-      (frame-at table closed n last (omega arith)) in
-      e ∙ rw frame
+      sym (subst (λ (j : ℕ). getD (getD (framesFrom goals others n) j []) 0 noNumber ≡ getD goals last 0) z
+      (goal-at goals others n last noNumber (omega arith)))
 
-  pub reduce-frames : (f x g : ℕ) (r : Bool) → suc f < n → x ≡ goal-of f → r ≡ opposed x g
-      → r ≡ reducesTo (framesFrom table closed n) f g
-  reduce-frames f x g r l e h =
-      h ∙ rw (e, frames-length table closed n, lt-ltb (suc f) n l, frame-at table closed n f (omega arith))
+  pub reduce-frames : (f g : ℕ) (r : Bool) → suc f < n → r ≡ opposed (getD goals f 0) g
+      → r ≡ reducesTo (framesFrom goals others n) f g
+  reduce-frames f g r l h =
+      h ∙ rw (frames-length goals others n, lt-ltb (suc f) n l, goal-at goals others n f noNumber (omega arith))
 
-  pub reduce-never : (f g : ℕ) → n ≤ suc f → false ≡ reducesTo (framesFrom table closed n) f g
-  reduce-never f g l = rw (frames-length table closed n, le-ltb (suc f) n l)
+  pub reduce-never : (f g : ℕ) → n ≤ suc f → false ≡ reducesTo (framesFrom goals others n) f g
+  reduce-never f g l = rw (frames-length goals others n, le-ltb (suc f) n l)
 
 pub room-left : (a b c n : ℕ) → (isNil (untilZero a b c) || ltb n frameLimit) ≡ true → 0 < a → n < frameLimit
 room-left zero b c n e h = absurd (omega arith)

@@ -1,5 +1,5 @@
 -- What the code computes with: a step that was tested, and the outcome of a run over numbers.
-use Prim.Native.Nat.{ℕ, suc, _-_, _<_}
+use Prim.Native.Nat.{ℕ, suc, _-_, _≤_, _<_}
 use mathlib.Core.Path.{_≡_}
 use mathlib.Core.Bool.{Bool, _&&_, _||_}
 use mathlib.Core.List.{List, []}
@@ -14,7 +14,7 @@ use Rattle.scripts.specs.Calculus.{frameLimit}
 use Rattle.scripts.specs.Run.{Frames, extendBy, connectedIn, remainderIn, stepCheck, stepped, run, chainCheck}
 use Rattle.records.specs.Finite.{isNil}
 use Rattle.scripts.specs.Code.Codes.{opposed}
-use Rattle.scripts.specs.Code.Machine.{framesFrom}
+use Rattle.scripts.specs.Code.Machine.{frameWidth, framesFrom}
 use Rattle.scripts.specs.Code.Numbered.{noNumber, numbered}
 use Rattle.scripts.specs.declared.run.Tested.{Tested}
 
@@ -34,6 +34,7 @@ pub record ExtensionTested (v s : List ℕ) (i goal depth : ℕ) (e : Extension 
   pub rows : checked (t .answer) ≡ extensionCheck v s i goal depth e
   pub remainder : checked (t .answer) ≡ pass → literals (t .remainder) ≡ remainderIn (numbered v s) e
   pub room : checked (t .answer) ≡ pass → 0 < t .remainder .first → depth < frameLimit
+  pub few : length (literals (t .remainder)) ≤ frameWidth
 
 -- The step of record i was tested: its answer; where it passed, the literals that extend the frames, none for a reduction.
 pub record StepTested (v s : List ℕ) (i : ℕ) (frames : Frames ℕ) (t : Tested) : Type 0 where
@@ -41,11 +42,12 @@ pub record StepTested (v s : List ℕ) (i : ℕ) (frames : Frames ℕ) (t : Test
   pub after : checked (t .answer) ≡ pass
       → extendBy (literals (t .remainder)) frames ≡ stepped (numbered v s) frames (recordStep s i)
   pub room : checked (t .answer) ≡ pass → 0 < t .remainder .first → length frames < frameLimit
+  pub few : length (literals (t .remainder)) ≤ frameWidth
   pub reduced : entryAt s i .w0 ≡ 5 → t .remainder .first ≡ 0
 
--- The same where the frames are a machine's.
-abbrev pub TestedAt : List ℕ → List ℕ → ℕ → List ℕ → List ℕ → ℕ → Tested → Type 0
-TestedAt v s i table closed depth t = StepTested v s i (framesFrom table closed depth) t
+-- The same where the frames are a machine's, of which the test reads the goals alone.
+abbrev pub TestedAt : List ℕ → List ℕ → ℕ → List ℕ → ℕ → Tested → Type 0
+TestedAt v s i goals depth t = (others : List ℕ) → StepTested v s i (framesFrom goals others depth) t
 
 -- The steps after record i, and the outcome of a run over them.
 abbrev pub stepsAfter : List ℕ → ℕ → List ℕ

@@ -11,12 +11,12 @@ reduce-requires c κs = search needs
 
 returns : tie.Need-returns
 returns c =
-    let t = c .before .before in
+    let t = c .before in
     let b = t .before in
     let l = b .args .remainder in
     record {
-      standing = c .reduce .ensures .standing;
-      shown = c .reduce .ensures .shown ∙ open-none (l .first) (l .second) (l .third) _ (b .pre .1 .1 (t .if1 .taken));
+      deep = c .reduce .ensures .deep;
+      shown = c .reduce .ensures .shown ∙ open-none (l .first) (l .second) (l .third) _ (b .pre .1 .1 .1 (t .if1 .taken));
     }
 
 extend-requires : tie.Need-extend-requires

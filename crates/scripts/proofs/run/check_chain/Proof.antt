@@ -5,6 +5,7 @@ use Prim.Native.Nat.{_≤_, _<_}
 use native.Mathlib.Omega.{arith}
 use mathlib.Core.Path.{_≡_, ap, subst, _∙_}
 use mathlib.Core.List.{[], _∷_}
+use lib.ListN.{length}
 use denote.Ref.{now}
 use borrow.Author.Needs.{needs}
 use borrow.Author.Tests.{eqb-true}
@@ -12,12 +13,13 @@ use Rattle.records.proofs.Laws.Checks.{require-passed, checked-fine}
 use Rattle.columns.specs.Code.Packed.{literals}
 use Rattle.scripts.specs.Format.{entryAt, entryLimit, queryIn, firstStep}
 use Rattle.scripts.specs.Answers.{judged}
+use Rattle.scripts.specs.Code.Machine.{frameWidth}
 use Rattle.scripts.specs.Code.Tested.{runAfter, chainOutcome}
 use Rattle.scripts.specs.Code.Ready.{Ready, IsStep}
 use Rattle.scripts.specs.declared.answers.Judged.{Judged}
 use Rattle.scripts.specs.declared.entry.Entry.{Entry}
 use Rattle.scripts.proofs.Theorems.Form.{KeepsForm, keeps-form}
-use Rattle.scripts.proofs.Refinement.Starting.{start-listed, start-some, start-column, chain-none, chain-other}
+use Rattle.scripts.proofs.Refinement.Starting.{start-listed, start-some, start-few, start-column, chain-none, chain-other}
 use Rattle.scripts.proofs.Refinement.Starting.{chain-started, first-step}
 use Rattle.scripts.proofs.Invariants.Indexing.{blank-tables}
 use Rattle.scripts.proofs.run.check_chain.Statement.{statement}
@@ -85,6 +87,14 @@ some c =
     start-some (queryIn (start (e .before) .args .header)) (e .read-entry .result .w1) (q .result .first) (q .result .second)
     (q .result .third) (column (c .before)) (q .ensures 0 0 0)
 
+-- and not three
+few : (c : tie.After-query-column) → length (literals (c .query-column .result)) ≤ frameWidth
+few c =
+    let e = begun (c .before) in
+    let q = c .query-column in
+    start-few (queryIn (start (e .before) .args .header)) (e .read-entry .result .w1) (q .result .first) (q .result .second)
+    (q .result .third) (column (c .before)) (q .ensures 0 0 0)
+
 -- what the run of them relies on
 abbrev at-query : tie.After-query-column → tie.Start
 at-query c = start (begun (c .before) .before)
@@ -118,7 +128,7 @@ run-few-requires : tie.Need-run-few-requires
 run-few-requires c κs =
     let e = c .before .find-end .ensures in
     let q = c .before .before in
-    (ready q, (first (begun (q .before) .before), (some q, (e .0, (e .1, c .if1 .taken)))))
+    (ready q, (first (begun (q .before) .before), (some q, (few q, (e .0, (e .1, c .if1 .taken))))))
 
 returns-3 : tie.Need-returns-3
 returns-3 c = answered (c .before .before .before) (c .run-few .result) (c .run-few .ensures)
@@ -130,7 +140,7 @@ run-numbering-requires c κs =
     let most = form (at-query q) .sized .most in
     let s = now (at-query q .args .s) in
     let blank = blank-tables s entryLimit (λ n r. omega (arith, r .within, most)) (omega arith) in
-    (ready q, (first (begun (q .before) .before), (some q, (f .find-end .ensures .0, (f .find-end .ensures .1, blank)))))
+    (ready q, (first (begun (q .before) .before), (some q, (few q, (f .find-end .ensures .0, (f .find-end .ensures .1, blank))))))
 
 returns-4 : tie.Need-returns-4
 returns-4 c =

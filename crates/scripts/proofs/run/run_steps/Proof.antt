@@ -1,7 +1,7 @@
 -- `scripts::run::run_steps` meets its contract. The loop's invariant: the steps made and those from `at` on are the run from the
 -- frames that the start left; the machine's frames stand. The walk ends since the links of a passed form rise.
 -- Assumes nothing.
-use Prim.Native.Nat.{ℕ, _<_}
+use Prim.Native.Nat.{ℕ, _<_, _≤_}
 use native.Mathlib.Omega.{arith}
 use mathlib.Core.Path.{_≡_, refl, sym, ap, subst, _∙_}
 use denote.Ref.{now}
@@ -12,7 +12,7 @@ use Rattle.records.proofs.Theorems.Following.{left}
 use Rattle.scripts.specs.Format.{entries, nextStep}
 use Rattle.scripts.specs.Calculus.{frameLimit}
 use Rattle.scripts.specs.Run.{Frames}
-use Rattle.scripts.specs.Code.Machine.{framesOf, Standing}
+use Rattle.scripts.specs.Code.Machine.{framesOf}
 use Rattle.scripts.specs.Code.Tested.{runAfter}
 use Rattle.scripts.specs.Code.Ready.{Ready, IsStep}
 use Rattle.scripts.specs.declared.entry.Entry.{Entry}
@@ -23,22 +23,21 @@ use Rattle.scripts.proofs.run.run_steps.Statement.{statement}
 use Rattle.scripts.proofs.run.run_steps.Tie as tie
 
 abbrev Inv-loop : tie.InvT-loop
-Inv-loop v marks s terms first header table₀ state₀ last₀ at₀ steps₀ table state last at steps =
-    Walk v s (runAfter v s (framesOf table₀ state₀) first) (framesOf table state) last at steps
-    × Standing table (state .closed) (state .depth)
+Inv-loop v marks s terms first header state₀ last₀ at₀ steps₀ state last at steps =
+    Walk v s (runAfter v s (framesOf state₀) first) (framesOf state) last at steps × (state .depth ≤ frameLimit)
 
 abbrev μ-loop : tie.MeasureT-loop
-μ-loop v marks s terms first header table₀ state₀ last₀ at₀ steps₀ table state last at steps = left (entries s) at
+μ-loop v marks s terms first header state₀ last₀ at₀ steps₀ state last at steps = left (entries s) at
 
 -- Places: the start, after the machine was started, in the loop, after the step was tested, where it passed, after it was read.
 abbrev start : tie.After-start Inv-loop μ-loop → tie.Start Inv-loop μ-loop
-start c = c .before .before .before .before .before .before .before .before
+start c = c .before .before .before .before .before .before
 
 abbrev started : tie.At-loop Inv-loop μ-loop → tie.After-start Inv-loop μ-loop
 started c = c .before .before .before
 
 abbrev looped : tie.After-test-step Inv-loop μ-loop → tie.In-loop Inv-loop μ-loop
-looped c = c .before .before .before .before
+looped c = c .before .before .before
 
 abbrev begun : tie.In-loop Inv-loop μ-loop → tie.Start Inv-loop μ-loop
 begun c = start (started (c .before))
@@ -47,7 +46,7 @@ abbrev tested : tie.After-enum-told Inv-loop μ-loop → tie.After-test-step Inv
 tested c = c .before .before
 
 abbrev read : tie.After-advance Inv-loop μ-loop → tie.After-read-entry3 Inv-loop μ-loop
-read c = c .before .before .before
+read c = c .before .before
 
 form : (c : tie.Start Inv-loop μ-loop) → KeepsForm (now (c .args .v)) (now (c .args .s))
 form c = keeps-form _ _ (c .pre .0 .form)
@@ -59,16 +58,12 @@ here c = standing (now (begun c .args .s)) _ (c .before .loop .inv .0 .reached) 
 read-entry-requires : tie.Need-read-entry-requires Inv-loop μ-loop
 read-entry-requires c κs = let b = c .before .before .before in omega (arith, form b .sized .least)
 
-empty-table-requires : tie.Need-empty-table-requires Inv-loop μ-loop
-empty-table-requires c κs = tt
-
 empty-requires : tie.Need-empty-requires Inv-loop μ-loop
 empty-requires c κs = tt
 
 start-requires : tie.Need-start-requires Inv-loop μ-loop
 start-requires c κs =
-    let t = c .before .before in
-    (c .before .empty .ensures, (t .empty-table .ensures, t .before .before .before .before .before .pre .1 .1 .1))
+    (c .empty .ensures, c .before .before .before .before .before .pre .1 .1 .1)
 
 read-entry-requires-2 : tie.Need-read-entry-requires-2 Inv-loop μ-loop
 read-entry-requires-2 c κs = omega (arith, start c .pre .1 .1 .0 .within)
@@ -79,13 +74,13 @@ loop-holds c =
     let b = start m in (
       walk-start (now (b .args .v)) (now (b .args .s)) (form b) _ _ _ _ (b .pre .1 .1 .0) refl
           (ap (λ (x : Entry). x .w7) (c .before .read-entry2 .ensures)),
-      m .start .ensures .standing,
+      m .start .ensures .deep,
     )
 
 test-step-requires : tie.Need-test-step-requires Inv-loop μ-loop
 test-step-requires c κs =
-    let w = c .before .before .before in
-    let h = started (w .before) .before .before .before .before in
+    let w = c .before .before in
+    let h = started (w .before) .before .before in
     let r = subst (Ready _ _ _) (sym (h .read-entry .ensures)) (begun w .pre .0) in
     (r, (begun w .pre .1 .0, (here w, w .before .loop .inv .1)))
 
@@ -98,7 +93,7 @@ returns c =
     let w = looped t in
     let b = begun w in
     walk-refused (now (b .args .v)) (now (b .args .s)) (form b) _ _ _ _ _ (w .before .loop .inv .0) _ _ _ _ (here w)
-    (t .test-step .ensures .rows) (c .before .enum-told2 .given .1) (c .judge-after .ensures)
+    (t .test-step .ensures (w .before .loop .state .others) .rows) (c .before .enum-told2 .given .1) (c .judge-after .ensures)
     ∙ ap (λ (fs : Frames ℕ). runAfter (now (b .args .v)) (now (b .args .s)) fs (b .args .first))
     (started (w .before) .start .ensures .shown)
 
@@ -112,16 +107,16 @@ next-at c = ap (λ (x : Entry). x .w7) (c .read-entry3 .ensures)
 
 advance-requires : tie.Need-advance-requires Inv-loop μ-loop
 advance-requires c κs =
-    let r = c .before .before in
+    let r = c .before in
     let o = r .before in
-    let t = tested o .test-step .ensures in
     let l = looped (tested o) .before .loop in
+    let t = tested o .test-step .ensures (l .state .others) in
     let kind = sym (ap (λ (x : Entry). x .w0) (r .read-entry3 .ensures)) in (
       l .inv .1,
       (
-        λ h. subst (λ (n : ℕ). n < frameLimit) (frames-length (l .table) (l .state .closed) (l .state .depth))
+        λ h. subst (λ (n : ℕ). n < frameLimit) (frames-length (l .state .goals) (l .state .others) (l .state .depth))
             (t .room (ap checked (o .enum-told .given .1)) h),
-        λ k. t .reduced (kind ∙ eqb-true _ 5 k),
+        (t .few, λ k. t .reduced (kind ∙ eqb-true _ 5 k)),
       ),
     )
 
@@ -142,11 +137,11 @@ loop-again c =
     let o = r .before in
     let w = looped (tested o) in
     let b = begun w in
-    let t = tested o .test-step .ensures in
+    let t = tested o .test-step .ensures (w .before .loop .state .others) in
     let fine = ap checked (o .enum-told .given .1) in (
       walk-next (now (b .args .v)) (now (b .args .s)) (form b) _ _ _ _ _ (w .before .loop .inv .0) _ _ _ (here w)
           (t .rows) fine (a .shown ∙ t .after fine) (next-at r),
-      a .standing,
+      a .deep,
     )
 
 pass-if-requires : tie.Need-pass-if-requires Inv-loop μ-loop
@@ -167,7 +162,7 @@ returns-2 c =
 pub run-steps-spec : {M : Type 1} → statement M
 run-steps-spec =
     tie.close
-    (tie.spec Inv-loop μ-loop read-entry-requires empty-table-requires empty-requires start-requires read-entry-requires-2
+    (tie.spec Inv-loop μ-loop read-entry-requires empty-requires start-requires read-entry-requires-2
     (λ c. omega arith)
     loop-holds test-step-requires (λ c. search needs) (λ c. search needs) judge-after-requires returns read-entry-requires-3
     advance-requires add-steps (λ c. omega arith) loop-less loop-again pass-if-requires judge-after-requires-2 returns-2)

@@ -21,6 +21,7 @@ use Rattle.scripts.specs.Run.{connectedIn, remainderIn}
 use Rattle.scripts.specs.Code.Codes.{opposed}
 use Rattle.scripts.specs.Code.Numbered.{noNumber, numbered}
 use Rattle.scripts.proofs.Refinement.Extensions.{read-extends}
+use Rattle.scripts.proofs.Refinement.Frames.{none-few}
 use Rattle.scripts.proofs.Refinement.Stepping.{not-passed, room-left}
 use Rattle.scripts.proofs.run.test_extension.Statement.{statement}
 use Rattle.scripts.proofs.run.test_extension.Tie as tie
@@ -84,6 +85,7 @@ returns c =
           (connected (c .before .before .before)) refused;
       remainder = λ q. absurd (no (sym same ∙ q));
       room = λ q. absurd (no (sym same ∙ q));
+      few = none-few _ (c .no-frame .ensures .1);
     }
 
 leave-out-requires : tie.Need-leave-out-requires
@@ -95,7 +97,7 @@ left : (c : tie.After-pass-if2)
     literals (c .before .before .leave-out .result) ≡ remainderIn (numbered (now (b .args .v)) (now (b .args .s))) (named b)
 left c =
     let u = found (tried c) in
-    c .before .before .leave-out .ensures ∙ ap (without (start u .args .e .w5)) (u .used-column .ensures)
+    c .before .before .leave-out .ensures .0 ∙ ap (without (start u .args .e .w5)) (u .used-column .ensures)
 
 -- row 23, from the call that tests it
 roomy : (c : tie.After-pass-if2) → checked (c .pass-if2 .result) ≡ row23 (start (found (tried c)))
@@ -113,6 +115,7 @@ returns-2 c =
       remainder = λ q. left c;
       room = λ q. room-left (l .first) (l .second) (l .third) depth
           (sym (c .before .has-room .ensures) ∙ require-passed _ _ _ (sym (c .pass-if2 .ensures) ∙ q));
+      few = c .before .before .leave-out .ensures .1;
     }
 
 pub test-extension-spec : {M : Type 1} → statement M

@@ -5,7 +5,7 @@ use native.Mathlib.Omega.{arith}
 use mathlib.Core.Path.{_≡_, refl, sym, ap, subst, _∙_}
 use mathlib.Core.Bool.{not}
 use mathlib.Core.List.{List}
-use lib.ListN.{length}
+use lib.ListN.{length, getD}
 use denote.Ref.{now}
 use borrow.Author.Needs.{needs}
 use Rattle.records.specs.Outcome.{refused, pass, require}
@@ -19,7 +19,7 @@ use Rattle.scripts.specs.Run.{Frames, extendBy, goal, stepCheck}
 use Rattle.scripts.specs.Code.Machine.{framesFrom}
 use Rattle.scripts.specs.Code.Numbered.{numbered}
 use Rattle.scripts.specs.declared.entry.Entry.{Entry}
-use Rattle.scripts.proofs.Refinement.Frames.{frames-length, untilZero-none}
+use Rattle.scripts.proofs.Refinement.Frames.{frames-length, untilZero-none, none-few}
 use Rattle.scripts.proofs.Refinement.Stepping.{open-positive, not-passed, open-frames, goal-frames, step-extending}
 use Rattle.scripts.proofs.Refinement.Stepping.{step-reducing, step-neither, extension-rows, reduction-rows, start-rows}
 use Rattle.scripts.proofs.Refinement.Stepping.{extension-after, reduction-after}
@@ -41,21 +41,21 @@ start c = c .before .before .before .before
 abbrev tried : tie.After-enum-told → tie.After-pass-if
 tried c = c .before .before
 
-abbrev read : tie.After-goal-at → tie.After-read-entry
-read c = c .before .before
+abbrev read : tie.After-goal → tie.After-read-entry
+read c = c .before
 
-abbrev begun : tie.After-goal-at → tie.Start
+abbrev begun : tie.After-goal → tie.Start
 begun c = start (tried (read c .before))
 
-abbrev frames : tie.Start → Frames ℕ
-frames c = framesFrom (now (c .args .table)) (now (c .args .closed)) (c .args .depth)
+abbrev frames : tie.Start → List ℕ → Frames ℕ
+frames c others = framesFrom (now (c .args .goals)) others (c .args .depth)
 
 -- row 25
-opened : (c : tie.After-pass-if)
-    → checked (c .pass-if .result) ≡ require (not (isNil (frames (start c)))) 25 (start c .args .i)
-opened c =
+opened : (c : tie.After-pass-if) (others : List ℕ)
+    → checked (c .pass-if .result) ≡ require (not (isNil (frames (start c) others))) 25 (start c .args .i)
+opened c others =
     let a = start c .args in
-    require-test _ _ _ _ _ (c .pass-if .ensures) (open-frames (now (a .table)) (now (a .closed)) (a .depth))
+    require-test _ _ _ _ _ (c .pass-if .ensures) (open-frames (now (a .goals)) others (a .depth))
 
 -- a frame is open
 positive : (c : tie.After-enum-told) → 0 < start (tried c) .args .depth
@@ -63,15 +63,16 @@ positive c = open-positive _ (require-passed _ _ _ (checked-fine _ _ (tried c .p
 
 returns : tie.Need-returns
 unfolding stepCheck
-returns c =
+returns c others =
     let refused = c .before .enum-told2 .given .1 in
     let same = ap checked (c .no-frame .ensures .0) in
     let no = not-passed _ _ _ refused in
     let l = c .no-frame .result .remainder in
     record {
-      rows = same ∙ then-refused _ _ _ _ _ (opened (c .before .before .before)) refused;
+      rows = same ∙ then-refused _ _ _ _ _ (opened (c .before .before .before) others) refused;
       after = λ q. absurd (no (sym same ∙ q));
       room = λ q. absurd (no (sym same ∙ q));
+      few = none-few _ (c .no-frame .ensures .1);
       reduced = λ k. untilZero-none (l .first) (l .second) (l .third) (c .no-frame .ensures .1);
     }
 
@@ -81,26 +82,20 @@ read-entry-requires c κs = omega (arith, start (tried c) .pre .1 .1 .0 .within)
 sub-last : tie.Need-sub-last
 sub-last c = omega (arith, positive (c .before))
 
-element-copy-out-goal-at : tie.Need-element-copy-out-goal-at
-element-copy-out-goal-at c = omega (arith, positive (c .before), start (tried (c .before)) .pre .1 .1 .1 .deep)
-
-goal-at-requires : tie.Need-goal-at-requires
-goal-at-requires c κs =
-    let o = c .before .before in
-    let b = start (tried o) in
-    (omega (arith, positive o, b .pre .1 .1 .1 .deep), b .pre .1 .1 .1 .goals (b .args .depth - 1) (omega (arith, positive o)))
+element-copy-out-goal : tie.Need-element-copy-out-goal
+element-copy-out-goal c = omega (arith, positive (c .before), start (tried (c .before)) .pre .1 .1 .1)
 
 -- the goal is that of the frames
-aimed : (c : tie.After-goal-at)
-    → let b = begun c in c .goal-at .result ≡ goal (numbered (now (b .args .v)) (now (b .args .s))) (frames b)
-aimed c =
+aimed : (c : tie.After-goal) (others : List ℕ)
+    → let a = begun c .args in
+    getD (now (a .goals)) (a .depth - 1) 0 ≡ goal (numbered (now (a .v)) (now (a .s))) (frames (begun c) others)
+aimed c others =
     let a = begun c .args in
-    goal-frames (now (a .table)) (now (a .closed)) (a .depth) (now (a .v)) (now (a .s)) (a .depth - 1) _
-    (positive (read c .before)) refl (c .goal-at .ensures)
+    goal-frames (now (a .goals)) others (a .depth) (now (a .v)) (now (a .s)) (a .depth - 1) (positive (read c .before)) refl
 
 -- how many frames there are
-many : (b : tie.Start) → b .args .depth ≡ length (frames b)
-many b = sym (frames-length (now (b .args .table)) (now (b .args .closed)) (b .args .depth))
+many : (b : tie.Start) (others : List ℕ) → b .args .depth ≡ length (frames b others)
+many b others = sym (frames-length (now (b .args .goals)) others (b .args .depth))
 
 test-extension-requires : tie.Need-test-extension-requires
 test-extension-requires c κs =
@@ -112,7 +107,7 @@ can-reduce-requires : tie.Need-can-reduce-requires
 can-reduce-requires c κs = begun (c .before) .pre .1 .1 .1
 
 returns-2 : tie.Need-returns-2
-returns-2 c =
+returns-2 c others =
     let g = c .before .before in
     let o = read g .before in
     let b = begun g in
@@ -122,16 +117,17 @@ returns-2 c =
     let k = c .before .match2 .keys1 in
     let step = step-extending (now (a .s)) (a .i) (e .result) (e .ensures) k in
     record {
-      rows = then-fine _ _ _ _ (opened (tried o)) (o .enum-told .given .1) (x .rows)
-          ∙ extension-rows (now (a .v)) (now (a .s)) (a .i) (frames b) (extensionOf (e .result)) step _ _ (aimed g) (many b);
-      after = λ q. ap (λ (l : List ℕ). extendBy l (frames b)) (x .remainder q)
-          ∙ extension-after (now (a .v)) (now (a .s)) (a .i) (frames b) (extensionOf (e .result)) step;
-      room = λ q h. subst (λ (n : ℕ). n < frameLimit) (many b) (x .room q h);
+      rows = then-fine _ _ _ _ (opened (tried o) others) (o .enum-told .given .1) (x .rows)
+          ∙ extension-rows (now (a .v)) (now (a .s)) (a .i) (frames b others) (extensionOf (e .result)) step _ _ (aimed g others) (many b others);
+      after = λ q. ap (λ (l : List ℕ). extendBy l (frames b others)) (x .remainder q)
+          ∙ extension-after (now (a .v)) (now (a .s)) (a .i) (frames b others) (extensionOf (e .result)) step;
+      room = λ q h. subst (λ (n : ℕ). n < frameLimit) (many b others) (x .room q h);
+      few = x .few;
       reduced = λ l. absurd (four-five _ _ (ap (λ (h : Entry). h .w0) (e .ensures)) k l);
     }
 
 returns-3 : tie.Need-returns-3
-returns-3 c =
+returns-3 c others =
     let m = c .before .before .before in
     let g = m .before in
     let o = read g .before in
@@ -143,16 +139,17 @@ returns-3 c =
     let none = untilZero-none (l .first) (l .second) (l .third) (c .no-frame2 .ensures .1) in
     record {
       rows = ap checked (c .no-frame2 .ensures .0)
-          ∙ then-fine _ _ _ _ (opened (tried o)) (o .enum-told .given .1)
-          (require-test _ _ _ _ _ (c .before .pass-if2 .ensures) (c .before .before .can-reduce .ensures))
-          ∙ reduction-rows (now (a .v)) (now (a .s)) (a .i) (frames b) (e .result .w1) step _ (aimed g);
-      after = λ q. reduction-after (now (a .v)) (now (a .s)) (a .i) (frames b) (e .result .w1) _ step (c .no-frame2 .ensures .1);
+          ∙ then-fine _ _ _ _ (opened (tried o) others) (o .enum-told .given .1)
+          (require-test _ _ _ _ _ (c .before .pass-if2 .ensures) (c .before .before .can-reduce .ensures others))
+          ∙ reduction-rows (now (a .v)) (now (a .s)) (a .i) (frames b others) (e .result .w1) step _ (aimed g others);
+      after = λ q. reduction-after (now (a .v)) (now (a .s)) (a .i) (frames b others) (e .result .w1) _ step (c .no-frame2 .ensures .1);
       room = λ q h. absurd (omega (arith, h, none));
+      few = none-few _ (c .no-frame2 .ensures .1);
       reduced = λ k. none;
     }
 
 returns-4 : tie.Need-returns-4
-returns-4 c =
+returns-4 c others =
     let m = c .before in
     let g = m .before in
     let o = read g .before in
@@ -164,10 +161,11 @@ returns-4 c =
     let starts = step-neither (now (a .s)) (a .i) (e .result) (e .ensures) (m .match2 .rest .0 .1) (m .match2 .rest .1) in
     record {
       rows = same
-          ∙ then-fine _ _ _ _ (opened (tried o)) (o .enum-told .given .1) refl
-          ∙ start-rows (now (a .v)) (now (a .s)) (a .i) (frames b) starts;
+          ∙ then-fine _ _ _ _ (opened (tried o) others) (o .enum-told .given .1) refl
+          ∙ start-rows (now (a .v)) (now (a .s)) (a .i) (frames b others) starts;
       after = λ q. absurd (no-pass (sym same ∙ q));
       room = λ q. absurd (no-pass (sym same ∙ q));
+      few = none-few _ (c .no-frame3 .ensures .1);
       reduced = λ k. untilZero-none (l .first) (l .second) (l .third) (c .no-frame3 .ensures .1);
     }
 
@@ -175,5 +173,5 @@ pub test-step-spec : {M : Type 1} → statement M
 test-step-spec =
     tie.close
     (tie.spec (λ c κs. search needs) (λ c. search needs) (λ c. search needs) (λ c κs. search needs) returns
-    read-entry-requires sub-last element-copy-out-goal-at goal-at-requires test-extension-requires can-reduce-requires
+    read-entry-requires sub-last (λ c. search needs) element-copy-out-goal test-extension-requires can-reduce-requires
     (λ c κs. search needs) (λ c κs. search needs) (λ c κs. search needs) returns-2 returns-3 returns-4)

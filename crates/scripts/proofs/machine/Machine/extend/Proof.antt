@@ -14,25 +14,24 @@ close-requires c κs = search needs
 
 returns : tie.Need-returns
 returns c =
-    let t = c .before .before in
+    let t = c .before in
     let l = t .before .before .args .remainder in
     record {
-      standing = c .close .ensures .standing;
+      deep = c .close .ensures .deep;
       shown = c .close .ensures .shown ∙ open-none (l .first) (l .second) (l .third) _ (t .if1 .taken);
     }
 
 open-frame-requires : tie.Need-open-frame-requires
 open-frame-requires c κs =
-    let e = c .before in
-    let p = e .before .before .pre in
-    (p .0, (p .1 (omega (arith, e .if1 .left)), omega (arith, e .if1 .left)))
+    let p = c .before .before .pre in
+    (p .1 .0 (omega (arith, c .if1 .left)), (omega (arith, c .if1 .left), p .1 .1))
 
 returns-2 : tie.Need-returns-2
 returns-2 c =
-    let e = c .before .before in
+    let e = c .before in
     let l = e .before .before .args .remainder in
     record {
-      standing = c .open-frame .ensures .standing;
+      deep = c .open-frame .ensures .deep;
       shown = c .open-frame .ensures .shown
           ∙ open-some (literals l) _ (untilZero-some (l .first) (l .second) (l .third) (omega (arith, e .if1 .left)));
     }
