@@ -1,21 +1,42 @@
-// The machine: the open frames, handed on by value.
+// The machine: the open frames, handed on by value; and what a step is tested against.
 use columns::column::Column;
 ghost use mathlib.Core.Path.{_≡_};
-ghost use mathlib.Core.List.{[], _∷_};
-ghost use Prim.Native.Nat.{_≤_, _<_};
+ghost use mathlib.Core.List.{List, [], _∷_};
+ghost use Prim.Native.Nat.{ℕ, _≤_, _<_};
 ghost use lib.ListN.{length, getD};
 ghost use Rattle.columns.specs.Code.Packed.{literals};
 ghost use Rattle.records.specs.Finite.{without};
 ghost use Rattle.scripts.specs.Calculus.{frameLimit};
-ghost use Rattle.scripts.specs.Run.{close, extendBy};
+ghost use Rattle.scripts.specs.Run.{close};
 ghost use Rattle.scripts.specs.Code.Numbered.{noNumber};
-ghost use Rattle.scripts.specs.Code.Machine.{frameWidth, framesOf, Shows};
+ghost use Rattle.scripts.specs.Code.Machine.{left, framesFrom, framesOf, Standing, Shows};
+ghost use Rattle.scripts.specs.Code.Tested.{Aims};
 
-// The goal of each frame, and the literal that is open after it; 0 stands for none.
+// The literals of a column but one, which become the next frame: its goal and the literal after it; 0 stands for none.
+pub struct Remainder {
+    pub goal: u64,
+    pub other: u64,
+}
+
+// The open frames. Beside the goal, that of the last frame, a frame may have one other open literal: `back` frames are left
+// open when the goal is closed, up to the last frame with an other literal. An array has at f what frame f was opened with:
+// the goal under it, its other literal and the `back` of then. So closing a goal writes to no array, and a frame of one
+// literal is opened by one write: handing the machine on copies what was written.
 pub struct Machine {
     pub depth: usize,
-    pub goals: [u64; Machine::FRAMES],
+    pub goal: u64,
+    pub back: usize,
+    pub below: [u64; Machine::FRAMES],
     pub others: [u64; Machine::FRAMES],
+    pub backs: [u8; Machine::FRAMES],
+}
+
+// What a step is tested against: how many frames are open, the goal, and the goal of the frame that a reduction names. If
+// that is no frame below the last, `lower` is the goal, which is not its own complement.
+pub struct Aim {
+    pub depth: usize,
+    pub goal: u64,
+    pub lower: u64,
 }
 
 // The literal at a position of a column.
@@ -31,28 +52,47 @@ pub fn literal_at(column: Column, position: usize) -> u64
 }
 
 // A column without the literal at a position.
-pub fn leave_out(column: Column, position: usize) -> Column
+pub fn leave_out(column: Column, position: usize) -> Remainder
     requires { ⌜ position < length (literals column) ⌝ }
-    ensures { λ r. ⌜ literals r ≡ without position (literals column) ⌝ }
-    ensures { λ r. ⌜ length (literals r) ≤ frameWidth ⌝ }
+    ensures { λ r. ⌜ left r ≡ without position (literals column) ⌝ }
 {
     match position {
-        0 => Column {
-            first: column.second,
-            second: column.third,
-            third: 0,
+        0 => Remainder {
+            goal: column.second,
+            other: column.third,
         },
-        1 => Column {
-            first: column.first,
-            second: column.third,
-            third: 0,
+        1 => Remainder {
+            goal: column.first,
+            other: column.third,
         },
-        _ => Column {
-            first: column.first,
-            second: column.second,
-            third: 0,
+        _ => Remainder {
+            goal: column.first,
+            other: column.second,
         },
     }
+}
+
+// Where a reduction names a frame.
+pub fn aim_at(below: &[u64; Machine::FRAMES], goal: u64, depth: usize, frame: u16) -> Aim
+    requires { ⌜ depth ≤ frameLimit ⌝ }
+    ensures { λ r. ⌜ ((o b : List ℕ) (back : ℕ) → Aims r (framesFrom (now (below .entry)) o b goal back depth) frame) ⌝ }
+{
+    let above = frame as usize + 1;
+    if above < depth {
+        let lower = below[above];
+        return Aim { depth, goal, lower };
+    }
+    Aim {
+        depth,
+        goal,
+        lower: goal,
+    }
+}
+
+fn widen(x: u8) -> usize
+    ensures { λ r. ⌜ r ≡ x ⌝ }
+{
+    x as usize
 }
 
 impl Machine {
@@ -61,75 +101,104 @@ impl Machine {
 
     // No frame is open.
     pub fn empty() -> Self
-        ensures { λ r. ⌜ r .depth ≡ 0 ⌝ }
+        ensures { λ r. ⌜ Shows r [] ⌝ }
     {
         Machine {
             depth: 0,
-            goals: [0; Machine::FRAMES],
+            goal: 0,
+            back: 0,
+            below: [0; Machine::FRAMES],
             others: [0; Machine::FRAMES],
+            backs: [0; Machine::FRAMES],
         }
     }
 
-    // Opens a frame of a column's literals.
-    fn open_frame(mut self, column: Column) -> Self
-        requires { ⌜ self .depth < frameLimit ⌝ }
-        requires { ⌜ 0 < column .first ⌝ }
-        requires { ⌜ length (literals column) ≤ frameWidth ⌝ }
-        ensures { λ r. ⌜ Shows r (literals column ∷ framesOf self) ⌝ }
+    // Frame 0: the literal of a query column.
+    pub fn start(self, goal: u64) -> Self
+        requires { ⌜ Shows self [] ⌝ }
+        ensures { λ r. ⌜ Shows r ((goal ∷ []) ∷ []) ⌝ }
     {
-        let at = self.depth;
-        self.goals[at] = column.first;
-        self.others[at] = column.second;
-        self.depth = at + 1;
-        self
+        self.extend_single(goal)
     }
 
-    // Frame 0.
-    pub fn start(self, column: Column) -> Self
-        requires { ⌜ self .depth ≡ 0 ⌝ }
-        requires { ⌜ 0 < column .first ⌝ }
-        requires { ⌜ length (literals column) ≤ frameWidth ⌝ }
-        ensures { λ r. ⌜ Shows r (literals column ∷ []) ⌝ }
+    // The goal is connected with a column that has one other literal, which is the next frame.
+    pub fn extend_single(self, goal: u64) -> Self
+        requires { ⌜ Standing self ⌝ }
+        requires { ⌜ self .depth < frameLimit ⌝ }
+        ensures { λ r. ⌜ Shows r ((goal ∷ []) ∷ framesOf self) ⌝ }
     {
-        self.open_frame(column)
+        let at = self.depth;
+        let mut below = self.below;
+        let others = self.others;
+        let backs = self.backs;
+        below[at] = self.goal;
+        Machine {
+            depth: at + 1,
+            goal,
+            back: self.back,
+            below,
+            others,
+            backs,
+        }
+    }
+
+    // The goal is connected with a column that has two other literals.
+    pub fn extend_pair(self, goal: u64, other: u64) -> Self
+        requires { ⌜ Standing self ⌝ }
+        requires { ⌜ self .depth < frameLimit ⌝ }
+        ensures { λ r. ⌜ Shows r ((goal ∷ other ∷ []) ∷ framesOf self) ⌝ }
+    {
+        let at = self.depth;
+        let mut below = self.below;
+        let mut others = self.others;
+        let mut backs = self.backs;
+        below[at] = self.goal;
+        others[at] = other;
+        backs[at] = self.back as u8;
+        Machine {
+            depth: at + 1,
+            goal,
+            back: at + 1,
+            below,
+            others,
+            backs,
+        }
     }
 
     // The goal is closed: a frame whose literals are all closed goes, and closes the goal under it.
-    pub fn close(mut self) -> Self
-        requires { ⌜ self .depth ≤ frameLimit ⌝ }
+    pub fn close(self) -> Self
+        requires { ⌜ Standing self ⌝ }
         ensures { λ r. ⌜ Shows r (close (framesOf self)) ⌝ }
     {
-        let mut at = self.depth;
-        while at > 0 {
-            let other = self.others[at - 1];
-            if other != 0 {
-                self.goals[at - 1] = other;
-                self.others[at - 1] = 0;
-                self.depth = at;
-                return self;
-            }
-            at -= 1;
+        let below = self.below;
+        let others = self.others;
+        let backs = self.backs;
+        let depth = self.back;
+        if depth == 0 {
+            return Machine {
+                depth,
+                goal: 0,
+                back: 0,
+                below,
+                others,
+                backs,
+            };
         }
-        self.depth = 0;
-        self
-    }
-
-    // The goal is connected with a column, whose other literals are the next frame; with none it is closed.
-    pub fn extend(self, remainder: Column) -> Self
-        requires { ⌜ self .depth ≤ frameLimit ⌝ }
-        requires { ⌜ (0 < remainder .first → self .depth < frameLimit) ⌝ }
-        requires { ⌜ length (literals remainder) ≤ frameWidth ⌝ }
-        ensures { λ r. ⌜ Shows r (extendBy (literals remainder) (framesOf self)) ⌝ }
-    {
-        if remainder.first == 0 {
-            return self.close();
+        let goal = others[depth - 1];
+        let back = widen(backs[depth - 1]);
+        Machine {
+            depth,
+            goal,
+            back,
+            below,
+            others,
+            backs,
         }
-        self.open_frame(remainder)
     }
 
     // The goal is connected with the goal of a lower frame.
     pub fn reduce(self) -> Self
-        requires { ⌜ self .depth ≤ frameLimit ⌝ }
+        requires { ⌜ Standing self ⌝ }
         ensures { λ r. ⌜ Shows r (close (framesOf self)) ⌝ }
     {
         self.close()

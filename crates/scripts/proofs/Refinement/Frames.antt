@@ -2,24 +2,28 @@
 --   entries-length                                   how many entries an array has, as owning it tells
 --   literal-first, literal-second, literal-third     the literal at a position
 --   without-first, without-second, without-third     the literals without the one at a position
---   untilZero-few, untilZero-some, untilZero-none    at most three are listed; one at least, or none, by the first
---   open-none, open-some                             a column's literals are the next frame; with none the goal is closed
---   frame-listed                                     a frame of a column's literals
---   frames-length, goal-at, frames-none              there are as many frames as are asked for; a frame's goal; no frame
---   frames-push                                      the last frame is written, and those under it are as before
---   close-none, close-last, close-next               the goal closed: no frame, a frame that goes, one that stays
+--   left-none, shows-none, shows-single, shows-pair  a column's other literals are the next frame; with none the goal is closed
+--   nil-frames                                       no frame is open where their number is 0
+--   frames-length, goal-last, goal-below             there are as many frames as are asked for; their goals
+--   frames-single, frames-pair                       a frame of one literal or two is written, and those under it are as before
+--   close-all, close-back                            the goal closed: no frame is left; the last with another open literal is
+--   backs-set                                        a frame that is opened leads back to one below
 -- Assumes nothing.
 use Prim.Native.Nat.{ℕ, zero, suc, _-_, _<_, _≤_}
 use native.Mathlib.Omega.{arith}
 use native.Mathlib.Decide.{ℕ-discrete}
-use mathlib.Core.Path.{_≡_, refl, ap, sym, _∙_}
+use mathlib.Core.Path.{_≡_, refl, ap, sym, subst, _∙_}
+use mathlib.Core.Bool.{Bool, true, false, cond}
 use mathlib.Core.List.{List, [], _∷_, map}
 use lib.ListN.{length, getD, set, length-map}
+use lib.Dec.{eqb}
 use lib.Seq.{getD-set-same, getD-set-other}
+use borrow.Author.Tests.{eq-eqb, ne-eqb}
 use Rattle.columns.specs.Code.Packed.{untilZero}
-use Rattle.records.specs.Finite.{without}
+use Rattle.records.specs.Finite.{isNil, without}
 use Rattle.scripts.specs.Run.{Frames, close, extendBy}
-use Rattle.scripts.specs.Code.Machine.{frameWidth, frameOf, framesFrom}
+use Rattle.scripts.specs.Code.Machine.{frameOf, framesFrom, Shows}
+use Rattle.scripts.specs.declared.machine.Machine.{Machine}
 
 pub entries-length : (l : List ℕ) (n : ℕ) → length (map (λ x. x) l) ≡ n → length l ≡ n
 entries-length l n e = sym (length-map l (λ x. x)) ∙ e
@@ -65,112 +69,148 @@ without-third (suc a) zero c p k h = absurd (omega arith)
 without-third (suc a) (suc b) zero p k h = absurd (omega arith)
 without-third (suc a) (suc b) (suc c) p k h = let e : p ≡ 2 = omega arith in rw e
 
-pub untilZero-few : (a b c : ℕ) → length (untilZero a b c) ≤ 3
-untilZero-few zero b c = omega arith
-untilZero-few (suc a) zero c = omega arith
-untilZero-few (suc a) (suc b) zero = omega arith
-untilZero-few (suc a) (suc b) (suc c) = omega arith
+pub left-none : (a b : ℕ) → a ≡ 0 → untilZero a b 0 ≡ []
+left-none a b e = rw e
 
-pub untilZero-some : (a b c : ℕ) → 0 < a → 0 < length (untilZero a b c)
-untilZero-some zero b c h = absurd (omega arith)
-untilZero-some (suc a) zero c h = omega arith
-untilZero-some (suc a) (suc b) zero h = omega arith
-untilZero-some (suc a) (suc b) (suc c) h = omega arith
+-- A column's other literals, a and b, are the next frame; with none the goal is closed. m is the machine then, as n.
+module _ (m n : Machine) (e : n ≡ m) (a b : ℕ) (frames : Frames ℕ) where
+  shows-as : (fs : Frames ℕ) → Shows m fs → fs ≡ extendBy (untilZero a b 0) frames
+      → Shows n (extendBy (untilZero a b 0) frames)
+  shows-as fs s q =
+      subst (λ (x : Machine). Shows x (extendBy (untilZero a b 0) frames)) (sym e)
+      (record { standing = s .standing; shown = s .shown ∙ q })
 
-pub untilZero-none : (a b c : ℕ) → untilZero a b c ≡ [] → a ≡ 0
-untilZero-none zero b c e = refl
-untilZero-none (suc a) zero c e = let n : _≡_ {A = ℕ} 1 0 = ap length e in absurd (omega arith)
-untilZero-none (suc a) (suc b) zero e = let n : _≡_ {A = ℕ} 2 0 = ap length e in absurd (omega arith)
-untilZero-none (suc a) (suc b) (suc c) e = let n : _≡_ {A = ℕ} 3 0 = ap length e in absurd (omega arith)
+  pub shows-none : Shows m (close frames) → a ≡ 0 → Shows n (extendBy (untilZero a b 0) frames)
+  unfolding extendBy
+  shows-none s z = shows-as (close frames) s (rw z)
 
-pub none-few : (l : List ℕ) → l ≡ [] → length l ≤ frameWidth
-none-few l e = rw e (omega arith)
-
-pub open-none : (a b c : ℕ) (frames : Frames ℕ) → a ≡ 0 → close frames ≡ extendBy (untilZero a b c) frames
-unfolding extendBy
-open-none a b c frames e = rw e
-
-pub open-some : (l : List ℕ) (frames : Frames ℕ) → 0 < length l → l ∷ frames ≡ extendBy l frames
-unfolding extendBy
-open-some [] frames h = absurd (omega arith)
-open-some (x ∷ l) frames h = refl
-
-pub frame-listed : (a b c : ℕ) → 0 < a → length (untilZero a b c) ≤ frameWidth → frameOf a b ≡ untilZero a b c
-frame-listed zero b c h l = absurd (omega arith)
-frame-listed (suc a) zero c h l = refl
-frame-listed (suc a) (suc b) zero h l = refl
-frame-listed (suc a) (suc b) (suc c) h l = absurd (omega arith)
-
-pub untilZero-two : (a b : ℕ) → length (untilZero a b 0) ≤ frameWidth
-untilZero-two zero b = omega arith
-untilZero-two (suc a) zero = omega arith
-untilZero-two (suc a) (suc b) = omega arith
-
-frame-goal : (g o d : ℕ) → getD (frameOf g o) 0 d ≡ g
-frame-goal g zero d = refl
-frame-goal g (suc o) d = refl
-
-close-one : (g o : ℕ) (frames : Frames ℕ) → o ≡ 0 → close (frameOf g o ∷ frames) ≡ close frames
-unfolding close
-close-one g zero frames e = refl
-close-one g (suc o) frames e = absurd (omega arith)
-
-close-two : (g o : ℕ) (frames : Frames ℕ) → (o ≡ 0 → ⊥) → frameOf o 0 ∷ frames ≡ close (frameOf g o ∷ frames)
-unfolding close
-close-two g zero frames e = absurd (e refl)
-close-two g (suc o) frames e = refl
-
-module _ (goals others : List ℕ) where
-  pub frames-length : (n : ℕ) → length (framesFrom goals others n) ≡ n
-  unfolding framesFrom
-  frames-length zero = refl
-  frames-length (suc n) = ap suc (frames-length n)
-
-  pub goal-at : (n f d : ℕ) → f < n → getD (getD (framesFrom goals others n) (n - suc f) []) 0 d ≡ getD goals f 0
-  unfolding framesFrom
-  goal-at zero f d h = absurd (omega arith)
-  goal-at (suc n) f d h = at (goal-at n f d) (ℕ-discrete f n)
+  pub shows-single : Shows m ((a ∷ []) ∷ frames) → (a ≡ 0 → ⊥) → b ≡ 0 → Shows n (extendBy (untilZero a b 0) frames)
+  unfolding extendBy
+  shows-single s p z = shows-as ((a ∷ []) ∷ frames) s (at a p)
     where
-      at : (f < n → getD (getD (framesFrom goals others n) (n - suc f) []) 0 d ≡ getD goals f 0) → Dec (f ≡ n)
-          → getD (getD (framesFrom goals others (suc n)) (suc n - suc f) []) 0 d ≡ getD goals f 0
-      at under (yes e) =
-          let z : suc n - suc f ≡ 0 = omega arith in rw (z, e) (frame-goal (getD goals n 0) (getD others n 0) d)
-      at under (no q) = let z : suc n - suc f ≡ suc (n - suc f) = omega arith in rw z (under (omega arith))
+      at : (a : ℕ) → (a ≡ 0 → ⊥) → _≡_ {A = Frames ℕ} ((a ∷ []) ∷ frames) (extendBy (untilZero a b 0) frames)
+      at zero p = absurd (p refl)
+      at (suc a) p = rw z
 
-  pub frames-none : (n : ℕ) → n ≡ 0 → framesFrom goals others n ≡ []
+  pub shows-pair : Shows m ((a ∷ b ∷ []) ∷ frames) → (a ≡ 0 → ⊥) → (b ≡ 0 → ⊥)
+      → Shows n (extendBy (untilZero a b 0) frames)
+  unfolding extendBy
+  shows-pair s p q = shows-as ((a ∷ b ∷ []) ∷ frames) s (at a b p q)
+    where
+      at : (a b : ℕ) → (a ≡ 0 → ⊥) → (b ≡ 0 → ⊥)
+          → _≡_ {A = Frames ℕ} ((a ∷ b ∷ []) ∷ frames) (extendBy (untilZero a b 0) frames)
+      at zero b p q = absurd (p refl)
+      at (suc a) zero p q = absurd (q refl)
+      at (suc a) (suc b) p q = refl
+
+pub nil-frames : (frames : Frames ℕ) (n : ℕ) → n ≡ length frames → eqb n 0 ≡ isNil frames
+nil-frames [] n e = rw e
+nil-frames (f ∷ frames) n e = ne-eqb n 0 (λ z. omega arith)
+
+frame-goal : (b : Bool) (g o d : ℕ) → getD (frameOf b g o) 0 d ≡ g
+frame-goal true g o d = refl
+frame-goal false g o d = refl
+
+module _ (below others backs : List ℕ) where
+  pub frames-length : (goal back n : ℕ) → length (framesFrom below others backs goal back n) ≡ n
   unfolding framesFrom
-  frames-none n e = rw e
+  frames-length goal back zero = refl
+  frames-length goal back (suc n) = ap suc (frames-length _ _ n)
 
-  frames-under : (n a b m : ℕ) → m ≤ n → framesFrom (set goals n a) (set others n b) m ≡ framesFrom goals others m
+  pub goal-last : (goal back n d : ℕ) → 0 < n → getD (getD (framesFrom below others backs goal back n) 0 []) 0 d ≡ goal
   unfolding framesFrom
-  frames-under n a b zero h = refl
-  frames-under n a b (suc m) h =
-      rw (
-        getD-set-other goals n m a 0 (λ e. omega arith),
-        getD-set-other others n m b 0 (λ e. omega arith),
-        frames-under n a b m (omega arith),
-      )
+  goal-last goal back zero d h = absurd (omega arith)
+  goal-last goal back (suc n) d h = frame-goal (eqb back (suc n)) goal (getD others n 0) d
 
-  pub frames-push : (n m a b : ℕ) → m ≡ suc n → n < length goals → n < length others
-      → framesFrom (set goals n a) (set others n b) m ≡ frameOf a b ∷ framesFrom goals others n
+  pub goal-below : (goal back n f d : ℕ) → suc f < n
+      → getD (getD (framesFrom below others backs goal back n) (n - suc f) []) 0 d ≡ getD below (suc f) 0
   unfolding framesFrom
-  frames-push n m a b e h l =
-      rw (e, getD-set-same goals n a 0 h, getD-set-same others n b 0 l, frames-under n a b n (omega arith))
+  goal-below goal back zero f d h = absurd (omega arith)
+  goal-below goal back (suc n) f d h = at (goal-below (getD below n 0) after n f d) (ℕ-discrete (suc f) n)
+    where
+      after : ℕ
+      after = cond (eqb back (suc n)) (getD backs n 0) back
 
-  -- The goal is closed.
-  pub close-none : (n : ℕ) → n ≡ 0 → framesFrom goals others 0 ≡ close (framesFrom goals others n)
+      under : Frames ℕ
+      under = framesFrom below others backs (getD below n 0) after n
+
+      at : (suc f < n → getD (getD under (n - suc f) []) 0 d ≡ getD below (suc f) 0) → Dec (suc f ≡ n)
+          → getD (getD (framesFrom below others backs goal back (suc n)) (suc n - suc f) []) 0 d ≡ getD below (suc f) 0
+      at lower (yes e) =
+          let z : suc n - suc f ≡ 1 = omega arith in
+          rw (z, e) (goal-last (getD below n 0) after n d (omega arith))
+      at lower (no q) = let z : suc n - suc f ≡ suc (n - suc f) = omega arith in rw z (lower (omega arith))
+
+  -- Lists that have the same below n have the same first n frames.
+  frames-same : (below' others' backs' : List ℕ) (n : ℕ) → ((f : ℕ) → f < n → getD below' f 0 ≡ getD below f 0)
+      → ((f : ℕ) → f < n → getD others' f 0 ≡ getD others f 0) → ((f : ℕ) → f < n → getD backs' f 0 ≡ getD backs f 0)
+      → (goal back m : ℕ) → m ≤ n
+      → framesFrom below' others' backs' goal back m ≡ framesFrom below others backs goal back m
+  unfolding framesFrom
+  frames-same below' others' backs' n u o b goal back zero h = refl
+  frames-same below' others' backs' n u o b goal back (suc m) h =
+      rw (u m (omega arith), o m (omega arith), b m (omega arith))
+      (ap (λ (fs : Frames ℕ). frameOf (eqb back (suc m)) goal (getD others m 0) ∷ fs)
+      (frames-same below' others' backs' n u o b (getD below m 0) (cond (eqb back (suc m)) (getD backs m 0) back) m (omega arith)))
+
+  -- Frame n is opened; m is the depth then.
+  module _ (goal back n m g : ℕ) (e : m ≡ suc n) (behind : back ≤ n) (h : n < length below) where
+    pub frames-single : framesFrom (set below n goal) others backs g back m
+        ≡ (g ∷ []) ∷ framesFrom below others backs goal back n
+    unfolding framesFrom
+    frames-single =
+        rw (e, ne-eqb back (suc n) (λ q. omega arith), getD-set-same below n goal 0 h)
+        (ap (λ (fs : Frames ℕ). (g ∷ []) ∷ fs)
+        (frames-same (set below n goal) others backs n (λ f l. getD-set-other below n f goal 0 (λ q. omega arith)) (λ f l. refl)
+        (λ f l. refl) goal back n (omega arith)))
+
+    pub frames-pair : (o : ℕ) → n < length others → n < length backs
+        → framesFrom (set below n goal) (set others n o) (set backs n back) g m m
+        ≡ (g ∷ o ∷ []) ∷ framesFrom below others backs goal back n
+    unfolding framesFrom
+    frames-pair o l k =
+        rw (e, eq-eqb (suc n) (suc n) refl, getD-set-same below n goal 0 h, getD-set-same others n o 0 l,
+          getD-set-same backs n back 0 k)
+        (ap (λ (fs : Frames ℕ). (g ∷ o ∷ []) ∷ fs)
+        (frames-same (set below n goal) (set others n o) (set backs n back) n
+        (λ f l. getD-set-other below n f goal 0 (λ q. omega arith)) (λ f l. getD-set-other others n f o 0 (λ q. omega arith))
+        (λ f l. getD-set-other backs n f back 0 (λ q. omega arith)) goal back n (omega arith)))
+
+  close-zero : (goal n : ℕ) → close (framesFrom below others backs goal 0 n) ≡ []
   unfolding close framesFrom
-  close-none n e = rw e
+  close-zero goal zero = refl
+  close-zero goal (suc n) = rw (ne-eqb 0 (suc n) (λ q. omega arith)) (close-zero (getD below n 0) n)
 
-  -- The last frame of m is n.
-  module _ (n m : ℕ) (e : m ≡ suc n) where
-    pub close-last : getD others n 0 ≡ 0 → close (framesFrom goals others m) ≡ close (framesFrom goals others n)
-    unfolding framesFrom
-    close-last z = rw e (close-one (getD goals n 0) (getD others n 0) (framesFrom goals others n) z)
+  -- The goal is closed: no frame has another open literal.
+  pub close-all : (goal back n g b : ℕ) → back ≡ 0
+      → framesFrom below others backs g b back ≡ close (framesFrom below others backs goal back n)
+  unfolding framesFrom
+  close-all goal back n g b e = rw e (sym (close-zero goal n))
 
-    pub close-next : (getD others n 0 ≡ 0 → ⊥) → n < length goals → n < length others
-        → framesFrom (set goals n (getD others n 0)) (set others n 0) m ≡ close (framesFrom goals others m)
-    unfolding framesFrom
-    close-next z h l =
-        frames-push n m (getD others n 0) 0 e h l
-        ∙ rw e (close-two (getD goals n 0) (getD others n 0) (framesFrom goals others n) z)
+  -- Frame m is the last that has one.
+  module _ (falls : (f : ℕ) → getD backs f 0 ≤ f) (m : ℕ) where
+    abbrev left-open : Frames ℕ
+    left-open = framesFrom below others backs (getD others m 0) (getD backs m 0) (suc m)
+
+    close-suc : (goal n : ℕ) → suc m ≤ n → left-open ≡ close (framesFrom below others backs goal (suc m) n)
+    unfolding close framesFrom
+    close-suc goal zero h = absurd (omega arith)
+    close-suc goal (suc n) h = at (close-suc (getD below n 0) n) (ℕ-discrete m n)
+      where
+        at : (suc m ≤ n → left-open ≡ close (framesFrom below others backs (getD below n 0) (suc m) n)) → Dec (m ≡ n)
+            → left-open ≡ close (framesFrom below others backs goal (suc m) (suc n))
+        at under (yes e) =
+            rw (e, eq-eqb (suc n) (suc n) refl, ne-eqb (getD backs n 0) (suc n) (λ q. omega (arith, falls n)))
+        at under (no q) = rw (ne-eqb (suc m) (suc n) (λ e. q (omega arith))) (under (omega arith))
+
+    pub close-back : (goal back n b : ℕ) → back ≡ suc m → back ≤ n → b ≡ getD backs m 0
+        → framesFrom below others backs (getD others m 0) b back ≡ close (framesFrom below others backs goal back n)
+    close-back goal back n b e h r = rw (e, r) (close-suc goal n (omega arith))
+
+pub backs-set : (backs : List ℕ) (n x : ℕ) → x ≤ n → ((f : ℕ) → getD backs f 0 ≤ f) → n < length backs → (f : ℕ)
+    → getD (set backs n x) f 0 ≤ f
+backs-set backs n x h falls l f = at (ℕ-discrete f n)
+  where
+    at : Dec (f ≡ n) → getD (set backs n x) f 0 ≤ f
+    at (yes e) = rw (e, getD-set-same backs n x 0 l) h
+    at (no q) = rw (getD-set-other backs n f x 0 (λ e. q e)) (falls f)

@@ -1,21 +1,21 @@
 -- One step of the run over numbers, from what the code's tests tell.
 --   not-passed                                     a refusal is no pass
---   open-frames, open-positive                     whether a frame is open
---   goal-frames, reduce-frames, reduce-never       the goal; row 22
+--   open-positive                                  a frame is open
+--   reduce-frames, reduce-never                    row 22
 --   room-left                                      row 23
 --   step-starting, step-extending, step-reducing   the step of a record that was read, by its kind
 --   step-neither, step-other                       one that is no extension or reduction; a step that is no start
 --   extension-rows, reduction-rows, start-rows     the rows at a step
 --   extension-after, reduction-after               the frames after it
 -- Assumes nothing.
-use Prim.Native.Nat.{ℕ, zero, suc, _-_, _≤_, _<_}
+use Prim.Native.Nat.{ℕ, zero, suc, _/_, _≤_, _<_}
 use native.Mathlib.Omega.{arith}
-use mathlib.Core.Path.{_≡_, refl, sym, ap, subst, _∙_}
+use mathlib.Core.Path.{_≡_, refl, sym, ap, _∙_}
 use mathlib.Core.Bool.{Bool, true, false, not, _||_}
 use mathlib.Core.List.{List, []}
 use lib.ListN.{length, getD}
 use lib.Dec.{ltb, leb, eqb}
-use borrow.Author.Tests.{ltb-true, leb-true, lt-ltb, le-ltb, ne-eqb}
+use borrow.Author.Tests.{ltb-true, leb-true, lt-ltb, le-ltb, eq-eqb}
 use Rattle.records.specs.Outcome.{pass, refused, _then_, require}
 use Rattle.records.specs.Answers.{checked}
 use Rattle.records.specs.declared.answers.Checked.{Checked}
@@ -33,7 +33,7 @@ use Rattle.scripts.specs.Code.Numbered.{noNumber, numbered}
 use Rattle.scripts.specs.Code.Tested.{extensionCheck, reducesTo}
 use Rattle.scripts.specs.Code.Ready.{IsStep}
 use Rattle.scripts.specs.declared.entry.Entry.{Entry}
-use Rattle.scripts.proofs.Refinement.Frames.{frames-length, goal-at}
+use Rattle.scripts.proofs.Refinement.Frames.{frames-length, goal-below}
 use Rattle.scripts.proofs.Refinement.Lines.{by-kind}
 
 pub not-passed : (k : Checked) (n p : ℕ) → k ≡ Refused n p → checked k ≡ pass → ⊥
@@ -43,35 +43,23 @@ pub open-positive : (n : ℕ) → not (eqb n 0) ≡ true → 0 < n
 open-positive zero e = absurd (clash (cc))
 open-positive (suc n) e = omega arith
 
-module _ (goals others : List ℕ) (n : ℕ) where
-  pub open-frames : not (eqb n 0) ≡ not (isNil (framesFrom goals others n))
-  unfolding framesFrom
-  open-frames = at n
-    where
-      at : (n : ℕ) → not (eqb n 0) ≡ not (isNil (framesFrom goals others n))
-      at zero = refl
-      at (suc n) = rw (ne-eqb (suc n) 0 (λ z. absurd (omega arith)))
+-- Row 22, at the goal of a frame below the last; and at the goal itself, where there is no such frame.
+module _ (below others backs : List ℕ) (goal back n f : ℕ) where
+  pub reduce-frames : (above : ℕ) → above ≡ suc f → above < n
+      → opposed (getD below above 0) goal ≡ reducesTo (framesFrom below others backs goal back n) f goal
+  reduce-frames above e h =
+      let l : suc f < n = omega arith in
+      rw (e, frames-length below others backs goal back n, lt-ltb (suc f) n l, goal-below below others backs goal back n f noNumber l)
 
-  pub goal-frames : (v s : List ℕ) (last : ℕ) → 0 < n → last ≡ n - 1
-      → getD goals last 0 ≡ goal (numbered v s) (framesFrom goals others n)
-  goal-frames v s last h l =
-      let z : n - suc last ≡ 0 = omega arith in
-      sym (subst (λ (j : ℕ). getD (getD (framesFrom goals others n) j []) 0 noNumber ≡ getD goals last 0) z
-      (goal-at goals others n last noNumber (omega arith)))
+  pub reduce-never : n ≤ suc f → opposed goal goal ≡ reducesTo (framesFrom below others backs goal back n) f goal
+  reduce-never l =
+      rw (eq-eqb (goal / 2) (goal / 2) refl, eq-eqb goal goal refl, frames-length below others backs goal back n,
+        le-ltb (suc f) n l)
 
-  pub reduce-frames : (f g : ℕ) (r : Bool) → suc f < n → r ≡ opposed (getD goals f 0) g
-      → r ≡ reducesTo (framesFrom goals others n) f g
-  reduce-frames f g r l h =
-      h ∙ rw (frames-length goals others n, lt-ltb (suc f) n l, goal-at goals others n f noNumber (omega arith))
-
-  pub reduce-never : (f g : ℕ) → n ≤ suc f → false ≡ reducesTo (framesFrom goals others n) f g
-  reduce-never f g l = rw (frames-length goals others n, le-ltb (suc f) n l)
-
-pub room-left : (a b c n : ℕ) → (isNil (untilZero a b c) || ltb n frameLimit) ≡ true → 0 < a → n < frameLimit
-room-left zero b c n e h = absurd (omega arith)
-room-left (suc a) zero c n e h = ltb-true n frameLimit e
-room-left (suc a) (suc b) zero n e h = ltb-true n frameLimit e
-room-left (suc a) (suc b) (suc c) n e h = ltb-true n frameLimit e
+pub room-left : (a b n : ℕ) → (isNil (untilZero a b 0) || ltb n frameLimit) ≡ true → 0 < a → n < frameLimit
+room-left zero b n e h = absurd (omega arith)
+room-left (suc a) zero n e h = ltb-true n frameLimit e
+room-left (suc a) (suc b) n e h = ltb-true n frameLimit e
 
 -- The step of a record that was read.
 module _ (s : List ℕ) (i : ℕ) (e : Entry) (read : e ≡ entryAt s i) where

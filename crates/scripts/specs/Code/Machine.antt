@@ -1,30 +1,44 @@
 -- What the code computes with: the open frames of a machine, whose literals are numbers.
 use Prim.Native.Nat.{ℕ, zero, suc, _≤_}
 use mathlib.Core.Path.{_≡_}
+use mathlib.Core.Bool.{Bool, true, false, cond}
 use mathlib.Core.List.{List, [], _∷_}
 use lib.ListN.{getD}
+use lib.Dec.{eqb}
+use Rattle.columns.specs.Code.Packed.{untilZero}
 use Rattle.scripts.specs.Calculus.{frameLimit}
 use Rattle.scripts.specs.Run.{Frames}
+use Rattle.scripts.specs.declared.machine.Remainder.{Remainder}
 use Rattle.scripts.specs.declared.machine.Machine.{Machine}
 
--- A column has at most three literals, of which one is connected.
-abbrev pub frameWidth : ℕ
-frameWidth = 2
+-- The literals of a column but one.
+abbrev pub left : Remainder → List ℕ
+left r = untilZero (r .goal) (r .other) 0
 
--- A frame, by its goal and the literal that is open after it; 0 stands for none.
-abbrev pub frameOf : ℕ → ℕ → List ℕ
-frameOf goal zero = goal ∷ []
-frameOf goal (suc other) = goal ∷ suc other ∷ []
+-- The open literals of a frame, of which the second may be closed.
+abbrev pub frameOf : Bool → ℕ → ℕ → List ℕ
+frameOf true goal other = goal ∷ other ∷ []
+frameOf false goal other = goal ∷ []
 
--- The first n frames, the last of them first.
-unfoldable pub framesFrom : List ℕ → List ℕ → ℕ → Frames ℕ
-framesFrom goals others zero = []
-framesFrom goals others (suc n) = frameOf (getD goals n 0) (getD others n 0) ∷ framesFrom goals others n
+-- The first n frames, the last of them first: its goal, and the number `back` of the frames up to the last with another open
+-- literal, or 0. At f stand the goal under frame f, the other literal that it was opened with, and the `back` under it.
+module _ (below others backs : List ℕ) where
+  unfoldable pub framesFrom : ℕ → ℕ → ℕ → Frames ℕ
+  framesFrom goal back zero = []
+  framesFrom goal back (suc n) =
+      frameOf (eqb back (suc n)) goal (getD others n 0)
+      ∷ framesFrom (getD below n 0) (cond (eqb back (suc n)) (getD backs n 0) back) n
 
 abbrev pub framesOf : Machine → Frames ℕ
-framesOf m = framesFrom (m .goals) (m .others) (m .depth)
+framesOf m = framesFrom (m .below) (m .others) (m .backs) (m .goal) (m .back) (m .depth)
 
--- The machine is within the limit, and these are its frames.
-pub record Shows (m : Machine) (frames : Frames ℕ) : Type 0 where
+-- The frames are within the limit, and `back` leads to one of them, from each to one below.
+pub record Standing (m : Machine) : Type 0 where
   pub deep : m .depth ≤ frameLimit
+  pub back : m .back ≤ m .depth
+  pub backs : (f : ℕ) → getD (m .backs) f 0 ≤ f
+
+-- The machine stands, and these are its frames.
+pub record Shows (m : Machine) (frames : Frames ℕ) : Type 0 where
+  pub standing : Standing m
   pub shown : framesOf m ≡ frames

@@ -3,7 +3,7 @@
 -- Assumes nothing.
 use Prim.Native.Nat.{_≤_, _<_}
 use native.Mathlib.Omega.{arith}
-use mathlib.Core.Path.{_≡_, ap, subst, _∙_}
+use mathlib.Core.Path.{_≡_, sym, ap, subst, _∙_}
 use mathlib.Core.List.{[], _∷_}
 use lib.ListN.{length}
 use denote.Ref.{now}
@@ -13,13 +13,12 @@ use Rattle.records.proofs.Laws.Checks.{require-passed, checked-fine}
 use Rattle.columns.specs.Code.Packed.{literals}
 use Rattle.scripts.specs.Format.{entryAt, entryLimit, queryIn, firstStep}
 use Rattle.scripts.specs.Answers.{judged}
-use Rattle.scripts.specs.Code.Machine.{frameWidth}
 use Rattle.scripts.specs.Code.Tested.{runAfter, chainOutcome}
 use Rattle.scripts.specs.Code.Ready.{Ready, IsStep}
 use Rattle.scripts.specs.declared.answers.Judged.{Judged}
 use Rattle.scripts.specs.declared.entry.Entry.{Entry}
 use Rattle.scripts.proofs.Theorems.Form.{KeepsForm, keeps-form}
-use Rattle.scripts.proofs.Refinement.Starting.{start-listed, start-some, start-few, start-column, chain-none, chain-other}
+use Rattle.scripts.proofs.Refinement.Starting.{start-listed, start-single, start-column, chain-none, chain-other}
 use Rattle.scripts.proofs.Refinement.Starting.{chain-started, first-step}
 use Rattle.scripts.proofs.Invariants.Indexing.{blank-tables}
 use Rattle.scripts.proofs.run.check_chain.Statement.{statement}
@@ -79,20 +78,13 @@ returns-2 c =
     chain-other (now (b .args .v)) (now (b .args .s)) (form b) _ (first-at b) (first (e .before)) _ (e .read-entry .ensures)
     _ _ _ _ (c .before .enum-told4 .given .1) (p .pass-if2 .ensures) (c .judge-after2 .ensures)
 
--- its column, of which the other steps are run, has a literal
-some : (c : tie.After-query-column) → 0 < c .query-column .result .first
-some c =
+-- its column has one literal
+single : (c : tie.After-query-column)
+    → literals (c .query-column .result) ≡ c .query-column .result .first ∷ []
+single c =
     let e = begun (c .before) in
     let q = c .query-column in
-    start-some (queryIn (start (e .before) .args .header)) (e .read-entry .result .w1) (q .result .first) (q .result .second)
-    (q .result .third) (column (c .before)) (q .ensures 0 0 0)
-
--- and not three
-few : (c : tie.After-query-column) → length (literals (c .query-column .result)) ≤ frameWidth
-few c =
-    let e = begun (c .before) in
-    let q = c .query-column in
-    start-few (queryIn (start (e .before) .args .header)) (e .read-entry .result .w1) (q .result .first) (q .result .second)
+    start-single (queryIn (start (e .before) .args .header)) (e .read-entry .result .w1) (q .result .first) (q .result .second)
     (q .result .third) (column (c .before)) (q .ensures 0 0 0)
 
 -- what the run of them relies on
@@ -107,7 +99,8 @@ ready c = let b = at-query c in subst (Ready _ _ _) (b .pre .begun .read) (b .pr
 -- and what its answer tells
 answered : (c : tie.After-query-column) (r : Judged)
     → let b = at-query c in
-    judged r ≡ runAfter (now (b .args .v)) (now (b .args .s)) (literals (c .query-column .result) ∷ []) (b .args .header .w3)
+    judged r
+    ≡ runAfter (now (b .args .v)) (now (b .args .s)) ((c .query-column .result .first ∷ []) ∷ []) (b .args .header .w3)
     → judged r ≡ chainOutcome (now (b .args .v)) (now (b .args .s))
 answered c r told =
     let q = c .query-column in
@@ -116,9 +109,9 @@ answered c r told =
     let b = at-query c in
     told
     ∙ chain-started (now (b .args .v)) (now (b .args .s)) (form b) _ (first-at b) (first (e .before)) _
-    (e .read-entry .ensures) (literals (q .result))
+    (e .read-entry .ensures) (q .result .first ∷ [])
     (start-column (now (b .args .v)) (now (b .args .s)) (b .args .header) (b .pre .begun .read) (e .read-entry .result .w1)
-    (literals (q .result)) (q .ensures 0 0 0))
+    (q .result .first ∷ []) (sym (single c) ∙ q .ensures 0 0 0))
     (started g)
 
 find-end-requires : tie.Need-find-end-requires
@@ -128,7 +121,7 @@ run-few-requires : tie.Need-run-few-requires
 run-few-requires c κs =
     let e = c .before .find-end .ensures in
     let q = c .before .before in
-    (ready q, (first (begun (q .before) .before), (some q, (few q, (e .0, (e .1, c .if1 .taken))))))
+    (ready q, (first (begun (q .before) .before), (e .0, (e .1, c .if1 .taken))))
 
 returns-3 : tie.Need-returns-3
 returns-3 c = answered (c .before .before .before) (c .run-few .result) (c .run-few .ensures)
@@ -140,7 +133,7 @@ run-numbering-requires c κs =
     let most = form (at-query q) .sized .most in
     let s = now (at-query q .args .s) in
     let blank = blank-tables s entryLimit (λ n r. omega (arith, r .within, most)) (omega arith) in
-    (ready q, (first (begun (q .before) .before), (some q, (few q, (f .find-end .ensures .0, (f .find-end .ensures .1, blank))))))
+    (ready q, (first (begun (q .before) .before), (f .find-end .ensures .0, (f .find-end .ensures .1, blank))))
 
 returns-4 : tie.Need-returns-4
 returns-4 c =

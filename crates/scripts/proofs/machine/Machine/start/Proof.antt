@@ -1,28 +1,30 @@
--- `scripts::machine::Machine::start` meets its contract: the column is frame 0.
+-- `scripts::machine::Machine::start` meets its contract: the literal is frame 0.
 -- Assumes nothing.
 use Prim.Native.Nat.{ℕ}
 use native.Mathlib.Omega.{arith}
-use mathlib.Core.Path.{ap, _∙_}
-use mathlib.Core.List.{_∷_}
-use Rattle.columns.specs.Code.Packed.{literals}
+use mathlib.Core.Path.{_≡_, ap, sym, _∙_}
+use mathlib.Core.List.{[], _∷_}
+use lib.ListN.{length}
 use Rattle.scripts.specs.Run.{Frames}
-use Rattle.scripts.proofs.Refinement.Frames.{frames-none}
+use Rattle.scripts.proofs.Refinement.Frames.{frames-length}
 use Rattle.scripts.proofs.machine.Machine.start.Statement.{statement}
 use Rattle.scripts.proofs.machine.Machine.start.Tie as tie
 
-open-frame-requires : tie.Need-open-frame-requires
-open-frame-requires c κs = let p = c .pre in (omega (arith, p .0), p .1)
+extend-single-requires : tie.Need-extend-single-requires
+extend-single-requires c κs =
+    let m = c .args .self in
+    let none : m .depth ≡ 0
+    = sym (frames-length (m .below) (m .others) (m .backs) (m .goal) (m .back) (m .depth)) ∙ ap length (c .pre .shown) in
+    (c .pre .standing, omega arith)
 
 returns : tie.Need-returns
 returns c =
-    let r = c .open-frame .ensures in
+    let r = c .extend-single .ensures in
     let b = c .before in
-    let m = b .args .self in
     record {
-      deep = r .deep;
-      shown = r .shown
-          ∙ ap (λ (fs : Frames ℕ). literals (b .args .column) ∷ fs) (frames-none (m .goals) (m .others) (m .depth) (b .pre .0));
+      standing = r .standing;
+      shown = r .shown ∙ ap (λ (fs : Frames ℕ). (b .args .goal ∷ []) ∷ fs) (b .pre .shown);
     }
 
 pub start-spec : {M : Type 1} → statement M
-start-spec = tie.close (tie.spec open-frame-requires returns)
+start-spec = tie.close (tie.spec extend-single-requires returns)
