@@ -18,10 +18,11 @@ pub struct Remainder {
     pub other: u64,
 }
 
-// The open frames. Beside the goal, that of the last frame, a frame may have one other open literal: `back` frames are left
-// open when the goal is closed, up to the last frame with an other literal. An array has at f what frame f was opened with:
-// the goal under it, its other literal and the `back` of then. So closing a goal writes to no array, and a frame of one
-// literal is opened by one write: handing the machine on copies what was written.
+// The open frames. A frame is its goal and at most one other open literal, since a column has at most three and one of them is
+// connected. `goal` is that of the last frame; `back` frames are left when it is closed: those up to the last that has another
+// open literal. At f an array has what frame f was opened with: the goal under it, its other literal, `back` as it was then.
+// So closing a goal writes to no array and opening a frame of one literal to one only, and handing the machine on copies little
+// else than what was written.
 pub struct Machine {
     pub depth: usize,
     pub goal: u64,
@@ -31,8 +32,8 @@ pub struct Machine {
     pub backs: [u8; Machine::FRAMES],
 }
 
-// What a step is tested against: how many frames are open, the goal, and the goal of the frame that a reduction names. If
-// that is no frame below the last, `lower` is the goal, which is not its own complement.
+// What a step is tested against: how many frames are open, the goal, and the goal of the frame that a reduction names. Where
+// that is no frame below the last, `lower` is the goal itself: no literal is its own complement, so that row 22 refuses.
 pub struct Aim {
     pub depth: usize,
     pub goal: u64,
@@ -72,7 +73,7 @@ pub fn leave_out(column: Column, position: usize) -> Remainder
     }
 }
 
-// Where a reduction names a frame.
+// What a step that may name a frame is tested against.
 pub fn aim_at(below: &[u64; Machine::FRAMES], goal: u64, depth: usize, frame: u16) -> Aim
     requires { ⌜ depth ≤ frameLimit ⌝ }
     ensures { λ r. ⌜ ((o b : List ℕ) (back : ℕ) → Aims r (framesFrom (now (below .entry)) o b goal back depth) frame) ⌝ }
@@ -89,6 +90,7 @@ pub fn aim_at(below: &[u64; Machine::FRAMES], goal: u64, depth: usize, frame: u1
     }
 }
 
+// A function of its own, since a cast of an array's entry is to be shown to fit.
 fn widen(x: u8) -> usize
     ensures { λ r. ⌜ r ≡ x ⌝ }
 {

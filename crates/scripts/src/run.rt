@@ -26,18 +26,17 @@ use records::fields::Record;
 ghost use mathlib.Core.Path.{_≡_};
 ghost use mathlib.Core.Bool.{_||_};
 ghost use mathlib.Core.List.{[], _∷_};
-ghost use Prim.Native.Nat.{ℕ, _≤_};
+ghost use Prim.Native.Nat.{_≤_};
 ghost use lib.Dec.{ltb};
 ghost use Rattle.columns.specs.Code.Packed.{literals};
 ghost use Rattle.scripts.specs.Format.{entryAt, entries, extensionOf};
 ghost use Rattle.scripts.specs.Calculus.{frameLimit};
 ghost use Rattle.records.specs.Finite.{isNil};
-ghost use Rattle.scripts.specs.Run.{Frames};
 ghost use Rattle.scripts.specs.Code.Codes.{opposed};
 ghost use Rattle.scripts.specs.Code.Index.{TermsBefore, AllNumbered, fewEntries, Blank};
 ghost use Rattle.scripts.specs.Code.Machine.{left};
 ghost use Rattle.scripts.specs.Code.Numbered.{usedNumbers};
-ghost use Rattle.scripts.specs.Code.Tested.{Aims, ExtensionTested, StepTested, runAfter, chainOutcome};
+ghost use Rattle.scripts.specs.Code.Tested.{ExtensionTested, TestedAt, runAfter, chainOutcome};
 ghost use Rattle.scripts.specs.Answers.{judged};
 ghost use Rattle.scripts.specs.Code.Ready.{Ready, IsStep, IsRead, IsExtension};
 
@@ -127,14 +126,15 @@ fn test_extension(
     requires { ⌜ Ready (now v) (now s) (now marks) header ⌝ }
     requires { ⌜ AllNumbered (now s) (now terms) ⌝ }
     requires { ⌜ IsExtension (now s) step ⌝ }
-    ensures {
-        λ r.
-        ⌜ ExtensionTested (now (v .entry)) (now (s .entry)) (step .number) (aim .goal) (aim .depth) (extensionOf (step .entry)) r ⌝
-    }
+    ensures { λ r. ⌜ ExtensionTested (now (v .entry)) (now (s .entry)) step aim r ⌝ }
 {
     let column = used_column(v, marks, s, terms, header, step);
     let position = step.entry.w5 as usize;
-    let answer = pass_if(is_opposed(literal_at(column, position), aim.goal), 21, step.number);
+    let answer = pass_if(
+        is_opposed(literal_at(column, position), aim.goal),
+        21,
+        step.number,
+    );
     let Checked::Fine = answer else {
         return no_frame(answer);
     };
@@ -156,12 +156,7 @@ fn test_step(
     requires { ⌜ Ready (now v) (now s) (now marks) header ⌝ }
     requires { ⌜ AllNumbered (now s) (now terms) ⌝ }
     requires { ⌜ IsRead (now s) step ⌝ }
-    ensures {
-        λ r.
-        ⌜ ((frames : Frames ℕ)
-            → Aims aim frames (step .entry .w1)
-            → StepTested (now (v .entry)) (now (s .entry)) (step .number) frames r) ⌝
-    }
+    ensures { λ r. ⌜ TestedAt (now (v .entry)) (now (s .entry)) step aim r ⌝ }
 {
     let answer = pass_if(aim.depth != 0, 25, step.number);
     let Checked::Fine = answer else {
@@ -203,7 +198,18 @@ fn run_steps(
     while at != 0 {
         let e = read_entry(s, at);
         let aim = aim_at(&state.below, state.goal, state.depth, e.w1);
-        let tested = test_step(v, marks, s, terms, header, StepRecord { number: at, entry: e }, aim);
+        let tested = test_step(
+            v,
+            marks,
+            s,
+            terms,
+            header,
+            StepRecord {
+                number: at,
+                entry: e,
+            },
+            aim,
+        );
         let answer = tested.answer;
         let Checked::Fine = answer else {
             return judge_after(answer, 0);
@@ -247,13 +253,7 @@ fn run_numbering(
 }
 
 // Does so for few terms in small tables: to zero the large ones takes as long as a small call.
-fn run_few(
-    v: &[u8],
-    marks: &[bool; Record::LIMIT],
-    s: &[u8],
-    end: usize,
-    start: Start,
-) -> Judged
+fn run_few(v: &[u8], marks: &[bool; Record::LIMIT], s: &[u8], end: usize, start: Start) -> Judged
     requires { ⌜ Ready (now v) (now s) (now marks) (entryAt (now s) 0) ⌝ }
     requires { ⌜ IsStep (now s) (start .number) ⌝ }
     requires { ⌜ TermsBefore (now s) end ⌝ }

@@ -87,5 +87,6 @@ read-extends v s marks header r t x =
     let f = keeps-form v s (r .form) in
     let i = t .number in
     let here = x .read .step in
-    extends v s (accepted-vocabulary v _ (r .begun .marked .vocabulary)) f i (extensionOf (t .entry)) (omega (arith, here .within))
+    extends v s (accepted-vocabulary v _ (r .begun .marked .vocabulary)) f i (extensionOf (t .entry))
+    (omega (arith, here .within))
     (step-extension v s i (t .entry) (x .kind) ∙ (rw (x .read .read) (f .steps i (here .positive) (here .within))))

@@ -4,7 +4,8 @@
 --   without-first, without-second, without-third     the literals without the one at a position
 --   left-none, shows-none, shows-single, shows-pair  a column's other literals are the next frame; with none the goal is closed
 --   nil-frames                                       no frame is open where their number is 0
---   frames-length, goal-last, goal-below             there are as many frames as are asked for; their goals
+--   frames-length, depth-length                      there are as many frames as are asked for
+--   goal-last, goal-below                            their goals
 --   frames-single, frames-pair                       a frame of one literal or two is written, and those under it are as before
 --   close-all, close-back                            the goal closed: no frame is left; the last with another open literal is
 --   backs-set                                        a frame that is opened leads back to one below
@@ -22,7 +23,7 @@ use borrow.Author.Tests.{eq-eqb, ne-eqb}
 use Rattle.columns.specs.Code.Packed.{untilZero}
 use Rattle.records.specs.Finite.{isNil, without}
 use Rattle.scripts.specs.Run.{Frames, close, extendBy}
-use Rattle.scripts.specs.Code.Machine.{frameOf, framesFrom, Shows}
+use Rattle.scripts.specs.Code.Machine.{frameOf, framesFrom, framesOf, Shows}
 use Rattle.scripts.specs.declared.machine.Machine.{Machine}
 
 pub entries-length : (l : List ℕ) (n : ℕ) → length (map (λ x. x) l) ≡ n → length l ≡ n
@@ -72,7 +73,8 @@ without-third (suc a) (suc b) (suc c) p k h = let e : p ≡ 2 = omega arith in r
 pub left-none : (a b : ℕ) → a ≡ 0 → untilZero a b 0 ≡ []
 left-none a b e = rw e
 
--- A column's other literals, a and b, are the next frame; with none the goal is closed. m is the machine then, as n.
+-- Where a and b are a column's other literals: they are the next frame; with none the goal is closed. n is the machine m by
+-- another name.
 module _ (m n : Machine) (e : n ≡ m) (a b : ℕ) (frames : Frames ℕ) where
   shows-as : (fs : Frames ℕ) → Shows m fs → fs ≡ extendBy (untilZero a b 0) frames
       → Shows n (extendBy (untilZero a b 0) frames)
@@ -141,7 +143,7 @@ module _ (below others backs : List ℕ) where
           rw (z, e) (goal-last (getD below n 0) after n d (omega arith))
       at lower (no q) = let z : suc n - suc f ≡ suc (n - suc f) = omega arith in rw z (lower (omega arith))
 
-  -- Lists that have the same below n have the same first n frames.
+  -- Arrays that have the same below n have the same first n frames.
   frames-same : (below' others' backs' : List ℕ) (n : ℕ) → ((f : ℕ) → f < n → getD below' f 0 ≡ getD below f 0)
       → ((f : ℕ) → f < n → getD others' f 0 ≡ getD others f 0) → ((f : ℕ) → f < n → getD backs' f 0 ≡ getD backs f 0)
       → (goal back m : ℕ) → m ≤ n
@@ -151,7 +153,7 @@ module _ (below others backs : List ℕ) where
   frames-same below' others' backs' n u o b goal back (suc m) h =
       rw (u m (omega arith), o m (omega arith), b m (omega arith))
       (ap (λ (fs : Frames ℕ). frameOf (eqb back (suc m)) goal (getD others m 0) ∷ fs)
-      (frames-same below' others' backs' n u o b (getD below m 0) (cond (eqb back (suc m)) (getD backs m 0) back) m (omega arith)))
+      (frames-same below' others' backs' n u o b (getD below m 0) _ m (omega arith)))
 
   -- Frame n is opened; m is the depth then.
   module _ (goal back n m g : ℕ) (e : m ≡ suc n) (behind : back ≤ n) (h : n < length below) where
@@ -169,8 +171,13 @@ module _ (below others backs : List ℕ) where
         ≡ (g ∷ o ∷ []) ∷ framesFrom below others backs goal back n
     unfolding framesFrom
     frames-pair o l k =
-        rw (e, eq-eqb (suc n) (suc n) refl, getD-set-same below n goal 0 h, getD-set-same others n o 0 l,
-          getD-set-same backs n back 0 k)
+        rw (
+          e,
+          eq-eqb (suc n) (suc n) refl,
+          getD-set-same below n goal 0 h,
+          getD-set-same others n o 0 l,
+          getD-set-same backs n back 0 k,
+        )
         (ap (λ (fs : Frames ℕ). (g ∷ o ∷ []) ∷ fs)
         (frames-same (set below n goal) (set others n o) (set backs n back) n
         (λ f l. getD-set-other below n f goal 0 (λ q. omega arith)) (λ f l. getD-set-other others n f o 0 (λ q. omega arith))
@@ -206,6 +213,9 @@ module _ (below others backs : List ℕ) where
     pub close-back : (goal back n b : ℕ) → back ≡ suc m → back ≤ n → b ≡ getD backs m 0
         → framesFrom below others backs (getD others m 0) b back ≡ close (framesFrom below others backs goal back n)
     close-back goal back n b e h r = rw (e, r) (close-suc goal n (omega arith))
+
+pub depth-length : (m : Machine) → length (framesOf m) ≡ m .depth
+depth-length m = frames-length (m .below) (m .others) (m .backs) (m .goal) (m .back) (m .depth)
 
 pub backs-set : (backs : List ℕ) (n x : ℕ) → x ≤ n → ((f : ℕ) → getD backs f 0 ≤ f) → n < length backs → (f : ℕ)
     → getD (set backs n x) f 0 ≤ f

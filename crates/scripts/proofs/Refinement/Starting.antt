@@ -4,7 +4,7 @@
 --   first-step                               a first step that is not 0 is a step
 --   chain-none, chain-other, chain-started   the chain's outcome: no step, another first step, a start
 -- Assumes nothing.
-use Prim.Native.Nat.{ℕ, zero, suc, _≤_, _<_}
+use Prim.Native.Nat.{ℕ, zero, suc, _≤_}
 use native.Mathlib.Omega.{arith}
 use mathlib.Core.Path.{_≡_, refl, sym, ap, _∙_}
 use mathlib.Core.Bool.{Bool, true, false, not}

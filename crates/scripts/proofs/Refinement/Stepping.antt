@@ -49,12 +49,17 @@ module _ (below others backs : List ℕ) (goal back n f : ℕ) where
       → opposed (getD below above 0) goal ≡ reducesTo (framesFrom below others backs goal back n) f goal
   reduce-frames above e h =
       let l : suc f < n = omega arith in
-      rw (e, frames-length below others backs goal back n, lt-ltb (suc f) n l, goal-below below others backs goal back n f noNumber l)
+      rw (e, frames-length below others backs goal back n, lt-ltb (suc f) n l)
+      (ap (λ (x : ℕ). opposed x goal) (sym (goal-below below others backs goal back n f noNumber l)))
 
   pub reduce-never : n ≤ suc f → opposed goal goal ≡ reducesTo (framesFrom below others backs goal back n) f goal
   reduce-never l =
-      rw (eq-eqb (goal / 2) (goal / 2) refl, eq-eqb goal goal refl, frames-length below others backs goal back n,
-        le-ltb (suc f) n l)
+      rw (
+        eq-eqb (goal / 2) (goal / 2) refl,
+        eq-eqb goal goal refl,
+        frames-length below others backs goal back n,
+        le-ltb (suc f) n l,
+      )
 
 pub room-left : (a b n : ℕ) → (isNil (untilZero a b 0) || ltb n frameLimit) ≡ true → 0 < a → n < frameLimit
 room-left zero b n e h = absurd (omega arith)

@@ -15,13 +15,14 @@ use Rattle.scripts.specs.declared.machine.Machine.{Machine}
 abbrev pub left : Remainder → List ℕ
 left r = untilZero (r .goal) (r .other) 0
 
--- The open literals of a frame, of which the second may be closed.
+-- The open literals of a frame: its goal, and its other literal where that is still open.
 abbrev pub frameOf : Bool → ℕ → ℕ → List ℕ
 frameOf true goal other = goal ∷ other ∷ []
 frameOf false goal other = goal ∷ []
 
--- The first n frames, the last of them first: its goal, and the number `back` of the frames up to the last with another open
--- literal, or 0. At f stand the goal under frame f, the other literal that it was opened with, and the `back` under it.
+-- The first n frames, the last of them first. `goal` is the goal of the last, `back` the number of frames up to the last that
+-- has another open literal; 0 if none has. At f an array has what frame f was opened with: the goal of the frame under it, its
+-- other literal, and `back` as it was then.
 module _ (below others backs : List ℕ) where
   unfoldable pub framesFrom : ℕ → ℕ → ℕ → Frames ℕ
   framesFrom goal back zero = []
@@ -32,7 +33,7 @@ module _ (below others backs : List ℕ) where
 abbrev pub framesOf : Machine → Frames ℕ
 framesOf m = framesFrom (m .below) (m .others) (m .backs) (m .goal) (m .back) (m .depth)
 
--- The frames are within the limit, and `back` leads to one of them, from each to one below.
+-- The frames are within the limit; `back` leads to one of them, and from each to one below it.
 pub record Standing (m : Machine) : Type 0 where
   pub deep : m .depth ≤ frameLimit
   pub back : m .back ≤ m .depth

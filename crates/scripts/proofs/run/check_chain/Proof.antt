@@ -1,11 +1,10 @@
 -- `scripts::run::check_chain` meets its contract. The first step is a start, as row 20 asks; from its column the
 -- other steps are run.
 -- Assumes nothing.
-use Prim.Native.Nat.{_≤_, _<_}
+use Prim.Native.Nat.{_≤_}
 use native.Mathlib.Omega.{arith}
 use mathlib.Core.Path.{_≡_, sym, ap, subst, _∙_}
 use mathlib.Core.List.{[], _∷_}
-use lib.ListN.{length}
 use denote.Ref.{now}
 use borrow.Author.Needs.{needs}
 use borrow.Author.Tests.{eqb-true}
@@ -24,15 +23,22 @@ use Rattle.scripts.proofs.Invariants.Indexing.{blank-tables}
 use Rattle.scripts.proofs.run.check_chain.Statement.{statement}
 use Rattle.scripts.proofs.run.check_chain.Tie as tie
 
--- Places: the start, where there is a first step, after it was read, where it is a start.
+-- Places: the start, from where the first step was looked for and where there is one; after it was read, where it is a start;
+-- after the last term was found, where the tables stand.
+abbrev lent : tie.After-pass-if → tie.Start
+lent c = c .before .before .before .before
+
 abbrev start : tie.After-enum-told → tie.Start
-start c = c .before .before .before .before .before .before
+start c = lent (c .before .before)
 
 abbrev found : tie.After-pass-if2 → tie.After-read-entry
 found c = c .before .before
 
 abbrev begun : tie.After-enum-told3 → tie.After-read-entry
 begun c = found (c .before .before)
+
+abbrev ended : tie.After-terms → tie.After-find-end
+ended c = c .before .before .before
 
 form : (c : tie.Start) → KeepsForm (now (c .args .v)) (now (c .args .s))
 form c = keeps-form _ _ (c .pre .form)
@@ -51,7 +57,7 @@ first c =
 returns : tie.Need-returns
 returns c =
     let p = c .before .before .before in
-    let b = p .before .before .before .before in
+    let b = lent p in
     chain-none (now (b .args .v)) (now (b .args .s)) (form b) _ _ _ _ _ (first-at b) (c .before .enum-told2 .given .1)
     (p .pass-if .ensures) (c .judge-after .ensures)
 
@@ -128,7 +134,7 @@ returns-3 c = answered (c .before .before .before) (c .run-few .result) (c .run-
 
 run-numbering-requires : tie.Need-run-numbering-requires
 run-numbering-requires c κs =
-    let f = c .before .before .before in
+    let f = ended c in
     let q = f .before in
     let most = form (at-query q) .sized .most in
     let s = now (at-query q .args .s) in
@@ -138,7 +144,7 @@ run-numbering-requires c κs =
 returns-4 : tie.Need-returns-4
 returns-4 c =
     let r = c .before .before in
-    answered (r .before .before .before .before .before) (r .run-numbering .result) (r .run-numbering .ensures)
+    answered (ended (r .before) .before) (r .run-numbering .result) (r .run-numbering .ensures)
 
 pub check-chain-spec : {M : Type 1} → statement M
 check-chain-spec =

@@ -1,7 +1,7 @@
 -- `scripts::run::run_steps` meets its contract. The loop's invariant: the steps made and those from `at` on are the run from the
 -- frames that the start left; the machine's frames stand. The walk ends since the links of a passed form rise.
 -- Assumes nothing.
-use Prim.Native.Nat.{ℕ, _<_, _≤_}
+use Prim.Native.Nat.{ℕ, _<_}
 use native.Mathlib.Omega.{arith}
 use mathlib.Core.Path.{_≡_, refl, sym, ap, subst, _∙_}
 use mathlib.Core.Logic.{⊎-elim}
@@ -18,7 +18,7 @@ use Rattle.scripts.specs.Code.Tested.{StepTested, runAfter}
 use Rattle.scripts.specs.Code.Ready.{Ready, IsStep}
 use Rattle.scripts.specs.declared.entry.Entry.{Entry}
 use Rattle.scripts.proofs.Theorems.Form.{KeepsForm, keeps-form}
-use Rattle.scripts.proofs.Refinement.Frames.{frames-length, shows-none, shows-single, shows-pair}
+use Rattle.scripts.proofs.Refinement.Frames.{depth-length, shows-none, shows-single, shows-pair}
 use Rattle.scripts.proofs.Invariants.Walk.{Walk, standing, walk-start, walk-next, walk-refused, walk-done, walk-falls}
 use Rattle.scripts.proofs.run.run_steps.Statement.{statement}
 use Rattle.scripts.proofs.run.run_steps.Tie as tie
@@ -130,8 +130,7 @@ stands c = walked c .before .loop .inv .1
 room : (c : tie.After-struct-known2 Inv-loop μ-loop) → 0 < tested (passed c) .test-step .result .remainder .goal
     → walked c .before .loop .state .depth < frameLimit
 room c h =
-    let m = walked c .before .loop .state in
-    subst (λ (n : ℕ). n < frameLimit) (frames-length (m .below) (m .others) (m .backs) (m .goal) (m .back) (m .depth))
+    subst (λ (n : ℕ). n < frameLimit) (depth-length (walked c .before .loop .state))
     (facts (tested (passed c)) .room (ap checked (passed c .enum-told .given .1)) h)
 
 reduce-requires : tie.Need-reduce-requires Inv-loop μ-loop
@@ -198,9 +197,8 @@ returns-2 : tie.Need-returns-2 Inv-loop μ-loop
 returns-2 c =
     let e = c .before .before in
     let b = start (started (e .before)) in
-    let m = e .before .loop .state in
     walk-done (now (b .args .v)) (now (b .args .s)) _ _ _ _ _ _ (e .before .loop .inv .0)
-    (sym (frames-length (m .below) (m .others) (m .backs) (m .goal) (m .back) (m .depth))) (e .loop-test .left) _ _
+    (sym (depth-length (e .before .loop .state))) (e .loop-test .left) _ _
     (c .before .pass-if .ensures) (c .judge-after2 .ensures)
     ∙ ap (λ (fs : Frames ℕ). runAfter (now (b .args .v)) (now (b .args .s)) fs (b .args .start .number))
     (started (e .before) .start .ensures .shown)
@@ -209,6 +207,7 @@ pub run-steps-spec : {M : Type 1} → statement M
 run-steps-spec =
     tie.close
     (tie.spec Inv-loop μ-loop read-entry-requires (λ c κs. tt) start-requires read-entry-requires-2
-    (λ c. omega (arith, c .before .read-entry2 .ok)) loop-holds read-entry-requires-3 aim-at-requires test-step-requires (λ c. search needs) (λ c. search needs) (λ c κs. tt)
+    (λ c. omega (arith, c .before .read-entry2 .ok)) loop-holds read-entry-requires-3 aim-at-requires test-step-requires
+    (λ c. search needs) (λ c. search needs) (λ c κs. tt)
     returns reduce-requires close-requires extend-single-requires extend-pair-requires add-steps (λ c. omega arith) loop-less
     loop-again (λ c κs. tt) (λ c κs. tt) returns-2)

@@ -51,7 +51,8 @@ row21 c =
 abbrev row23 : tie.Start → Check
 row23 c =
     let a = c .args in
-    require (isNil (remainderIn (numbered (now (a .v)) (now (a .s))) (named c)) || ltb (a .aim .depth) frameLimit) 23 (a .step .number)
+    let room = isNil (remainderIn (numbered (now (a .v)) (now (a .s))) (named c)) || ltb (a .aim .depth) frameLimit in
+    require room 23 (a .step .number)
 
 used-column-requires : tie.Need-used-column-requires
 used-column-requires c κs = c .before .before .before .pre

@@ -33,9 +33,12 @@ no-pass e = clash (cc)
 four-five : (a b : ℕ) → a ≡ b → a ≡ 4 → b ≡ 5 → ⊥
 four-five a b e h k = omega arith
 
--- Places: the start, after row 25 was tried, where a frame is open.
+-- Places: the start, from where the slices are lent and where row 25 was tried; where a frame is open.
+abbrev lent : tie.After-shared-slice-known3 → tie.Start
+lent c = c .before .before .before
+
 abbrev start : tie.After-pass-if → tie.Start
-start c = c .before .before .before .before .before
+start c = lent (c .before .before)
 
 abbrev tried : tie.After-enum-told → tie.After-pass-if
 tried c = c .before .before
@@ -91,7 +94,8 @@ returns-2 c frames k =
     let step = step-extending (now (a .s)) (a .step .number) e read four in
     record {
       rows = then-fine _ _ _ _ (opened frames (tried o) k) (o .enum-told .given .1) (x .rows)
-          ∙ extension-rows (now (a .v)) (now (a .s)) (a .step .number) frames (extensionOf e) step _ _ (aimed frames o k) (k .depth);
+          ∙ extension-rows (now (a .v)) (now (a .s)) (a .step .number) frames (extensionOf e) step _ _ (aimed frames o k)
+          (k .depth);
       after = λ q. ap (λ (l : List ℕ). extendBy l frames) (x .remainder q)
           ∙ extension-after (now (a .v)) (now (a .s)) (a .step .number) frames (extensionOf e) step;
       room = λ q h. subst (λ (n : ℕ). n < frameLimit) (k .depth) (x .room q h);

@@ -8,9 +8,13 @@ use Rattle.scripts.proofs.Refinement.Frames.{close-all, close-back}
 use Rattle.scripts.proofs.machine.Machine.close.Statement.{statement}
 use Rattle.scripts.proofs.machine.Machine.close.Tie as tie
 
+-- The start, from where the arrays are known.
+abbrev start : tie.After-backs → tie.Start
+start c = c .before .before .before
+
 returns : tie.Need-returns
 returns c =
-    let b = c .before .before .before .before in
+    let b = start (c .before) in
     let m = b .args .self in
     let p = b .pre in
     record {
@@ -19,14 +23,14 @@ returns c =
     }
 
 array-read-goal : tie.Need-array-read-goal
-array-read-goal c = let p = c .before .before .before .before .pre in omega (arith, p .deep, p .back)
+array-read-goal c = let p = start (c .before) .pre in omega (arith, p .deep, p .back)
 
 array-read-widen : tie.Need-array-read-widen
-array-read-widen c = let p = c .before .before .before .before .pre in omega (arith, p .deep, p .back)
+array-read-widen c = let p = start (c .before) .pre in omega (arith, p .deep, p .back)
 
 returns-2 : tie.Need-returns-2
 returns-2 c =
-    let b = c .before .before .before .before .before in
+    let b = start (c .before .before) in
     let m = b .args .self in
     let p = b .pre in
     let f = m .back - 1 in

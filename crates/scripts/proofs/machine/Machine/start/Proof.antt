@@ -6,15 +6,13 @@ use mathlib.Core.Path.{_≡_, ap, sym, _∙_}
 use mathlib.Core.List.{[], _∷_}
 use lib.ListN.{length}
 use Rattle.scripts.specs.Run.{Frames}
-use Rattle.scripts.proofs.Refinement.Frames.{frames-length}
+use Rattle.scripts.proofs.Refinement.Frames.{depth-length}
 use Rattle.scripts.proofs.machine.Machine.start.Statement.{statement}
 use Rattle.scripts.proofs.machine.Machine.start.Tie as tie
 
 extend-single-requires : tie.Need-extend-single-requires
 extend-single-requires c κs =
-    let m = c .args .self in
-    let none : m .depth ≡ 0
-    = sym (frames-length (m .below) (m .others) (m .backs) (m .goal) (m .back) (m .depth)) ∙ ap length (c .pre .shown) in
+    let none : c .args .self .depth ≡ 0 = sym (depth-length (c .args .self)) ∙ ap length (c .pre .shown) in
     (c .pre .standing, omega arith)
 
 returns : tie.Need-returns
