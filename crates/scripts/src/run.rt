@@ -47,7 +47,7 @@ pub struct Tested {
     pub remainder: Remainder,
 }
 
-// A start: the number of its record, and the literal of its column, the goal of frame 0.
+// A start: the number of its record, and the literal of its query column, which is the goal of frame 0.
 pub struct Start {
     pub number: usize,
     pub goal: u64,
@@ -198,23 +198,17 @@ fn run_steps(
     while at != 0 {
         let e = read_entry(s, at);
         let aim = aim_at(&state.below, state.goal, state.depth, e.w1);
-        let tested = test_step(
-            v,
-            marks,
-            s,
-            terms,
-            header,
-            StepRecord {
-                number: at,
-                entry: e,
-            },
-            aim,
-        );
+        let step = StepRecord {
+            number: at,
+            entry: e,
+        };
+        let tested = test_step(v, marks, s, terms, header, step, aim);
         let answer = tested.answer;
         let Checked::Fine = answer else {
             return judge_after(answer, 0);
         };
         let next = tested.remainder;
+        // Assigned in each branch: where branches meet in a method, the machine is copied whole.
         if e.w0 == 5 {
             state = state.reduce();
         } else if next.goal == 0 {
