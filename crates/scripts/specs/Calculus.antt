@@ -51,18 +51,18 @@ height ended = 0
 height (reduced f l p d) = max 1 (height d)
 height (extended e l p above d) = max (suc (height above)) (height d)
 
--- "At most 64 frames."
-abbrev pub frameLimit : ℕ
-frameLimit = 64
-
 -- Query column n; "Start opens frame 0 with its column."
 abbrev pub startColumn : List ℕ → Query → ℕ → List (Literal SkolemTerm)
 startColumn v q n = instanceAt 0 constant constant (columnAt v q 0 n)
 
--- These steps are a derivation of at most 64 open frames: start, with a query column and no path, then extensions and reductions.
+-- These steps are a derivation: start, with a query column and no path, then extensions and reductions. "At most 64 frames."
 pub record Derives (v : List ℕ) (q : Query) (list : List (Step SkolemTerm)) : Type 0 where
   pub column : ℕ
   pub listed : column ≤ 1
   pub derivation : Derivation v q (startColumn v q column) []
   pub same : list ≡ start column ∷ steps derivation
-  pub frames : height derivation ≤ frameLimit
+  pub frames : height derivation ≤ 64
+
+-- The same figure where a check, the code or a law cites it by name.
+abbrev pub frameLimit : ℕ
+frameLimit = 64

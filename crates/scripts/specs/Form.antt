@@ -1,5 +1,5 @@
 -- Rows 13 to 19 of the table of refusals: the form of a script.
-use Prim.Native.Nat.{ℕ, _*_, _-_, _%_}
+use Prim.Native.Nat.{ℕ, _-_, _%_}
 use mathlib.Core.Bool.{Bool, true, false, Bool·beq, not, _&&_, _||_}
 use mathlib.Core.List.{List, [], _∷_}
 use lib.ListN.{length}
@@ -11,14 +11,13 @@ use Rattle.records.specs.Kinds.{isRestriction}
 use Rattle.types.specs.Comparison.{termCheck}
 use Rattle.columns.specs.Columns.{Query, Column, columnAt, takesY}
 use Rattle.scripts.specs.Steps.{Extension, Step, start, extension, reduction}
-use Rattle.scripts.specs.Format.{entrySize, entryLimit, entryAt, entries, queryOf, firstStep, Line, blank, theConstant}
+use Rattle.scripts.specs.Format.{entryAt, entries, queryOf, firstStep, Line, blank, theConstant}
 use Rattle.scripts.specs.Format.{applied, step, kindOf, lineOf, isTerm, isStep, nextStep}
 use Rattle.scripts.specs.declared.entry.Entry.{Entry}
 
--- Row 13: "under 16, over 32,768 or no multiple of 16"; "at most 2,048 records"
+-- Row 13: "under 16, over 32,768 or no multiple of 16"
 abbrev pub lengthFits : List ℕ → Bool
-lengthFits s =
-    leb entrySize (length s) && (leb (length s) (entrySize * entryLimit) && eqb (length s % entrySize) 0)
+lengthFits s = leb 16 (length s) && (leb (length s) 32768 && eqb (length s % 16) 0)
 
 abbrev pub lengthCheck : List ℕ → Check
 lengthCheck s = require (lengthFits s) 13 0

@@ -40,7 +40,7 @@ entryAt s i = entryOf (partAt s i)
 abbrev pub entries : List ℕ → ℕ
 entries s = length s / entrySize
 
--- "at most 2,048 records"
+-- "at most 2,048 records": row 13 has their bytes, 32,768.
 abbrev pub entryLimit : ℕ
 entryLimit = 2048
 

@@ -40,6 +40,12 @@ impl Entry {
     }
 }
 
+// A step of a script, and the number of its record.
+pub struct StepRecord {
+    pub number: usize,
+    pub entry: Entry,
+}
+
 // Record i of a script that has it.
 pub fn read_entry(s: &[u8], i: usize) -> Entry
     requires { ⌜ HasEntry (now s) i ⌝ }

@@ -1,22 +1,43 @@
-// The machine: the open frames, handed on by value.
+// The machine: the open frames, handed on by value; and what a step is tested against.
 use columns::column::Column;
 ghost use mathlib.Core.Path.{_≡_};
-ghost use mathlib.Core.Bool.{not};
-ghost use mathlib.Core.List.{[], _∷_};
-ghost use Prim.Native.Nat.{suc, _<_};
-ghost use lib.ListN.{length, getD, drop};
+ghost use mathlib.Core.List.{List, [], _∷_};
+ghost use Prim.Native.Nat.{ℕ, _≤_, _<_};
+ghost use lib.ListN.{length, getD};
 ghost use Rattle.columns.specs.Code.Packed.{literals};
-ghost use Rattle.records.specs.Finite.{without, isNil};
+ghost use Rattle.records.specs.Finite.{without};
 ghost use Rattle.scripts.specs.Calculus.{frameLimit};
-ghost use Rattle.scripts.specs.Run.{close, extendBy};
+ghost use Rattle.scripts.specs.Run.{close};
 ghost use Rattle.scripts.specs.Code.Numbered.{noNumber};
-ghost use Rattle.scripts.specs.Code.Machine.{places, opened, framesOf, Standing, Shows};
+ghost use Rattle.scripts.specs.Code.Machine.{left, framesFrom, framesOf, Standing, Shows};
+ghost use Rattle.scripts.specs.Code.Tested.{Aims};
 
-// Frame f's literals stand in a table, which is lent (specs/Code/Machine.antt); the first `closed[f]` of them are closed,
-// and the next is its goal. So handing the machine on copies few bytes.
+// The literals of a column but one, which become the next frame: its goal and the literal after it; 0 stands for none.
+pub struct Remainder {
+    pub goal: u64,
+    pub other: u64,
+}
+
+// The open frames. A frame is its goal and at most one other open literal, since a column has at most three and one of them is
+// connected. `goal` is that of the last frame; `back` frames are left when it is closed: those up to the last that has another
+// open literal. At f an array has what frame f was opened with: the goal under it, its other literal, `back` as it was then.
+// So closing a goal writes to no array and opening a frame of one literal to one only, and handing the machine on copies little
+// else than what was written.
 pub struct Machine {
     pub depth: usize,
-    pub closed: [u8; Machine::FRAMES],
+    pub goal: u64,
+    pub back: usize,
+    pub below: [u64; Machine::FRAMES],
+    pub others: [u64; Machine::FRAMES],
+    pub backs: [u8; Machine::FRAMES],
+}
+
+// What a step is tested against: how many frames are open, the goal, and the goal of the frame that a reduction names. Where
+// that is no frame below the last, `lower` is the goal itself: no literal is its own complement, so that row 22 refuses.
+pub struct Aim {
+    pub depth: usize,
+    pub goal: u64,
+    pub lower: u64,
 }
 
 // The literal at a position of a column.
@@ -32,131 +53,156 @@ pub fn literal_at(column: Column, position: usize) -> u64
 }
 
 // A column without the literal at a position.
-pub fn leave_out(column: Column, position: usize) -> Column
+pub fn leave_out(column: Column, position: usize) -> Remainder
     requires { ⌜ position < length (literals column) ⌝ }
-    ensures { λ r. ⌜ literals r ≡ without position (literals column) ⌝ }
+    ensures { λ r. ⌜ left r ≡ without position (literals column) ⌝ }
 {
     match position {
-        0 => Column {
-            first: column.second,
-            second: column.third,
-            third: 0,
+        0 => Remainder {
+            goal: column.second,
+            other: column.third,
         },
-        1 => Column {
-            first: column.first,
-            second: column.third,
-            third: 0,
+        1 => Remainder {
+            goal: column.first,
+            other: column.third,
         },
-        _ => Column {
-            first: column.first,
-            second: column.second,
-            third: 0,
+        _ => Remainder {
+            goal: column.first,
+            other: column.second,
         },
     }
 }
 
-// The goal of a frame, of whose literals so many are closed.
-pub fn goal_at(table: &[u64; Machine::PLACES], frame: usize, closed: u8) -> u64
-    requires { ⌜ frame < frameLimit ⌝ }
-    requires { ⌜ closed < length (opened (now table) frame) ⌝ }
-    ensures { λ r. ⌜ r ≡ getD (drop closed (opened (now (table .entry)) frame)) 0 noNumber ⌝ }
+// What a step that may name a frame is tested against.
+pub fn aim_at(below: &[u64; Machine::FRAMES], goal: u64, depth: usize, frame: u16) -> Aim
+    requires { ⌜ depth ≤ frameLimit ⌝ }
+    ensures { λ r. ⌜ ((o b : List ℕ) (back : ℕ) → Aims r (framesFrom (now (below .entry)) o b goal back depth) frame) ⌝ }
 {
-    table[Machine::WIDTH * frame + closed as usize]
+    let above = frame as usize + 1;
+    if above < depth {
+        let lower = below[above];
+        return Aim { depth, goal, lower };
+    }
+    Aim {
+        depth,
+        goal,
+        lower: goal,
+    }
 }
 
-// Whether a frame has an open literal after its goal.
-fn has_next(table: &[u64; Machine::PLACES], frame: usize, closed: u8) -> bool
-    requires { ⌜ frame < frameLimit ⌝ }
-    requires { ⌜ closed < length (opened (now table) frame) ⌝ }
-    ensures { λ r. ⌜ r ≡ not (isNil (drop (suc closed) (opened (now (table .entry)) frame))) ⌝ }
+// A function of its own, since a cast of an array's entry is to be shown to fit.
+fn widen(x: u8) -> usize
+    ensures { λ r. ⌜ r ≡ x ⌝ }
 {
-    if closed >= 2 {
-        return false;
-    }
-    table[Machine::WIDTH * frame + closed as usize + 1] != 0
+    x as usize
 }
 
 impl Machine {
     // Frames open together.
     pub const FRAMES: usize = 64;
-    // Literals of a frame.
-    pub const WIDTH: usize = 3;
-    // Places of literals.
-    pub const PLACES: usize = Machine::WIDTH * Machine::FRAMES;
 
     // No frame is open.
     pub fn empty() -> Self
-        ensures { λ r. ⌜ r .depth ≡ 0 ⌝ }
+        ensures { λ r. ⌜ Shows r [] ⌝ }
     {
         Machine {
             depth: 0,
-            closed: [0; Machine::FRAMES],
+            goal: 0,
+            back: 0,
+            below: [0; Machine::FRAMES],
+            others: [0; Machine::FRAMES],
+            backs: [0; Machine::FRAMES],
         }
     }
 
-    // Opens a frame of a column's literals.
-    fn open_frame(mut self, table: &mut [u64; Machine::PLACES], column: Column) -> Self
-        requires { ⌜ Standing (now table) (self .closed) (self .depth) ⌝ }
-        requires { ⌜ self .depth < frameLimit ⌝ }
-        requires { ⌜ 0 < column .first ⌝ }
-        ensures { λ r. ⌜ Shows (now (table .exit)) r (literals column ∷ framesOf (now (table .entry)) self) ⌝ }
+    // Frame 0: the literal of a query column.
+    pub fn start(self, goal: u64) -> Self
+        requires { ⌜ Shows self [] ⌝ }
+        ensures { λ r. ⌜ Shows r ((goal ∷ []) ∷ []) ⌝ }
     {
-        let at = self.depth;
-        let place = Machine::WIDTH * at;
-        table[place] = column.first;
-        table[place + 1] = column.second;
-        table[place + 2] = column.third;
-        self.closed[at] = 0;
-        self.depth = at + 1;
-        self
+        self.extend_single(goal)
     }
 
-    // Frame 0.
-    pub fn start(self, table: &mut [u64; Machine::PLACES], column: Column) -> Self
-        requires { ⌜ self .depth ≡ 0 ⌝ }
-        requires { ⌜ length (now table) ≡ places ⌝ }
-        requires { ⌜ 0 < column .first ⌝ }
-        ensures { λ r. ⌜ Shows (now (table .exit)) r (literals column ∷ []) ⌝ }
+    // The goal is connected with a column that has one other literal, which is the next frame.
+    pub fn extend_single(self, goal: u64) -> Self
+        requires { ⌜ Standing self ⌝ }
+        requires { ⌜ self .depth < frameLimit ⌝ }
+        ensures { λ r. ⌜ Shows r ((goal ∷ []) ∷ framesOf self) ⌝ }
     {
-        self.open_frame(table, column)
+        let at = self.depth;
+        let mut below = self.below;
+        let others = self.others;
+        let backs = self.backs;
+        below[at] = self.goal;
+        Machine {
+            depth: at + 1,
+            goal,
+            back: self.back,
+            below,
+            others,
+            backs,
+        }
+    }
+
+    // The goal is connected with a column that has two other literals.
+    pub fn extend_pair(self, goal: u64, other: u64) -> Self
+        requires { ⌜ Standing self ⌝ }
+        requires { ⌜ self .depth < frameLimit ⌝ }
+        ensures { λ r. ⌜ Shows r ((goal ∷ other ∷ []) ∷ framesOf self) ⌝ }
+    {
+        let at = self.depth;
+        let mut below = self.below;
+        let mut others = self.others;
+        let mut backs = self.backs;
+        below[at] = self.goal;
+        others[at] = other;
+        backs[at] = self.back as u8;
+        Machine {
+            depth: at + 1,
+            goal,
+            back: at + 1,
+            below,
+            others,
+            backs,
+        }
     }
 
     // The goal is closed: a frame whose literals are all closed goes, and closes the goal under it.
-    pub fn close(mut self, table: &[u64; Machine::PLACES]) -> Self
-        requires { ⌜ Standing (now table) (self .closed) (self .depth) ⌝ }
-        ensures { λ r. ⌜ Shows (now (table .entry)) r (close (framesOf (now (table .entry)) self)) ⌝ }
+    pub fn close(self) -> Self
+        requires { ⌜ Standing self ⌝ }
+        ensures { λ r. ⌜ Shows r (close (framesOf self)) ⌝ }
     {
-        let mut at = self.depth;
-        while at > 0 {
-            let closed = self.closed[at - 1];
-            if has_next(table, at - 1, closed) {
-                self.closed[at - 1] = closed + 1;
-                self.depth = at;
-                return self;
-            }
-            at -= 1;
+        let below = self.below;
+        let others = self.others;
+        let backs = self.backs;
+        let depth = self.back;
+        if depth == 0 {
+            return Machine {
+                depth,
+                goal: 0,
+                back: 0,
+                below,
+                others,
+                backs,
+            };
         }
-        self.depth = 0;
-        self
-    }
-
-    // The goal is connected with a column, whose other literals are the next frame; with none it is closed.
-    pub fn extend(self, table: &mut [u64; Machine::PLACES], remainder: Column) -> Self
-        requires { ⌜ Standing (now table) (self .closed) (self .depth) ⌝ }
-        requires { ⌜ (0 < remainder .first → self .depth < frameLimit) ⌝ }
-        ensures { λ r. ⌜ Shows (now (table .exit)) r (extendBy (literals remainder) (framesOf (now (table .entry)) self)) ⌝ }
-    {
-        if remainder.first == 0 {
-            return self.close(table);
+        let goal = others[depth - 1];
+        let back = widen(backs[depth - 1]);
+        Machine {
+            depth,
+            goal,
+            back,
+            below,
+            others,
+            backs,
         }
-        self.open_frame(table, remainder)
     }
 
     // The goal is connected with the goal of a lower frame.
-    pub fn reduce(self, table: &[u64; Machine::PLACES]) -> Self
-        requires { ⌜ Standing (now table) (self .closed) (self .depth) ⌝ }
-        ensures { λ r. ⌜ Shows (now (table .entry)) r (close (framesOf (now (table .entry)) self)) ⌝ }
+    pub fn reduce(self) -> Self
+        requires { ⌜ Standing self ⌝ }
+        ensures { λ r. ⌜ Shows r (close (framesOf self)) ⌝ }
     {
-        self.close(table)
+        self.close()
     }
 }

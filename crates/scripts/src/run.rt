@@ -2,6 +2,7 @@
 use crate::answers::Judged;
 use crate::answers::judge_after;
 use crate::entry::Entry;
+use crate::entry::StepRecord;
 use crate::entry::read_entry;
 use crate::index::Index;
 use crate::index::code_in;
@@ -9,8 +10,10 @@ use crate::index::code_of;
 use crate::index::find_end;
 use crate::index::index_terms;
 use crate::index::origin_in;
+use crate::machine::Aim;
 use crate::machine::Machine;
-use crate::machine::goal_at;
+use crate::machine::Remainder;
+use crate::machine::aim_at;
 use crate::machine::leave_out;
 use crate::machine::literal_at;
 use columns::column::Column;
@@ -21,57 +24,61 @@ use records::answers::Checked;
 use records::answers::pass_if;
 use records::fields::Record;
 ghost use mathlib.Core.Path.{_≡_};
-ghost use mathlib.Core.Bool.{true, _||_};
+ghost use mathlib.Core.Bool.{_||_};
 ghost use mathlib.Core.List.{[], _∷_};
-ghost use Prim.Native.Nat.{_≤_, _<_};
-ghost use lib.ListN.{length};
+ghost use Prim.Native.Nat.{_≤_};
 ghost use lib.Dec.{ltb};
 ghost use Rattle.columns.specs.Code.Packed.{literals};
 ghost use Rattle.scripts.specs.Format.{entryAt, entries, extensionOf};
 ghost use Rattle.scripts.specs.Calculus.{frameLimit};
 ghost use Rattle.records.specs.Finite.{isNil};
-ghost use Rattle.scripts.specs.Run.{extendBy};
 ghost use Rattle.scripts.specs.Code.Codes.{opposed};
 ghost use Rattle.scripts.specs.Code.Index.{TermsBefore, AllNumbered, fewEntries, Blank};
-ghost use Rattle.scripts.specs.Code.Machine.{places, framesFrom, framesOf, Standing, Shows};
+ghost use Rattle.scripts.specs.Code.Machine.{left};
 ghost use Rattle.scripts.specs.Code.Numbered.{usedNumbers};
-ghost use Rattle.scripts.specs.Code.Tested.{reducesTo, ExtensionTested, TestedAt, runAfter, chainOutcome};
+ghost use Rattle.scripts.specs.Code.Tested.{ExtensionTested, TestedAt, runAfter, chainOutcome};
 ghost use Rattle.scripts.specs.Answers.{judged};
-ghost use Rattle.scripts.specs.Code.Ready.{Ready, IsStep, IsExtension};
+ghost use Rattle.scripts.specs.Code.Ready.{Ready, IsStep, IsRead, IsExtension};
 
 // A step's answer and, if it passed, the literals of the frame that it opens: the other literals of an extension's column.
 // A step that closes the goal has none.
 pub struct Tested {
     pub answer: Checked,
-    pub remainder: Column,
+    pub remainder: Remainder,
+}
+
+// A start: the number of its record, and the literal of its query column, which is the goal of frame 0.
+pub struct Start {
+    pub number: usize,
+    pub goal: u64,
 }
 
 // The answer of a step that opens no frame.
 fn no_frame(answer: Checked) -> Tested
     ensures { λ r. ⌜ r .answer ≡ answer ⌝ }
-    ensures { λ r. ⌜ literals (r .remainder) ≡ [] ⌝ }
+    ensures { λ r. ⌜ r .remainder .goal ≡ 0 ⌝ }
 {
     Tested {
         answer,
-        remainder: Column::none(),
+        remainder: Remainder { goal: 0, other: 0 },
     }
 }
 
-// The column that an extension uses, at its terms: e is record i.
+// The column that an extension uses, at its terms.
 fn used_column(
     v: &[u8],
     marks: &[bool; Record::LIMIT],
     s: &[u8],
     terms: &[u32],
     header: Entry,
-    i: usize,
-    e: Entry,
+    step: StepRecord,
 ) -> Column
     requires { ⌜ Ready (now v) (now s) (now marks) header ⌝ }
     requires { ⌜ AllNumbered (now s) (now terms) ⌝ }
-    requires { ⌜ IsExtension (now s) i e ⌝ }
-    ensures { λ r. ⌜ literals r ≡ usedNumbers (now (v .entry)) (now (s .entry)) (extensionOf e) ⌝ }
+    requires { ⌜ IsExtension (now s) step ⌝ }
+    ensures { λ r. ⌜ literals r ≡ usedNumbers (now (v .entry)) (now (s .entry)) (extensionOf (step .entry)) ⌝ }
 {
+    let e = step.entry;
     let x = code_in(terms, e.w3 as usize);
     let y = code_in(terms, e.w4 as usize);
     let fx = code_of(e.w1, origin_in(terms, e.w3 as usize));
@@ -97,59 +104,43 @@ fn is_opposed(l: u64, m: u64) -> bool
 }
 
 // Row 23: whether a column's other literals find room.
-fn has_room(remainder: Column, depth: usize) -> bool
-    ensures { λ r. ⌜ r ≡ (isNil (literals remainder) || ltb depth frameLimit) ⌝ }
+fn has_room(remainder: Remainder, depth: usize) -> bool
+    ensures { λ r. ⌜ r ≡ (isNil (left remainder) || ltb depth frameLimit) ⌝ }
 {
-    if remainder.first == 0 {
+    if remainder.goal == 0 {
         return true;
     }
     depth < Machine::FRAMES
 }
 
-// Rows 21 and 23: an extension against a goal, where `depth` frames are open.
+// Rows 21 and 23, at an extension.
 fn test_extension(
     v: &[u8],
     marks: &[bool; Record::LIMIT],
     s: &[u8],
     terms: &[u32],
     header: Entry,
-    i: usize,
-    e: Entry,
-    goal: u64,
-    depth: usize,
+    step: StepRecord,
+    aim: Aim,
 ) -> Tested
     requires { ⌜ Ready (now v) (now s) (now marks) header ⌝ }
     requires { ⌜ AllNumbered (now s) (now terms) ⌝ }
-    requires { ⌜ IsExtension (now s) i e ⌝ }
-    ensures { λ r. ⌜ ExtensionTested (now (v .entry)) (now (s .entry)) i goal depth (extensionOf e) r ⌝ }
+    requires { ⌜ IsExtension (now s) step ⌝ }
+    ensures { λ r. ⌜ ExtensionTested (now (v .entry)) (now (s .entry)) step aim r ⌝ }
 {
-    let column = used_column(v, marks, s, terms, header, i, e);
-    let position = e.w5 as usize;
-    let answer = pass_if(is_opposed(literal_at(column, position), goal), 21, i);
+    let column = used_column(v, marks, s, terms, header, step);
+    let position = step.entry.w5 as usize;
+    let answer = pass_if(
+        is_opposed(literal_at(column, position), aim.goal),
+        21,
+        step.number,
+    );
     let Checked::Fine = answer else {
         return no_frame(answer);
     };
     let remainder = leave_out(column, position);
-    let answer = pass_if(has_room(remainder, depth), 23, i);
+    let answer = pass_if(has_room(remainder, aim.depth), 23, step.number);
     Tested { answer, remainder }
-}
-
-// Row 22: whether the goal, that of the last frame, has its complement as the goal of a frame below.
-fn can_reduce(
-    table: &[u64; Machine::PLACES],
-    closed: &[u8; Machine::FRAMES],
-    depth: usize,
-    frame: u16,
-    goal: u64,
-) -> bool
-    requires { ⌜ Standing (now table) (now closed) depth ⌝ }
-    ensures { λ r. ⌜ r ≡ reducesTo (framesFrom (now (table .entry)) (now (closed .entry)) depth) frame goal ⌝ }
-{
-    let f = frame as usize;
-    if f + 1 < depth {
-        return is_opposed(goal_at(table, f, closed[f]), goal);
-    }
-    false
 }
 
 // One step of the chain, after the first: rows 25, 20, 21, 22, 23.
@@ -159,103 +150,74 @@ fn test_step(
     s: &[u8],
     terms: &[u32],
     header: Entry,
-    i: usize,
-    table: &[u64; Machine::PLACES],
-    closed: &[u8; Machine::FRAMES],
-    depth: usize,
+    step: StepRecord,
+    aim: Aim,
 ) -> Tested
     requires { ⌜ Ready (now v) (now s) (now marks) header ⌝ }
     requires { ⌜ AllNumbered (now s) (now terms) ⌝ }
-    requires { ⌜ IsStep (now s) i ⌝ }
-    requires { ⌜ Standing (now table) (now closed) depth ⌝ }
-    ensures { λ r. ⌜ TestedAt (now (v .entry)) (now (s .entry)) i (now (table .entry)) (now (closed .entry)) depth r ⌝ }
+    requires { ⌜ IsRead (now s) step ⌝ }
+    ensures { λ r. ⌜ TestedAt (now (v .entry)) (now (s .entry)) step aim r ⌝ }
 {
-    let answer = pass_if(depth != 0, 25, i);
+    let answer = pass_if(aim.depth != 0, 25, step.number);
     let Checked::Fine = answer else {
         return no_frame(answer);
     };
-    let e = read_entry(s, i);
-    let last = depth - 1;
-    let goal = goal_at(table, last, closed[last]);
-    let kind = e.w0;
+    let kind = step.entry.w0;
     match kind {
-        4 => test_extension(v, marks, s, terms, header, i, e, goal, depth),
+        4 => test_extension(v, marks, s, terms, header, step, aim),
         5 => {
-            let answer = pass_if(can_reduce(table, closed, depth, e.w1, goal), 22, i);
+            let answer = pass_if(is_opposed(aim.lower, aim.goal), 22, step.number);
             no_frame(answer)
         }
         _ => no_frame(Checked::Refused {
             number: 20,
-            place: i,
+            place: step.number,
         }),
     }
 }
 
-// The machine after a step that passed.
-fn advance(
-    machine: Machine,
-    table: &mut [u64; Machine::PLACES],
-    reduces: bool,
-    remainder: Column,
-) -> Machine
-    requires { ⌜ Standing (now table) (machine .closed) (machine .depth) ⌝ }
-    requires { ⌜ (0 < remainder .first → machine .depth < frameLimit) ⌝ }
-    requires { ⌜ (reduces ≡ true → remainder .first ≡ 0) ⌝ }
-    ensures { λ r. ⌜ Shows (now (table .exit)) r (extendBy (literals remainder) (framesOf (now (table .entry)) machine)) ⌝ }
-{
-    if reduces {
-        return machine.reduce(table);
-    }
-    machine.extend(table, remainder)
-}
-
-// A table with no literals.
-fn empty_table() -> [u64; Machine::PLACES]
-    ensures { λ r. ⌜ length r ≡ places ⌝ }
-{
-    [0; Machine::PLACES]
-}
-
-// The steps after a start, record `first`, whose column is frame 0.
+// The steps after a start.
 fn run_steps(
     v: &[u8],
     marks: &[bool; Record::LIMIT],
     s: &[u8],
     terms: &[u32],
-    first: usize,
-    column: Column,
+    start: Start,
 ) -> Judged
     requires { ⌜ Ready (now v) (now s) (now marks) (entryAt (now s) 0) ⌝ }
     requires { ⌜ AllNumbered (now s) (now terms) ⌝ }
-    requires { ⌜ IsStep (now s) first ⌝ }
-    requires { ⌜ 0 < column .first ⌝ }
-    ensures { λ r. ⌜ judged r ≡ runAfter (now (v .entry)) (now (s .entry)) (literals column ∷ []) first ⌝ }
+    requires { ⌜ IsStep (now s) (start .number) ⌝ }
+    ensures { λ r. ⌜ judged r ≡ runAfter (now (v .entry)) (now (s .entry)) ((start .goal ∷ []) ∷ []) (start .number) ⌝ }
 {
     // Read again: kept until here, its words would take registers from the loops of the form.
     let header = read_entry(s, 0);
-    let mut table = empty_table();
-    let mut state = Machine::empty().start(&mut table, column);
-    let mut last = first;
-    let mut at = read_entry(s, first).w7 as usize;
+    let mut state = Machine::empty().start(start.goal);
+    let mut last = start.number;
+    let mut at = read_entry(s, start.number).w7 as usize;
     let mut steps = 1;
     while at != 0 {
-        let tested = test_step(
-            v,
-            marks,
-            s,
-            terms,
-            header,
-            at,
-            &table,
-            &state.closed,
-            state.depth,
-        );
+        let e = read_entry(s, at);
+        let aim = aim_at(&state.below, state.goal, state.depth, e.w1);
+        let step = StepRecord {
+            number: at,
+            entry: e,
+        };
+        let tested = test_step(v, marks, s, terms, header, step, aim);
         let answer = tested.answer;
         let Checked::Fine = answer else {
             return judge_after(answer, 0);
         };
-        let e = read_entry(s, at);
-        state = advance(state, &mut table, e.w0 == 5, tested.remainder);
+        let next = tested.remainder;
+        // Assigned in each branch: where branches meet in a method, the machine is copied whole.
+        if e.w0 == 5 {
+            state = state.reduce();
+        } else if next.goal == 0 {
+            state = state.close();
+        } else if next.other == 0 {
+            state = state.extend_single(next.goal);
+        } else {
+            state = state.extend_pair(next.goal, next.other);
+        }
         last = at;
         steps += 1;
         at = e.w7 as usize;
@@ -269,43 +231,33 @@ fn run_numbering(
     marks: &[bool; Record::LIMIT],
     s: &[u8],
     end: usize,
-    first: usize,
-    column: Column,
+    start: Start,
     links: &mut [u16],
     terms: &mut [u32],
 ) -> Judged
     requires { ⌜ Ready (now v) (now s) (now marks) (entryAt (now s) 0) ⌝ }
-    requires { ⌜ IsStep (now s) first ⌝ }
-    requires { ⌜ 0 < column .first ⌝ }
+    requires { ⌜ IsStep (now s) (start .number) ⌝ }
     requires { ⌜ TermsBefore (now s) end ⌝ }
     requires { ⌜ end ≤ entries (now s) ⌝ }
     requires { ⌜ Blank (now s) (now links) (now terms) ⌝ }
-    ensures { λ r. ⌜ judged r ≡ runAfter (now (v .entry)) (now (s .entry)) (literals column ∷ []) first ⌝ }
+    ensures { λ r. ⌜ judged r ≡ runAfter (now (v .entry)) (now (s .entry)) ((start .goal ∷ []) ∷ []) (start .number) ⌝ }
 {
     index_terms(s, end, links, terms);
-    run_steps(v, marks, s, terms, first, column)
+    run_steps(v, marks, s, terms, start)
 }
 
 // Does so for few terms in small tables: to zero the large ones takes as long as a small call.
-fn run_few(
-    v: &[u8],
-    marks: &[bool; Record::LIMIT],
-    s: &[u8],
-    end: usize,
-    first: usize,
-    column: Column,
-) -> Judged
+fn run_few(v: &[u8], marks: &[bool; Record::LIMIT], s: &[u8], end: usize, start: Start) -> Judged
     requires { ⌜ Ready (now v) (now s) (now marks) (entryAt (now s) 0) ⌝ }
-    requires { ⌜ IsStep (now s) first ⌝ }
-    requires { ⌜ 0 < column .first ⌝ }
+    requires { ⌜ IsStep (now s) (start .number) ⌝ }
     requires { ⌜ TermsBefore (now s) end ⌝ }
     requires { ⌜ end ≤ entries (now s) ⌝ }
     requires { ⌜ end ≤ fewEntries ⌝ }
-    ensures { λ r. ⌜ judged r ≡ runAfter (now (v .entry)) (now (s .entry)) (literals column ∷ []) first ⌝ }
+    ensures { λ r. ⌜ judged r ≡ runAfter (now (v .entry)) (now (s .entry)) ((start .goal ∷ []) ∷ []) (start .number) ⌝ }
 {
     let mut links = [0; Index::LINKS * Index::FEW];
     let mut terms = [0; Index::FEW];
-    run_numbering(v, marks, s, end, first, column, &mut links, &mut terms)
+    run_numbering(v, marks, s, end, start, &mut links, &mut terms)
 }
 
 // The chain: its first step is a start, the others follow.
@@ -324,11 +276,15 @@ pub fn check_chain(v: &[u8], marks: &[bool; Record::LIMIT], s: &[u8], header: En
         return judge_after(begun, 0);
     };
     let column = query_column(header.w1, header.w2, e.w1);
+    let start = Start {
+        number: first,
+        goal: column.first,
+    };
     let end = find_end(s);
     if end <= Index::FEW {
-        return run_few(v, marks, s, end, first, column);
+        return run_few(v, marks, s, end, start);
     }
     let mut links = [0; Index::LINKS * Entry::LIMIT];
     let mut terms = [0; Entry::LIMIT];
-    run_numbering(v, marks, s, end, first, column, &mut links, &mut terms)
+    run_numbering(v, marks, s, end, start, &mut links, &mut terms)
 }

@@ -5,27 +5,25 @@
 --   Walk, walk-start, walk-next     what was run and what is left is the run
 --   walk-refused, walk-done         the answer at a refusal, and at the end
 -- Assumes nothing.
-use Prim.Native.Nat.{ℕ, zero, suc, _+_, _≤_, _<_}
+use Prim.Native.Nat.{ℕ, suc, _+_, _≤_, _<_}
 use native.Mathlib.Omega.{arith}
-use mathlib.Core.Path.{_≡_, refl, sym, ap, subst, _∙_}
+use mathlib.Core.Path.{_≡_, sym, ap, subst, _∙_}
 use mathlib.Core.List.{List, [], _∷_}
 use mathlib.Core.Logic.{inl, inr}
 use lib.ListN.{length}
 use lib.Dec.{eqb}
-use borrow.Author.Tests.{ne-eqb}
 use Rattle.records.specs.Outcome.{Outcome, Check, accepted, refused, pass, _then_, require}
 use Rattle.records.specs.Answers.{checked}
 use Rattle.records.specs.declared.answers.Checked.{Checked}
 use Rattle.records.specs.declared.answers.Checked.the-variants.{Refused}
 use Rattle.records.proofs.Theorems.Following.{Onward, follow-nil, follow-step, left, left-falls}
 use Rattle.scripts.specs.Format.{entryLimit, entries, recordStep, nextStep, chainFrom}
-use Rattle.records.specs.Finite.{isNil}
 use Rattle.scripts.specs.Run.{Frames, stepCheck, stepped, run}
-use Rattle.scripts.specs.Code.Machine.{framesFrom}
 use Rattle.scripts.specs.Code.Numbered.{numbered}
 use Rattle.scripts.specs.Code.Tested.{stepsAfter, runAfter}
 use Rattle.scripts.specs.Code.Ready.{IsStep, Reached}
 use Rattle.scripts.proofs.Theorems.Form.{KeepsForm, IsStepAt, OnChain, chain-few}
+use Rattle.scripts.proofs.Refinement.Frames.{nil-frames}
 
 pub standing : (s : List ℕ) (i : ℕ) → Reached s i → (i ≡ 0 → ⊥) → IsStep s i
 standing s i (inl e) n = absurd (n e)
@@ -113,17 +111,11 @@ module _ (v s : List ℕ) (f : KeepsForm v s) where
         let no : check ≡ refused n p = sym e ∙ ap checked r in
         a ∙ (rw (r) (sym (w .run ∙ (further t ∙ rw no))))
 
--- no frame is open exactly at depth 0
-nil-frames : (table closed : List ℕ) (n : ℕ) → eqb n 0 ≡ isNil (framesFrom table closed n)
-unfolding framesFrom
-nil-frames table closed zero = refl
-nil-frames table closed (suc n) = ne-eqb (suc n) 0 (λ z. absurd (omega arith))
-
-pub walk-done : (v s : List ℕ) (whole : Outcome ℕ) (table closed : List ℕ) (n last at steps : ℕ)
-    → Walk v s whole (framesFrom table closed n) last at steps → at ≡ 0 → (answer : Outcome ℕ) (k : Check)
+pub walk-done : (v s : List ℕ) (whole : Outcome ℕ) (frames : Frames ℕ) (n last at steps : ℕ)
+    → Walk v s whole frames last at steps → n ≡ length frames → at ≡ 0 → (answer : Outcome ℕ) (k : Check)
     → k ≡ require (eqb n 0) 24 last → answer ≡ (k then accepted steps) → answer ≡ whole
 unfolding run
-walk-done v s whole table closed n last at steps w z answer k e a =
+walk-done v s whole frames n last at steps w d z answer k e a =
     let none : chainFrom s at ≡ [] = rw z (chain-end s) in
     let same : steps + 0 ≡ steps = omega arith in
-    a ∙ (rw (e, nil-frames table closed n) (sym (w .run ∙ rw (none, same))))
+    a ∙ (rw (e, nil-frames frames n d) (sym (w .run ∙ rw (none, same))))

@@ -22,6 +22,7 @@ use Rattle.scripts.specs.Form.{earlierTerm, xFits, yFits, stepFits}
 use Rattle.scripts.specs.Code.Codes.{TermRecord, origin, functionLimit, codeOf, codeAt, codeTerm}
 use Rattle.scripts.specs.Code.Ready.{Ready, IsExtension}
 use Rattle.scripts.specs.declared.entry.Entry.{Entry}
+use Rattle.scripts.specs.declared.entry.StepRecord.{StepRecord}
 use Rattle.scripts.proofs.Refinement.Lines.{step-extension}
 use Rattle.scripts.proofs.Theorems.Form.{KeepsForm, keeps-form}
 use Rattle.scripts.proofs.Refinement.Terms.{earlier-term, code-zero, header-term, header-code, apply-valid, apply-small}
@@ -80,9 +81,12 @@ module _ (v s : List ℕ) (good : AcceptedFacts v) (f : KeepsForm v s) where
       }
 
 -- The same of a step that was read.
-pub read-extends : (v s : List ℕ) (marks : List Bool) (header : Entry) → Ready v s marks header → (i : ℕ) (e : Entry)
-    → IsExtension s i e → Extends v s (extensionOf e)
-read-extends v s marks header r i e t =
+pub read-extends : (v s : List ℕ) (marks : List Bool) (header : Entry) → Ready v s marks header → (t : StepRecord)
+    → IsExtension s t → Extends v s (extensionOf (t .entry))
+read-extends v s marks header r t x =
     let f = keeps-form v s (r .form) in
-    extends v s (accepted-vocabulary v _ (r .begun .marked .vocabulary)) f i (extensionOf e) (omega (arith, t .step .within))
-    (step-extension v s i e (t .kind) ∙ (rw (t .read) (f .steps i (t .step .positive) (t .step .within))))
+    let i = t .number in
+    let here = x .read .step in
+    extends v s (accepted-vocabulary v _ (r .begun .marked .vocabulary)) f i (extensionOf (t .entry))
+    (omega (arith, here .within))
+    (step-extension v s i (t .entry) (x .kind) ∙ (rw (x .read .read) (f .steps i (here .positive) (here .within))))

@@ -2,32 +2,29 @@
 --   entries-length                                   how many entries an array has, as owning it tells
 --   literal-first, literal-second, literal-third     the literal at a position
 --   without-first, without-second, without-third     the literals without the one at a position
---   untilZero-few, untilZero-some, untilZero-none    at most three are listed; one at least, or none, by the first
---   open-none, open-some                             a column's literals are the next frame; with none the goal is closed
---   goal-first, goal-next                            a frame's goal, and whether a literal is open after it, by the table
---   frames-length, frame-at                          there are as many frames as are asked for; a frame, counted from the start
---   written, written-size                            the table after a column's literals were written above the frames
---   frames-push, stands-push                         they are the next frame, and those under it are as before
---   frames-none, stands-none, stands-part            no frame; fewer frames
---   close-drop, close-none, close-last, close-next   the goal closed: no frame, a frame that goes, one that stays
---   stands-next                                      a frame that stays has a goal
+--   left-none, shows-none, shows-single, shows-pair  a column's other literals are the next frame; with none the goal is closed
+--   nil-frames                                       no frame is open where their number is 0
+--   frames-length, depth-length                      there are as many frames as are asked for
+--   goal-last, goal-below                            their goals
+--   frames-single, frames-pair                       a frame of one literal or two is written, and those under it are as before
+--   close-all, close-back                            the goal closed: no frame is left; the last with another open literal is
+--   backs-set                                        a frame that is opened leads back to one below
 -- Assumes nothing.
-use Prim.Native.Nat.{ℕ, zero, suc, _+_, _*_, _-_, _<_, _≤_}
+use Prim.Native.Nat.{ℕ, zero, suc, _-_, _<_, _≤_}
 use native.Mathlib.Omega.{arith}
 use native.Mathlib.Decide.{ℕ-discrete}
-use mathlib.Core.Path.{_≡_, refl, ap, sym, _∙_}
-use mathlib.Core.Bool.{Bool, true, false, not}
+use mathlib.Core.Path.{_≡_, refl, ap, sym, subst, _∙_}
+use mathlib.Core.Bool.{Bool, true, false, cond}
 use mathlib.Core.List.{List, [], _∷_, map}
-use lib.ListN.{length, getD, set, drop, length-map, length-set}
-use lib.Seq.{getD-set-same, getD-set-other}
+use lib.ListN.{length, getD, set, length-map}
 use lib.Dec.{eqb}
-use borrow.Author.Tests.{ne-eqb}
-use Rattle.records.proofs.Laws.Tests.{clash}
+use lib.Seq.{getD-set-same, getD-set-other}
+use borrow.Author.Tests.{eq-eqb, ne-eqb}
 use Rattle.columns.specs.Code.Packed.{untilZero}
-use Rattle.records.specs.Finite.{without, isNil}
-use Rattle.scripts.specs.Calculus.{frameLimit}
+use Rattle.records.specs.Finite.{isNil, without}
 use Rattle.scripts.specs.Run.{Frames, close, extendBy}
-use Rattle.scripts.specs.Code.Machine.{frameWidth, places, opened, framesFrom, Standing}
+use Rattle.scripts.specs.Code.Machine.{frameOf, framesFrom, framesOf, Shows}
+use Rattle.scripts.specs.declared.machine.Machine.{Machine}
 
 pub entries-length : (l : List ℕ) (n : ℕ) → length (map (λ x. x) l) ≡ n → length l ≡ n
 entries-length l n e = sym (length-map l (λ x. x)) ∙ e
@@ -73,250 +70,157 @@ without-third (suc a) zero c p k h = absurd (omega arith)
 without-third (suc a) (suc b) zero p k h = absurd (omega arith)
 without-third (suc a) (suc b) (suc c) p k h = let e : p ≡ 2 = omega arith in rw e
 
-pub untilZero-few : (a b c : ℕ) → length (untilZero a b c) ≤ frameWidth
-untilZero-few zero b c = omega arith
-untilZero-few (suc a) zero c = omega arith
-untilZero-few (suc a) (suc b) zero = omega arith
-untilZero-few (suc a) (suc b) (suc c) = omega arith
+pub left-none : (a b : ℕ) → a ≡ 0 → untilZero a b 0 ≡ []
+left-none a b e = rw e
 
-pub untilZero-some : (a b c : ℕ) → 0 < a → 0 < length (untilZero a b c)
-untilZero-some zero b c h = absurd (omega arith)
-untilZero-some (suc a) zero c h = omega arith
-untilZero-some (suc a) (suc b) zero h = omega arith
-untilZero-some (suc a) (suc b) (suc c) h = omega arith
+-- Where a and b are a column's other literals: they are the next frame; with none the goal is closed. n is the machine m by
+-- another name.
+module _ (m n : Machine) (e : n ≡ m) (a b : ℕ) (frames : Frames ℕ) where
+  shows-as : (fs : Frames ℕ) → Shows m fs → fs ≡ extendBy (untilZero a b 0) frames
+      → Shows n (extendBy (untilZero a b 0) frames)
+  shows-as fs s q =
+      subst (λ (x : Machine). Shows x (extendBy (untilZero a b 0) frames)) (sym e)
+      (record { standing = s .standing; shown = s .shown ∙ q })
 
-pub untilZero-none : (a b c : ℕ) → untilZero a b c ≡ [] → a ≡ 0
-untilZero-none zero b c e = refl
-untilZero-none (suc a) zero c e = let n : _≡_ {A = ℕ} 1 0 = ap length e in absurd (omega arith)
-untilZero-none (suc a) (suc b) zero e = let n : _≡_ {A = ℕ} 2 0 = ap length e in absurd (omega arith)
-untilZero-none (suc a) (suc b) (suc c) e = let n : _≡_ {A = ℕ} 3 0 = ap length e in absurd (omega arith)
+  pub shows-none : Shows m (close frames) → a ≡ 0 → Shows n (extendBy (untilZero a b 0) frames)
+  unfolding extendBy
+  shows-none s z = shows-as (close frames) s (rw z)
 
-pub open-none : (a b c : ℕ) (frames : Frames ℕ) → a ≡ 0 → close frames ≡ extendBy (untilZero a b c) frames
-unfolding extendBy
-open-none a b c frames e = rw e
-
-pub open-some : (l : List ℕ) (frames : Frames ℕ) → 0 < length l → l ∷ frames ≡ extendBy l frames
-unfolding extendBy
-open-some [] frames h = absurd (omega arith)
-open-some (x ∷ l) frames h = refl
-
--- an entry that a list has, and the first of what is left before it
-first-drop : (l : List ℕ) (k d : ℕ) → getD (drop k l) 0 d ≡ getD l k d
-first-drop [] zero d = refl
-first-drop [] (suc k) d = refl
-first-drop (x ∷ l) zero d = refl
-first-drop (x ∷ l) (suc k) d = first-drop l k d
-
--- the entry of a table at a place of three, of which k is one
-place-literal : (a b c k d x : ℕ) → k < length (untilZero a b c) → (k ≡ 0 → x ≡ a) → (k ≡ 1 → x ≡ b) → (k ≡ 2 → x ≡ c)
-    → x ≡ getD (untilZero a b c) k d
-place-literal a b c zero d x h p q r = p refl ∙ literal-first d a b c 0 refl h
-place-literal a b c (suc zero) d x h p q r = q refl ∙ literal-second d a b c 1 refl h
-place-literal a b c (suc (suc zero)) d x h p q r = r refl ∙ literal-third d a b c 2 (omega arith) h
-place-literal a b c (suc (suc (suc k))) d x h p q r = absurd (omega (arith, untilZero-few a b c))
-
--- whether there is a literal after the k-th of three
-next-listed : (a b c k x : ℕ) → k < length (untilZero a b c) → (k ≡ 0 → x ≡ b) → (k ≡ 1 → x ≡ c) → k < 2
-    → not (eqb x 0) ≡ not (isNil (drop (suc k) (untilZero a b c)))
-next-listed zero b c k x h p q m = absurd (omega arith)
-next-listed (suc a) zero c zero x h p q m = rw (p refl)
-next-listed (suc a) zero c (suc k) x h p q m = absurd (omega arith)
-next-listed (suc a) (suc b) zero zero x h p q m = rw (p refl, ne-eqb (suc b) 0 (λ z. absurd (omega arith)))
-next-listed (suc a) (suc b) zero (suc zero) x h p q m = rw (q refl)
-next-listed (suc a) (suc b) zero (suc (suc k)) x h p q m = absurd (omega arith)
-next-listed (suc a) (suc b) (suc c) zero x h p q m = rw (p refl, ne-eqb (suc b) 0 (λ z. absurd (omega arith)))
-next-listed (suc a) (suc b) (suc c) (suc zero) x h p q m = rw (q refl, ne-eqb (suc c) 0 (λ z. absurd (omega arith)))
-next-listed (suc a) (suc b) (suc c) (suc (suc k)) x h p q m = absurd (omega arith)
-
-next-never : (l : List ℕ) (k : ℕ) → length l ≤ suc k → false ≡ not (isNil (drop (suc k) l))
-next-never [] k h = refl
-next-never (x ∷ []) zero h = refl
-next-never (x ∷ []) (suc k) h = refl
-next-never (x ∷ y ∷ l) zero h = absurd (omega arith)
-next-never (x ∷ y ∷ l) (suc k) h = next-never (y ∷ l) k (omega arith)
-
--- Frame f of a table, of whose literals k are closed, and one is left.
-module _ (table : List ℕ) (f k : ℕ) (h : k < length (opened table f)) where
-  at-place : (i j : ℕ) → i ≡ j → getD table i 0 ≡ getD table j 0
-  at-place i j e = ap (λ (n : ℕ). getD table n 0) e
-
-  pub goal-first : (d : ℕ) → getD table (frameWidth * f + k) 0 ≡ getD (drop k (opened table f)) 0 d
-  goal-first d =
-      let place = frameWidth * f in
-      place-literal _ _ _ k d _ h
-      (λ e. at-place (place + k) place (omega arith))
-      (λ e. at-place (place + k) (place + 1) (omega arith))
-      (λ e. at-place (place + k) (place + 2) (omega arith))
-      ∙ sym (first-drop (opened table f) k d)
-
-  pub goal-next : k < 2 → not (eqb (getD table (frameWidth * f + k + 1) 0) 0) ≡ not (isNil (drop (suc k) (opened table f)))
-  goal-next m =
-      let place = frameWidth * f in
-      next-listed (getD table place 0) (getD table (place + 1) 0) (getD table (place + 2) 0) k (getD table (place + k + 1) 0) h
-      (λ e. at-place (place + k + 1) (place + 1) (omega arith))
-      (λ e. at-place (place + k + 1) (place + 2) (omega arith))
-      m
-
-  pub goal-few : k < frameWidth
-  goal-few =
-      let place = frameWidth * f in
-      omega (arith, untilZero-few (getD table place 0) (getD table (place + 1) 0) (getD table (place + 2) 0))
-
-  pub goal-last : 2 ≤ k → false ≡ not (isNil (drop (suc k) (opened table f)))
-  goal-last m =
-      let place = frameWidth * f in
-      next-never (opened table f) k
-      (omega (arith, untilZero-few (getD table place 0) (getD table (place + 1) 0) (getD table (place + 2) 0)))
-
-module _ (table closed : List ℕ) where
-  pub frames-length : (n : ℕ) → length (framesFrom table closed n) ≡ n
-  unfolding framesFrom
-  frames-length zero = refl
-  frames-length (suc n) = ap suc (frames-length n)
-
-  pub frame-at : (n f : ℕ) → f < n → getD (framesFrom table closed n) (n - suc f) [] ≡ drop (getD closed f 0) (opened table f)
-  unfolding framesFrom
-  frame-at zero f h = absurd (omega arith)
-  frame-at (suc n) f h = at (frame-at n f) (ℕ-discrete f n)
+  pub shows-single : Shows m ((a ∷ []) ∷ frames) → (a ≡ 0 → ⊥) → b ≡ 0 → Shows n (extendBy (untilZero a b 0) frames)
+  unfolding extendBy
+  shows-single s p z = shows-as ((a ∷ []) ∷ frames) s (at a p)
     where
-      at : (f < n → getD (framesFrom table closed n) (n - suc f) [] ≡ drop (getD closed f 0) (opened table f)) → Dec (f ≡ n)
-          → getD (framesFrom table closed (suc n)) (suc n - suc f) [] ≡ drop (getD closed f 0) (opened table f)
-      at under (yes e) = let z : suc n - suc f ≡ 0 = omega arith in rw (z, e)
-      at under (no q) = let z : suc n - suc f ≡ suc (n - suc f) = omega arith in rw z (under (omega arith))
+      at : (a : ℕ) → (a ≡ 0 → ⊥) → _≡_ {A = Frames ℕ} ((a ∷ []) ∷ frames) (extendBy (untilZero a b 0) frames)
+      at zero p = absurd (p refl)
+      at (suc a) p = rw z
 
-  pub frames-none : (n : ℕ) → n ≡ 0 → framesFrom table closed n ≡ []
+  pub shows-pair : Shows m ((a ∷ b ∷ []) ∷ frames) → (a ≡ 0 → ⊥) → (b ≡ 0 → ⊥)
+      → Shows n (extendBy (untilZero a b 0) frames)
+  unfolding extendBy
+  shows-pair s p q = shows-as ((a ∷ b ∷ []) ∷ frames) s (at a b p q)
+    where
+      at : (a b : ℕ) → (a ≡ 0 → ⊥) → (b ≡ 0 → ⊥)
+          → _≡_ {A = Frames ℕ} ((a ∷ b ∷ []) ∷ frames) (extendBy (untilZero a b 0) frames)
+      at zero b p q = absurd (p refl)
+      at (suc a) zero p q = absurd (q refl)
+      at (suc a) (suc b) p q = refl
+
+pub nil-frames : (frames : Frames ℕ) (n : ℕ) → n ≡ length frames → eqb n 0 ≡ isNil frames
+nil-frames [] n e = rw e
+nil-frames (f ∷ frames) n e = ne-eqb n 0 (λ z. omega arith)
+
+frame-goal : (b : Bool) (g o d : ℕ) → getD (frameOf b g o) 0 d ≡ g
+frame-goal true g o d = refl
+frame-goal false g o d = refl
+
+module _ (below others backs : List ℕ) where
+  pub frames-length : (goal back n : ℕ) → length (framesFrom below others backs goal back n) ≡ n
   unfolding framesFrom
-  frames-none n e = rw e
+  frames-length goal back zero = refl
+  frames-length goal back (suc n) = ap suc (frames-length _ _ n)
 
-  pub stands-part : (n m : ℕ) → n ≤ m → Standing table closed m → Standing table closed n
-  stands-part n m h s = record { deep = omega (arith, s .deep); size = s .size; goals = λ f l. s .goals f (omega arith) }
+  pub goal-last : (goal back n d : ℕ) → 0 < n → getD (getD (framesFrom below others backs goal back n) 0 []) 0 d ≡ goal
+  unfolding framesFrom
+  goal-last goal back zero d h = absurd (omega arith)
+  goal-last goal back (suc n) d h = frame-goal (eqb back (suc n)) goal (getD others n 0) d
 
-  pub stands-none : length table ≡ places → Standing table closed 0
-  stands-none e = record { deep = omega arith; size = e; goals = λ f l. absurd (omega arith) }
+  pub goal-below : (goal back n f d : ℕ) → suc f < n
+      → getD (getD (framesFrom below others backs goal back n) (n - suc f) []) 0 d ≡ getD below (suc f) 0
+  unfolding framesFrom
+  goal-below goal back zero f d h = absurd (omega arith)
+  goal-below goal back (suc n) f d h = at (goal-below (getD below n 0) after n f d) (ℕ-discrete (suc f) n)
+    where
+      after : ℕ
+      after = cond (eqb back (suc n)) (getD backs n 0) back
 
--- The table after a column's literals were written above n frames.
-module _ (table : List ℕ) (n a b c : ℕ) where
-  abbrev pub written : List ℕ
-  written = set (set (set table (frameWidth * n) a) (frameWidth * n + 1) b) (frameWidth * n + 2) c
+      under : Frames ℕ
+      under = framesFrom below others backs (getD below n 0) after n
 
-  pub written-size : length written ≡ length table
-  written-size =
-      length-set (set (set table (frameWidth * n) a) (frameWidth * n + 1) b) (frameWidth * n + 2) c
-      ∙ (length-set (set table (frameWidth * n) a) (frameWidth * n + 1) b ∙ length-set table (frameWidth * n) a)
+      at : (suc f < n → getD (getD under (n - suc f) []) 0 d ≡ getD below (suc f) 0) → Dec (suc f ≡ n)
+          → getD (getD (framesFrom below others backs goal back (suc n)) (suc n - suc f) []) 0 d ≡ getD below (suc f) 0
+      at lower (yes e) =
+          let z : suc n - suc f ≡ 1 = omega arith in
+          rw (z, e) (goal-last (getD below n 0) after n d (omega arith))
+      at lower (no q) = let z : suc n - suc f ≡ suc (n - suc f) = omega arith in rw z (lower (omega arith))
 
-  written-other : (place : ℕ) → place < frameWidth * n → getD written place 0 ≡ getD table place 0
-  written-other place h =
-      getD-set-other (set (set table (frameWidth * n) a) (frameWidth * n + 1) b) (frameWidth * n + 2) place c 0 (λ e. omega arith)
-      ∙ (getD-set-other (set table (frameWidth * n) a) (frameWidth * n + 1) place b 0 (λ e. omega arith)
-      ∙ getD-set-other table (frameWidth * n) place a 0 (λ e. omega arith))
+  -- Arrays that have the same below n have the same first n frames.
+  frames-same : (below' others' backs' : List ℕ) (n : ℕ) → ((f : ℕ) → f < n → getD below' f 0 ≡ getD below f 0)
+      → ((f : ℕ) → f < n → getD others' f 0 ≡ getD others f 0) → ((f : ℕ) → f < n → getD backs' f 0 ≡ getD backs f 0)
+      → (goal back m : ℕ) → m ≤ n
+      → framesFrom below' others' backs' goal back m ≡ framesFrom below others backs goal back m
+  unfolding framesFrom
+  frames-same below' others' backs' n u o b goal back zero h = refl
+  frames-same below' others' backs' n u o b goal back (suc m) h =
+      rw (u m (omega arith), o m (omega arith), b m (omega arith))
+      (ap (λ (fs : Frames ℕ). frameOf (eqb back (suc m)) goal (getD others m 0) ∷ fs)
+      (frames-same below' others' backs' n u o b (getD below m 0) _ m (omega arith)))
 
-  opened-below : (f : ℕ) → f < n → opened written f ≡ opened table f
-  opened-below f h =
-      rw (
-        written-other (frameWidth * f) (omega arith),
-        written-other (frameWidth * f + 1) (omega arith),
-        written-other (frameWidth * f + 2) (omega arith),
-      )
-
-  opened-new : frameWidth * n + 2 < length table → opened written n ≡ untilZero a b c
-  opened-new h =
-      let one = set table (frameWidth * n) a in
-      let two = set one (frameWidth * n + 1) b in
-      let first : getD written (frameWidth * n) 0 ≡ a
-      = getD-set-other two (frameWidth * n + 2) (frameWidth * n) c 0 (λ e. omega arith)
-      ∙ (getD-set-other one (frameWidth * n + 1) (frameWidth * n) b 0 (λ e. omega arith)
-      ∙ getD-set-same table (frameWidth * n) a 0 (omega arith)) in
-      let second : getD written (frameWidth * n + 1) 0 ≡ b
-      = getD-set-other two (frameWidth * n + 2) (frameWidth * n + 1) c 0 (λ e. omega arith)
-      ∙ getD-set-same one (frameWidth * n + 1) b 0 (omega (arith, length-set table (frameWidth * n) a)) in
-      let third : getD written (frameWidth * n + 2) 0 ≡ c
-      = getD-set-same two (frameWidth * n + 2) c 0
-      (omega (arith, length-set one (frameWidth * n + 1) b, length-set table (frameWidth * n) a)) in
-      rw (first, second, third)
-
-  module _ (closed : List ℕ) (k : ℕ) where
-    frames-below : (m : ℕ) → m ≤ n → framesFrom written (set closed n k) m ≡ framesFrom table closed m
+  -- Frame n is opened; m is the depth then.
+  module _ (goal back n m g : ℕ) (e : m ≡ suc n) (behind : back ≤ n) (h : n < length below) where
+    pub frames-single : framesFrom (set below n goal) others backs g back m
+        ≡ (g ∷ []) ∷ framesFrom below others backs goal back n
     unfolding framesFrom
-    frames-below zero h = refl
-    frames-below (suc m) h =
-        rw (getD-set-other closed n m k 0 (λ e. omega arith), opened-below m (omega arith), frames-below m (omega arith))
+    frames-single =
+        rw (e, ne-eqb back (suc n) (λ q. omega arith), getD-set-same below n goal 0 h)
+        (ap (λ (fs : Frames ℕ). (g ∷ []) ∷ fs)
+        (frames-same (set below n goal) others backs n (λ f l. getD-set-other below n f goal 0 (λ q. omega arith)) (λ f l. refl)
+        (λ f l. refl) goal back n (omega arith)))
 
-    -- the frame that is written is the last
-    pub frames-push : (m : ℕ) → m ≡ suc n → n < length closed → frameWidth * n + 2 < length table
-        → framesFrom written (set closed n k) m ≡ drop k (untilZero a b c) ∷ framesFrom table closed n
+    pub frames-pair : (o : ℕ) → n < length others → n < length backs
+        → framesFrom (set below n goal) (set others n o) (set backs n back) g m m
+        ≡ (g ∷ o ∷ []) ∷ framesFrom below others backs goal back n
     unfolding framesFrom
-    frames-push m e h l = rw (e, getD-set-same closed n k 0 h, opened-new l, frames-below n (omega arith))
+    frames-pair o l k =
+        rw (
+          e,
+          eq-eqb (suc n) (suc n) refl,
+          getD-set-same below n goal 0 h,
+          getD-set-same others n o 0 l,
+          getD-set-same backs n back 0 k,
+        )
+        (ap (λ (fs : Frames ℕ). (g ∷ o ∷ []) ∷ fs)
+        (frames-same (set below n goal) (set others n o) (set backs n back) n
+        (λ f l. getD-set-other below n f goal 0 (λ q. omega arith)) (λ f l. getD-set-other others n f o 0 (λ q. omega arith))
+        (λ f l. getD-set-other backs n f back 0 (λ q. omega arith)) goal back n (omega arith)))
 
-    pub stands-push : (m : ℕ) → m ≡ suc n → n < frameLimit → n < length closed → k < length (untilZero a b c)
-        → Standing table closed n → Standing written (set closed n k) m
-    stands-push m e d h l s =
-        record { deep = omega arith; size = written-size ∙ s .size; goals = λ f g. goals f g (ℕ-discrete f n) }
-      where
-        goals : (f : ℕ) → f < m → Dec (f ≡ n) → getD (set closed n k) f 0 < length (opened written f)
-        goals f g (yes z) = rw (z, getD-set-same closed n k 0 h, opened-new (omega (arith, s .size))) l
-        goals f g (no z) =
-            rw (getD-set-other closed n f k 0 z, opened-below f (omega arith)) (s .goals f (omega arith))
-
--- The goal is closed.
-close-drop : (l : List ℕ) (k : ℕ) (frames : Frames ℕ) → close (drop k l ∷ frames) ≡ extendBy (drop (suc k) l) frames
-unfolding close extendBy
-close-drop [] zero frames = refl
-close-drop [] (suc k) frames = refl
-close-drop (x ∷ []) zero frames = refl
-close-drop (x ∷ y ∷ l) zero frames = refl
-close-drop (x ∷ l) (suc k) frames = close-drop l k frames
-
-extend-nothing : (l : List ℕ) (frames : Frames ℕ) → not (isNil l) ≡ false → extendBy l frames ≡ close frames
-unfolding extendBy
-extend-nothing [] frames e = refl
-extend-nothing (x ∷ l) frames e = absurd (clash (cc))
-
-extend-something : (l : List ℕ) (frames : Frames ℕ) → not (isNil l) ≡ true → extendBy l frames ≡ l ∷ frames
-unfolding extendBy
-extend-something [] frames e = absurd (clash (cc))
-extend-something (x ∷ l) frames e = refl
-
-left-some : (l : List ℕ) (k : ℕ) → not (isNil (drop k l)) ≡ true → k < length l
-left-some [] zero e = absurd (clash (cc))
-left-some [] (suc k) e = absurd (clash (cc))
-left-some (x ∷ l) zero e = omega arith
-left-some (x ∷ l) (suc k) e = omega (arith, left-some l k e)
-
-module _ (table closed : List ℕ) where
-  pub close-none : (n : ℕ) → n ≡ 0 → framesFrom table closed 0 ≡ close (framesFrom table closed n)
+  close-zero : (goal n : ℕ) → close (framesFrom below others backs goal 0 n) ≡ []
   unfolding close framesFrom
-  close-none n e = rw e
+  close-zero goal zero = refl
+  close-zero goal (suc n) = rw (ne-eqb 0 (suc n) (λ q. omega arith)) (close-zero (getD below n 0) n)
 
-  -- The last frame of m is n; whether it has an open literal after its goal.
-  module _ (n m : ℕ) (e : m ≡ suc n) where
-    abbrev more : Bool
-    more = not (isNil (drop (suc (getD closed n 0)) (opened table n)))
+  -- The goal is closed: no frame has another open literal.
+  pub close-all : (goal back n g b : ℕ) → back ≡ 0
+      → framesFrom below others backs g b back ≡ close (framesFrom below others backs goal back n)
+  unfolding framesFrom
+  close-all goal back n g b e = rw e (sym (close-zero goal n))
 
-    pub close-last : more ≡ false → close (framesFrom table closed m) ≡ close (framesFrom table closed n)
-    unfolding framesFrom
-    close-last z =
-        rw e
-        (close-drop (opened table n) (getD closed n 0) (framesFrom table closed n)
-        ∙ extend-nothing (drop (suc (getD closed n 0)) (opened table n)) (framesFrom table closed n) z)
+  -- Frame m is the last that has one.
+  module _ (falls : (f : ℕ) → getD backs f 0 ≤ f) (m : ℕ) where
+    abbrev left-open : Frames ℕ
+    left-open = framesFrom below others backs (getD others m 0) (getD backs m 0) (suc m)
 
-    frames-kept : (k i : ℕ) → i ≤ n → framesFrom table (set closed n k) i ≡ framesFrom table closed i
-    unfolding framesFrom
-    frames-kept k zero h = refl
-    frames-kept k (suc i) h = rw (getD-set-other closed n i k 0 (λ z. omega arith), frames-kept k i (omega arith))
-
-    pub close-next : (k : ℕ) → k ≡ suc (getD closed n 0) → n < length closed → more ≡ true
-        → framesFrom table (set closed n k) m ≡ close (framesFrom table closed m)
-    unfolding framesFrom
-    close-next k q h z =
-        rw (e, getD-set-same closed n k 0 h, frames-kept k n (omega arith), q)
-        (sym (close-drop (opened table n) (getD closed n 0) (framesFrom table closed n)
-        ∙ extend-something (drop (suc (getD closed n 0)) (opened table n)) (framesFrom table closed n) z))
-
-    pub stands-next : (k : ℕ) → k ≡ suc (getD closed n 0) → n < length closed → more ≡ true → Standing table closed m
-        → Standing table (set closed n k) m
-    stands-next k q h z s = record { deep = s .deep; size = s .size; goals = λ f g. goals f g (ℕ-discrete f n) }
+    close-suc : (goal n : ℕ) → suc m ≤ n → left-open ≡ close (framesFrom below others backs goal (suc m) n)
+    unfolding close framesFrom
+    close-suc goal zero h = absurd (omega arith)
+    close-suc goal (suc n) h = at (close-suc (getD below n 0) n) (ℕ-discrete m n)
       where
-        goals : (f : ℕ) → f < m → Dec (f ≡ n) → getD (set closed n k) f 0 < length (opened table f)
-        goals f g (yes d) =
-            rw (d, getD-set-same closed n k 0 h, q) (left-some (opened table n) (suc (getD closed n 0)) z)
-        goals f g (no d) = rw (getD-set-other closed n f k 0 d) (s .goals f g)
+        at : (suc m ≤ n → left-open ≡ close (framesFrom below others backs (getD below n 0) (suc m) n)) → Dec (m ≡ n)
+            → left-open ≡ close (framesFrom below others backs goal (suc m) (suc n))
+        at under (yes e) =
+            rw (e, eq-eqb (suc n) (suc n) refl, ne-eqb (getD backs n 0) (suc n) (λ q. omega (arith, falls n)))
+        at under (no q) = rw (ne-eqb (suc m) (suc n) (λ e. q (omega arith))) (under (omega arith))
+
+    pub close-back : (goal back n b : ℕ) → back ≡ suc m → back ≤ n → b ≡ getD backs m 0
+        → framesFrom below others backs (getD others m 0) b back ≡ close (framesFrom below others backs goal back n)
+    close-back goal back n b e h r = rw (e, r) (close-suc goal n (omega arith))
+
+pub depth-length : (m : Machine) → length (framesOf m) ≡ m .depth
+depth-length m = frames-length (m .below) (m .others) (m .backs) (m .goal) (m .back) (m .depth)
+
+pub backs-set : (backs : List ℕ) (n x : ℕ) → x ≤ n → ((f : ℕ) → getD backs f 0 ≤ f) → n < length backs → (f : ℕ)
+    → getD (set backs n x) f 0 ≤ f
+backs-set backs n x h falls l f = at (ℕ-discrete f n)
+  where
+    at : Dec (f ≡ n) → getD (set backs n x) f 0 ≤ f
+    at (yes e) = rw (e, getD-set-same backs n x 0 l) h
+    at (no q) = rw (getD-set-other backs n f x 0 (λ e. q e)) (falls f)

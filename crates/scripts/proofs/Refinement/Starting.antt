@@ -1,10 +1,10 @@
 -- The first step of the chain.
---   start-some, start-column                 a query column has a literal; it is the start's
+--   start-single, start-column               a query column has one literal; it is the start's
 --   start-listed                             row 18: a start names one of the two query columns
 --   first-step                               a first step that is not 0 is a step
 --   chain-none, chain-other, chain-started   the chain's outcome: no step, another first step, a start
 -- Assumes nothing.
-use Prim.Native.Nat.{ℕ, zero, suc, _≤_, _<_}
+use Prim.Native.Nat.{ℕ, zero, suc, _≤_}
 use native.Mathlib.Omega.{arith}
 use mathlib.Core.Path.{_≡_, refl, sym, ap, _∙_}
 use mathlib.Core.Bool.{Bool, true, false, not}
@@ -35,15 +35,18 @@ row-refused : (k : Checked) (t : Bool) (a b n p : ℕ) → checked k ≡ require
 row-refused k true a b n p e r = let no : refused n p ≡ pass = sym (ap checked r) ∙ e in absurd (clash (cc))
 row-refused k false a b n p e r = refl
 
--- a list that is not empty has a first number
-some-listed : (a b c x : ℕ) → untilZero a b c ≡ x ∷ [] → 0 < a
-some-listed zero b c x e = let n : _≡_ {A = ℕ} 0 1 = ap length e in absurd (clash n)
-some-listed (suc a) b c x e = omega arith
+-- a list of one number
+single : (a b c x : ℕ) → untilZero a b c ≡ x ∷ [] → untilZero a b c ≡ a ∷ []
+single zero b c x e = let n : _≡_ {A = ℕ} 0 1 = ap length e in absurd (clash n)
+single (suc a) zero c x e = refl
+single (suc a) (suc b) zero x e = let n : _≡_ {A = ℕ} 2 1 = ap length e in absurd (omega arith)
+single (suc a) (suc b) (suc c) x e = let n : _≡_ {A = ℕ} 3 1 = ap length e in absurd (omega arith)
 
-pub start-some : (q : Query) (n a b c : ℕ) → n ≤ 1 → untilZero a b c ≡ packedAt 0 0 0 (getD (queryColumns q) n []) → 0 < a
-start-some q zero a b c h e = some-listed a b c _ e
-start-some q (suc zero) a b c h e = some-listed a b c _ e
-start-some q (suc (suc n)) a b c h e = absurd (omega arith)
+pub start-single : (q : Query) (n a b c : ℕ) → n ≤ 1 → untilZero a b c ≡ packedAt 0 0 0 (getD (queryColumns q) n [])
+    → untilZero a b c ≡ a ∷ []
+start-single q zero a b c h e = single a b c _ e
+start-single q (suc zero) a b c h e = single a b c _ e
+start-single q (suc (suc n)) a b c h e = absurd (omega arith)
 
 pub start-column : (v s : List ℕ) (h : Entry) → h ≡ entryAt s 0 → (n : ℕ) (c : List ℕ)
     → c ≡ packedAt 0 0 0 (getD (queryColumns (queryIn h)) n []) → c ≡ startNumbers v s n

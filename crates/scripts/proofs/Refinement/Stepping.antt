@@ -1,21 +1,21 @@
 -- One step of the run over numbers, from what the code's tests tell.
 --   not-passed                                     a refusal is no pass
---   open-frames, open-positive                     whether a frame is open
---   goal-frames, reduce-frames, reduce-never       the goal; row 22
+--   open-positive                                  a frame is open
+--   reduce-frames, reduce-never                    row 22
 --   room-left                                      row 23
 --   step-starting, step-extending, step-reducing   the step of a record that was read, by its kind
 --   step-neither, step-other                       one that is no extension or reduction; a step that is no start
 --   extension-rows, reduction-rows, start-rows     the rows at a step
 --   extension-after, reduction-after               the frames after it
 -- Assumes nothing.
-use Prim.Native.Nat.{ℕ, zero, suc, _-_, _≤_, _<_}
+use Prim.Native.Nat.{ℕ, zero, suc, _/_, _≤_, _<_}
 use native.Mathlib.Omega.{arith}
-use mathlib.Core.Path.{_≡_, refl, sym, ap, subst, _∙_}
+use mathlib.Core.Path.{_≡_, refl, sym, ap, _∙_}
 use mathlib.Core.Bool.{Bool, true, false, not, _||_}
 use mathlib.Core.List.{List, []}
-use lib.ListN.{length, getD, drop}
+use lib.ListN.{length, getD}
 use lib.Dec.{ltb, leb, eqb}
-use borrow.Author.Tests.{ltb-true, leb-true, lt-ltb, le-ltb, ne-eqb}
+use borrow.Author.Tests.{ltb-true, leb-true, lt-ltb, le-ltb, eq-eqb}
 use Rattle.records.specs.Outcome.{pass, refused, _then_, require}
 use Rattle.records.specs.Answers.{checked}
 use Rattle.records.specs.declared.answers.Checked.{Checked}
@@ -28,12 +28,12 @@ use Rattle.scripts.specs.Calculus.{frameLimit}
 use Rattle.records.specs.Finite.{isNil}
 use Rattle.scripts.specs.Run.{isStart, Frames, extendBy, goal, remainderIn, stepCheck, stepped}
 use Rattle.scripts.specs.Code.Codes.{opposed}
-use Rattle.scripts.specs.Code.Machine.{opened, framesFrom}
+use Rattle.scripts.specs.Code.Machine.{framesFrom}
 use Rattle.scripts.specs.Code.Numbered.{noNumber, numbered}
 use Rattle.scripts.specs.Code.Tested.{extensionCheck, reducesTo}
 use Rattle.scripts.specs.Code.Ready.{IsStep}
 use Rattle.scripts.specs.declared.entry.Entry.{Entry}
-use Rattle.scripts.proofs.Refinement.Frames.{frames-length, frame-at}
+use Rattle.scripts.proofs.Refinement.Frames.{frames-length, goal-below}
 use Rattle.scripts.proofs.Refinement.Lines.{by-kind}
 
 pub not-passed : (k : Checked) (n p : ℕ) → k ≡ Refused n p → checked k ≡ pass → ⊥
@@ -43,41 +43,28 @@ pub open-positive : (n : ℕ) → not (eqb n 0) ≡ true → 0 < n
 open-positive zero e = absurd (clash (cc))
 open-positive (suc n) e = omega arith
 
-module _ (table closed : List ℕ) (n : ℕ) where
-  pub open-frames : not (eqb n 0) ≡ not (isNil (framesFrom table closed n))
-  unfolding framesFrom
-  open-frames = at n
-    where
-      at : (n : ℕ) → not (eqb n 0) ≡ not (isNil (framesFrom table closed n))
-      at zero = refl
-      at (suc n) = rw (ne-eqb (suc n) 0 (λ z. absurd (omega arith)))
+-- Row 22, at the goal of a frame below the last; and at the goal itself, where there is no such frame.
+module _ (below others backs : List ℕ) (goal back n f : ℕ) where
+  pub reduce-frames : (above : ℕ) → above ≡ suc f → above < n
+      → opposed (getD below above 0) goal ≡ reducesTo (framesFrom below others backs goal back n) f goal
+  reduce-frames above e h =
+      let l : suc f < n = omega arith in
+      rw (e, frames-length below others backs goal back n, lt-ltb (suc f) n l)
+      (ap (λ (x : ℕ). opposed x goal) (sym (goal-below below others backs goal back n f noNumber l)))
 
-  -- the goal of frame f, and of the last
-  abbrev goal-of : ℕ → ℕ
-  goal-of f = getD (drop (getD closed f 0) (opened table f)) 0 noNumber
+  pub reduce-never : n ≤ suc f → opposed goal goal ≡ reducesTo (framesFrom below others backs goal back n) f goal
+  reduce-never l =
+      rw (
+        eq-eqb (goal / 2) (goal / 2) refl,
+        eq-eqb goal goal refl,
+        frames-length below others backs goal back n,
+        le-ltb (suc f) n l,
+      )
 
-  pub goal-frames : (v s : List ℕ) (last x : ℕ) → 0 < n → last ≡ n - 1 → x ≡ goal-of last
-      → x ≡ goal (numbered v s) (framesFrom table closed n)
-  goal-frames v s last x h l e =
-      let z : n - suc last ≡ 0 = omega arith in
-      let frame : getD (framesFrom table closed n) 0 [] ≡ drop (getD closed last 0) (opened table last)
-      = subst (λ (j : ℕ). getD (framesFrom table closed n) j [] ≡ drop (getD closed last 0) (opened table last)) z
-      (frame-at table closed n last (omega arith)) in
-      e ∙ rw frame
-
-  pub reduce-frames : (f x g : ℕ) (r : Bool) → suc f < n → x ≡ goal-of f → r ≡ opposed x g
-      → r ≡ reducesTo (framesFrom table closed n) f g
-  reduce-frames f x g r l e h =
-      h ∙ rw (e, frames-length table closed n, lt-ltb (suc f) n l, frame-at table closed n f (omega arith))
-
-  pub reduce-never : (f g : ℕ) → n ≤ suc f → false ≡ reducesTo (framesFrom table closed n) f g
-  reduce-never f g l = rw (frames-length table closed n, le-ltb (suc f) n l)
-
-pub room-left : (a b c n : ℕ) → (isNil (untilZero a b c) || ltb n frameLimit) ≡ true → 0 < a → n < frameLimit
-room-left zero b c n e h = absurd (omega arith)
-room-left (suc a) zero c n e h = ltb-true n frameLimit e
-room-left (suc a) (suc b) zero n e h = ltb-true n frameLimit e
-room-left (suc a) (suc b) (suc c) n e h = ltb-true n frameLimit e
+pub room-left : (a b n : ℕ) → (isNil (untilZero a b 0) || ltb n frameLimit) ≡ true → 0 < a → n < frameLimit
+room-left zero b n e h = absurd (omega arith)
+room-left (suc a) zero n e h = ltb-true n frameLimit e
+room-left (suc a) (suc b) n e h = ltb-true n frameLimit e
 
 -- The step of a record that was read.
 module _ (s : List ℕ) (i : ℕ) (e : Entry) (read : e ≡ entryAt s i) where

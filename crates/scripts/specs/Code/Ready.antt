@@ -12,6 +12,7 @@ use Rattle.columns.specs.Code.Packed.{Marked}
 use Rattle.scripts.specs.Format.{entrySize, entryAt, entries, isStep}
 use Rattle.scripts.specs.Form.{lengthCheck, formCheck}
 use Rattle.scripts.specs.declared.entry.Entry.{Entry}
+use Rattle.scripts.specs.declared.entry.StepRecord.{StepRecord}
 
 -- The script has record i; it has those before record i.
 abbrev pub HasEntry : List ℕ → ℕ → Type 0
@@ -44,8 +45,11 @@ pub record IsStep (s : List ℕ) (i : ℕ) : Type 0 where
 abbrev pub Reached : List ℕ → ℕ → Type 0
 Reached s i = (i ≡ 0) ⊎ IsStep s i
 
--- Record i, which was read, is an extension on the chain.
-pub record IsExtension (s : List ℕ) (i : ℕ) (e : Entry) : Type 0 where
-  pub step : IsStep s i
-  pub read : e ≡ entryAt s i
-  pub kind : e .w0 ≡ 4
+-- A step on the chain, which was read; one that is an extension.
+pub record IsRead (s : List ℕ) (r : StepRecord) : Type 0 where
+  pub step : IsStep s (r .number)
+  pub read : r .entry ≡ entryAt s (r .number)
+
+pub record IsExtension (s : List ℕ) (r : StepRecord) : Type 0 where
+  pub read : IsRead s r
+  pub kind : r .entry .w0 ≡ 4

@@ -7,15 +7,16 @@ use lib.ListN.{length, getD}
 use lib.Dec.{ltb}
 use Rattle.records.specs.Outcome.{Outcome, Check, accepted, pass, _then_, require}
 use Rattle.records.specs.Answers.{checked}
-use Rattle.columns.specs.Code.Packed.{literals}
 use Rattle.scripts.specs.Steps.{Extension}
-use Rattle.scripts.specs.Format.{entryAt, nextStep, recordStep, chainFrom, chain}
+use Rattle.scripts.specs.Format.{entryAt, extensionOf, nextStep, recordStep, chainFrom, chain}
 use Rattle.scripts.specs.Calculus.{frameLimit}
 use Rattle.scripts.specs.Run.{Frames, extendBy, connectedIn, remainderIn, stepCheck, stepped, run, chainCheck}
 use Rattle.records.specs.Finite.{isNil}
 use Rattle.scripts.specs.Code.Codes.{opposed}
-use Rattle.scripts.specs.Code.Machine.{framesFrom}
+use Rattle.scripts.specs.Code.Machine.{left}
 use Rattle.scripts.specs.Code.Numbered.{noNumber, numbered}
+use Rattle.scripts.specs.declared.entry.StepRecord.{StepRecord}
+use Rattle.scripts.specs.declared.machine.Aim.{Aim}
 use Rattle.scripts.specs.declared.run.Tested.{Tested}
 
 -- Rows 21 and 23 at an extension, where the goal and the number of frames are given.
@@ -29,23 +30,29 @@ abbrev pub reducesTo : Frames ℕ → ℕ → ℕ → Bool
 reducesTo frames f goal =
     ltb (suc f) (length frames) && opposed (getD (getD frames (length frames - suc f) []) 0 noNumber) goal
 
+-- What a step that may name frame f is tested against. There is a goal only where a frame is open.
+pub record Aims (aim : Aim) (frames : Frames ℕ) (f : ℕ) : Type 0 where
+  pub depth : aim .depth ≡ length frames
+  pub goal : 0 < length frames → aim .goal ≡ getD (getD frames 0 []) 0 noNumber
+  pub lower : opposed (aim .lower) (aim .goal) ≡ reducesTo frames f (aim .goal)
+
 -- An extension was tested: its answer; where it passed, the column's other literals, for which there is room.
-pub record ExtensionTested (v s : List ℕ) (i goal depth : ℕ) (e : Extension ℕ) (t : Tested) : Type 0 where
-  pub rows : checked (t .answer) ≡ extensionCheck v s i goal depth e
-  pub remainder : checked (t .answer) ≡ pass → literals (t .remainder) ≡ remainderIn (numbered v s) e
-  pub room : checked (t .answer) ≡ pass → 0 < t .remainder .first → depth < frameLimit
+pub record ExtensionTested (v s : List ℕ) (step : StepRecord) (aim : Aim) (t : Tested) : Type 0 where
+  pub rows : checked (t .answer) ≡ extensionCheck v s (step .number) (aim .goal) (aim .depth) (extensionOf (step .entry))
+  pub remainder : checked (t .answer) ≡ pass → left (t .remainder) ≡ remainderIn (numbered v s) (extensionOf (step .entry))
+  pub room : checked (t .answer) ≡ pass → 0 < t .remainder .goal → aim .depth < frameLimit
 
 -- The step of record i was tested: its answer; where it passed, the literals that extend the frames, none for a reduction.
 pub record StepTested (v s : List ℕ) (i : ℕ) (frames : Frames ℕ) (t : Tested) : Type 0 where
   pub rows : checked (t .answer) ≡ stepCheck (numbered v s) i frames (recordStep s i)
   pub after : checked (t .answer) ≡ pass
-      → extendBy (literals (t .remainder)) frames ≡ stepped (numbered v s) frames (recordStep s i)
-  pub room : checked (t .answer) ≡ pass → 0 < t .remainder .first → length frames < frameLimit
-  pub reduced : entryAt s i .w0 ≡ 5 → t .remainder .first ≡ 0
+      → extendBy (left (t .remainder)) frames ≡ stepped (numbered v s) frames (recordStep s i)
+  pub room : checked (t .answer) ≡ pass → 0 < t .remainder .goal → length frames < frameLimit
+  pub reduced : entryAt s i .w0 ≡ 5 → t .remainder .goal ≡ 0
 
--- The same where the frames are a machine's.
-abbrev pub TestedAt : List ℕ → List ℕ → ℕ → List ℕ → List ℕ → ℕ → Tested → Type 0
-TestedAt v s i table closed depth t = StepTested v s i (framesFrom table closed depth) t
+-- The same of any frames that it was tested against.
+abbrev pub TestedAt : List ℕ → List ℕ → StepRecord → Aim → Tested → Type 0
+TestedAt v s step aim t = (frames : Frames ℕ) → Aims aim frames (step .entry .w1) → StepTested v s (step .number) frames t
 
 -- The steps after record i, and the outcome of a run over them.
 abbrev pub stepsAfter : List ℕ → ℕ → List ℕ

@@ -17,9 +17,13 @@ use Rattle.scripts.proofs.Refinement.Outcomes.{vocabulary-at, refused-v
 use Rattle.scripts.proofs.call.check_script.Statement.{statement}
 use Rattle.scripts.proofs.call.check_script.Tie as tie
 
--- Places: the start, where the vocabulary was accepted, after row 13 was tried, where it passed, after the form was checked.
+-- Places: the start, after the vocabulary was checked, where it was accepted, after row 13 was tried, where it passed, after the
+-- header was read, after the form was checked.
+abbrev lent : tie.After-check-vocabulary → tie.Start
+lent c = c .before .before .before
+
 abbrev start : tie.After-enum-told → tie.Start
-start c = c .before .before .before .before .before
+start c = lent (c .before .before)
 
 abbrev taken : tie.After-pass-if → tie.After-enum-told
 taken c = c .before .before
@@ -27,8 +31,11 @@ taken c = c .before .before
 abbrev long : tie.After-enum-told3 → tie.After-pass-if
 long c = c .before .before
 
+abbrev read : tie.After-check-form → tie.After-read-entry
+read c = c .before .before
+
 abbrev begun : tie.After-check-form → tie.After-enum-told3
-begun c = c .before .before .before .before .before
+begun c = read c .before .before .before
 
 abbrev keeps-form : tie.After-enum-told5 → tie.After-check-form
 keeps-form c = c .before .before
@@ -42,7 +49,7 @@ judge-after-count-requires c κs = tt
 returns : tie.Need-returns
 returns c =
     let k = c .before .before .before in
-    let a = k .before .before .before .args in
+    let a = lent k .args in
     refused-vocabulary (now (a .v)) (now (a .s)) _ _ _ _ (k .check-vocabulary .ensures) (c .before .enum-told2 .given .1)
     (c .judge-after-count .ensures)
 

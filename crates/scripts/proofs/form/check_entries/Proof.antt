@@ -16,6 +16,13 @@ Inv-loop v marks s records i₀ i = inTurn (entryCheck v s) 1 (records - 1) ≡ 
 abbrev μ-loop : tie.MeasureT-loop
 μ-loop v marks s records i₀ i = records - i
 
+-- Places: the start, after record 1 was looked for, where it is there.
+abbrev start : tie.After-pass-if Inv-loop μ-loop → tie.Start Inv-loop μ-loop
+start c = c .before .before .before
+
+abbrev present : tie.After-enum-told Inv-loop μ-loop → tie.After-pass-if Inv-loop μ-loop
+present c = c .before .before
+
 pass-if-requires : tie.Need-pass-if-requires Inv-loop μ-loop
 pass-if-requires c κs = tt
 
@@ -26,14 +33,13 @@ loop-holds : tie.Need-loop-holds Inv-loop μ-loop
 loop-holds c = refl
 
 check-entry-requires : tie.Need-check-entry-requires Inv-loop μ-loop
-check-entry-requires c κs =
-    (c .before .before .before .before .before .before .before .pre, omega arith)
+check-entry-requires c κs = (start (present (c .before .before)) .pre, omega arith)
 
 returns-2 : tie.Need-returns-2 Inv-loop μ-loop
 returns-2 c =
     let w = c .before .before .before in
     let t = w .before .before in
-    then-fine _ _ _ _ (t .before .before .pass-if .ensures) (t .enum-told .given .1)
+    then-fine _ _ _ _ (present t .pass-if .ensures) (t .enum-told .given .1)
     (turn-refused _ _ _ _ _ _ (w .loop-test .taken) (c .before .before .check-entry .ensures) (c .enum-told4 .given .1)
     ∙ sym (w .before .loop .inv))
 
@@ -46,7 +52,7 @@ loop-again c =
 returns-3 : tie.Need-returns-3 Inv-loop μ-loop
 returns-3 c =
     let t = c .before .before in
-    then-fine _ _ _ _ (t .before .before .pass-if .ensures) (t .enum-told .given .1)
+    then-fine _ _ _ _ (present t .pass-if .ensures) (t .enum-told .given .1)
     (sym (c .before .loop .inv ∙ turns-end _ _ _ (c .loop-test .left)))
 
 pub check-entries-spec : {M : Type 1} → statement M

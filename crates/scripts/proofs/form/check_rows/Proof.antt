@@ -37,19 +37,26 @@ read-rows c =
     let a = c .before .before .before .before .args in
     ap (λ (e : Entry). rowsCheck (now (a .v)) (now (a .s)) (a .i) e) (c .read .ensures)
 
+-- Places: after the record was read, from where its kind passed; and that, from where its unused words did.
+abbrev read-at : tie.After-enum-told → tie.After-read
+read-at c = c .before .before .before .before
+
+abbrev kind-at : tie.After-enum-told3 → tie.After-enum-told
+kind-at c = c .before .before .before .before
+
 -- What is left once the rows so far passed.
 past-kind : (c : tie.After-enum-told) (o : Check)
-    → let r = c .before .before .before .before in o ≡ (row16 r then row17 r then row18 r) → o ≡ whole r
+    → let r = read-at c in o ≡ (row16 r then row17 r then row18 r) → o ≡ whole r
 past-kind c o h =
     let p = c .before .before in
     then-fine _ _ _ _ (require-test _ _ _ _ _ (p .pass-if .ensures) (p .before .kind-fits .ensures)) (c .enum-told .given .1) h
     ∙ read-rows (p .before .before)
 
 past-unused : (c : tie.After-enum-told3) (o : Check)
-    → let r = c .before .before .before .before .before .before .before .before in o ≡ (row17 r then row18 r) → o ≡ whole r
+    → let r = read-at (kind-at c) in o ≡ (row17 r then row18 r) → o ≡ whole r
 past-unused c o h =
     let p = c .before .before in
-    past-kind (p .before .before) o
+    past-kind (kind-at c) o
     (then-fine _ _ _ _ (require-test _ _ _ _ _ (p .pass-if2 .ensures) (p .before .unused-fits .ensures))
     (c .enum-told3 .given .1) h)
 

@@ -10,20 +10,27 @@ use Rattle.scripts.specs.Form.{yFits}
 use Rattle.scripts.proofs.form.extension_fits.Statement.{statement}
 use Rattle.scripts.proofs.form.extension_fits.Tie as tie
 
+-- Places: the start, after the column's shape was found, where the position exists.
+abbrev start : tie.After-column-shape → tie.Start
+start c = c .before .before .before
+
+abbrev shaped : tie.Else1 → tie.After-column-shape
+shaped c = c .before .before .before
+
 returns : tie.Need-returns
 returns c = λ q. rw (← c .before .before .before .column-shape .ensures q .size, le-ltb _ _ (c .if1 .taken))
 
 returns-2 : tie.Need-returns-2
 returns-2 c =
     let w = c .before .before in
-    λ q. rw (← w .before .before .before .column-shape .ensures q .size, lt-ltb _ _ (w .if1 .left))
+    λ q. rw (← shaped w .column-shape .ensures q .size, lt-ltb _ _ (w .if1 .left))
     (both-first-false _ _ _ (c .before .x-fits .ensures) (c .if2 .taken))
 
 returns-3 : tie.Need-returns-3
 returns-3 c =
     let w = c .before .before .before in
-    let shape = w .before .before .before .column-shape in
-    let a = w .before .before .before .before .before .before .args in
+    let shape = shaped w .column-shape in
+    let a = start (shaped w) .args in
     λ q. rw (← shape .ensures q .size, lt-ltb _ _ (w .if1 .left))
     (both-first-true _ _ _ _ (c .before .before .x-fits .ensures) (c .before .if2 .left)
     (c .y-fits .ensures ∙ ap (λ (b : Bool). yFits (now (a .s)) (a .i) b (a .e .w4)) (shape .ensures q .takes)))

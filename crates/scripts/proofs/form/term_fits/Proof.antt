@@ -10,9 +10,13 @@ use Rattle.scripts.proofs.Refinement.Lines.{line-constant}
 use Rattle.scripts.proofs.form.term_fits.Statement.{statement}
 use Rattle.scripts.proofs.form.term_fits.Tie as tie
 
+-- The start, from where the record's words are known.
+abbrev start : tie.After-struct-known → tie.Start
+start c = c .before .before .before
+
 returns : tie.Need-returns
 returns c =
-    let a = c .before .before .before .before .args in
+    let a = start (c .before) .args in
     rw (line-constant (a .e), not-true (Bool·beq (eqb (a .e .w0) 1) (eqb (a .i) 1)) (c .if1 .taken))
 
 function-fits-requires : tie.Need-function-fits-requires
@@ -20,7 +24,7 @@ function-fits-requires c κs = search needs
 
 returns-2 : tie.Need-returns-2
 returns-2 c =
-    let a = c .before .before .before .before .before .args in
+    let a = start (c .before .before) .args in
     c .function-fits .ensures
     ∙ rw (line-constant (a .e), not-false (Bool·beq (eqb (a .e .w0) 1) (eqb (a .i) 1)) (c .before .if1 .left))
 

@@ -16,15 +16,22 @@ use Rattle.scripts.proofs.Invariants.Indexing.{index-other, index-enter
 use Rattle.scripts.proofs.index.index_term.Statement.{statement}
 use Rattle.scripts.proofs.index.index_term.Tie as tie
 
--- Places: the start; where the record is a function term; after its inner term's origin, and its code, were found.
+-- Places: the start, from where the record was read and where it is a function term; after its inner term's origin, and its code,
+-- were found; after it was entered.
+abbrev lent : tie.After-read-entry → tie.Start
+lent c = c .before .before .before .before
+
 abbrev start : tie.Then1 → tie.Start
-start c = c .before .before .before .before .before .before
+start c = lent (c .before .before)
 
 abbrev taken : tie.After-origin-in → tie.Then1
 taken c = c .before .before .before
 
+abbrev called : tie.After-slice-known3 → tie.After-enter-term
+called c = c .before .before
+
 abbrev entered : tie.After-slice-known3 → tie.After-code-of
-entered c = c .before .before .before .before .before
+entered c = called c .before .before .before
 
 good : (b : tie.Start) → AcceptedFacts (b .pre .0 .vocabulary)
 good b = accepted-vocabulary _ _ (b .pre .0 .accepted)
@@ -80,10 +87,10 @@ cast-enter-term c =
     omega (arith, within b, form b .sized .most)
 
 -- the origin is a record, and so the number fits
-small : (c : tie.After-slice-known3) → c .before .before .enter-term .result ≤ start (taken (entered c .before)) .args .i
+small : (c : tie.After-slice-known3) → called c .enter-term .result ≤ start (taken (entered c .before)) .args .i
 small c =
     let b = start (taken (entered c .before)) in
-    entered-before _ _ _ _ _ (b .pre .1 .1 .1) _ _ (c .before .before .enter-term .ensures)
+    entered-before _ _ _ _ _ (b .pre .1 .1 .1) _ _ (called c .enter-term .ensures)
 
 mul-terms : tie.Need-mul-terms
 mul-terms c =
@@ -111,11 +118,11 @@ returns c =
     let t = term (taken (o .before)) in
     let b = start (taken (o .before)) in
     index-entered _ _ (good b) (form b) _ _ _ (b .pre .1 .1 .1) (b .pre .1 .1 .0) _ (t .term) (coded o) (t .kind) _ _
-    (c .before .before .enter-term .ensures)
+    (called c .enter-term .ensures)
 
 returns-2 : tie.Need-returns-2
 returns-2 c =
-    let b = c .before .before .before .before .before .before in
+    let b = lent (c .before .before) in
     index-other _ _ (good b) (form b) _ _ _ (b .pre .1 .1 .1) (b .pre .1 .1 .0)
     (λ k. c .if1 .left (ap (λ (y : Entry). y .w0) (c .before .before .read-entry .ensures) ∙ k))
 

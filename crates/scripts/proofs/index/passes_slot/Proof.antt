@@ -21,6 +21,10 @@ goes-on : (links terms : List ℕ) (code slot found : ℕ) → (linked links slo
     → not (eqb found code) ≡ passes links terms code slot
 goes-on links terms code slot found n e = rw (ne-eqb (linked links slot) 0 n, e)
 
+-- The start, from where the slices are lent.
+abbrev start : tie.After-shared-slice-known3 → tie.Start
+start c = c .before .before .before
+
 -- the slot is in the table of links
 mul-node : tie.Need-mul-node
 mul-node c = search needs
@@ -29,21 +33,21 @@ shared-slice-read-node : tie.Need-shared-slice-read-node
 shared-slice-read-node c = search needs
 
 cast-node : tie.Need-cast-node
-cast-node c = let b = c .before .before .before in omega (arith, c .shared-slice-known3 .given (b .args .slot))
+cast-node c = let b = start c in omega (arith, c .shared-slice-known3 .given (b .args .slot))
 
 returns : tie.Need-returns
 returns c =
-    let a = c .before .before .before .before .args in
+    let a = start (c .before) .args in
     stops (now (a .links)) (now (a .terms)) (a .code) (a .slot) (c .if1 .taken)
 
 code-in-requires : tie.Need-code-in-requires
 code-in-requires c κs =
-    let b = c .before .before .before .before in
+    let b = start (c .before) in
     b .pre .0 .within (b .args .slot) (omega (arith, c .if1 .left))
 
 returns-2 : tie.Need-returns-2
 returns-2 c =
-    let a = c .before .before .before .before .before .args in
+    let a = start (c .before .before) .args in
     goes-on (now (a .links)) (now (a .terms)) (a .code) (a .slot) _ (c .before .if1 .left) (c .code-in .ensures)
 
 pub passes-slot-spec : {M : Type 1} → statement M

@@ -1,6 +1,5 @@
 -- `scripts::machine::leave_out` meets its contract: it hands back a column without the literal at a position.
 -- Assumes nothing.
-use Prim.Native.Nat.{_≤_}
 use native.Mathlib.Omega.{arith}
 use Rattle.scripts.proofs.Refinement.Frames.{without-first, without-second, without-third}
 use Rattle.scripts.proofs.machine.leave_out.Statement.{statement}
@@ -19,8 +18,9 @@ returns-2 c =
 returns-3 : tie.Need-returns-3
 returns-3 c =
     let l = c .before .args .column in
-    let h : 2 ≤ c .before .args .position = omega (arith, c .match .rest .1, c .match .rest .0 .1) in
-    without-third (l .first) (l .second) (l .third) (c .before .args .position) h (c .before .pre)
+    without-third (l .first) (l .second) (l .third) (c .before .args .position)
+    (omega (arith, c .match .rest .1, c .match .rest .0 .1))
+    (c .before .pre)
 
 pub leave-out-spec : {M : Type 1} → statement M
 leave-out-spec = tie.close (tie.spec returns returns-2 returns-3)

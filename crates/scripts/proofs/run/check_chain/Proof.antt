@@ -1,9 +1,9 @@
 -- `scripts::run::check_chain` meets its contract. The first step is a start, as row 20 asks; from its column the
 -- other steps are run.
 -- Assumes nothing.
-use Prim.Native.Nat.{_≤_, _<_}
+use Prim.Native.Nat.{_≤_}
 use native.Mathlib.Omega.{arith}
-use mathlib.Core.Path.{_≡_, ap, subst, _∙_}
+use mathlib.Core.Path.{_≡_, sym, ap, subst, _∙_}
 use mathlib.Core.List.{[], _∷_}
 use denote.Ref.{now}
 use borrow.Author.Needs.{needs}
@@ -17,21 +17,28 @@ use Rattle.scripts.specs.Code.Ready.{Ready, IsStep}
 use Rattle.scripts.specs.declared.answers.Judged.{Judged}
 use Rattle.scripts.specs.declared.entry.Entry.{Entry}
 use Rattle.scripts.proofs.Theorems.Form.{KeepsForm, keeps-form}
-use Rattle.scripts.proofs.Refinement.Starting.{start-listed, start-some, start-column, chain-none, chain-other}
+use Rattle.scripts.proofs.Refinement.Starting.{start-listed, start-single, start-column, chain-none, chain-other}
 use Rattle.scripts.proofs.Refinement.Starting.{chain-started, first-step}
 use Rattle.scripts.proofs.Invariants.Indexing.{blank-tables}
 use Rattle.scripts.proofs.run.check_chain.Statement.{statement}
 use Rattle.scripts.proofs.run.check_chain.Tie as tie
 
--- Places: the start, where there is a first step, after it was read, where it is a start.
+-- Places: the start, from where the first step was looked for and where there is one; after it was read, where it is a start;
+-- after the last term was found, where the tables stand.
+abbrev lent : tie.After-pass-if → tie.Start
+lent c = c .before .before .before .before
+
 abbrev start : tie.After-enum-told → tie.Start
-start c = c .before .before .before .before .before .before
+start c = lent (c .before .before)
 
 abbrev found : tie.After-pass-if2 → tie.After-read-entry
 found c = c .before .before
 
 abbrev begun : tie.After-enum-told3 → tie.After-read-entry
 begun c = found (c .before .before)
+
+abbrev ended : tie.After-terms → tie.After-find-end
+ended c = c .before .before .before
 
 form : (c : tie.Start) → KeepsForm (now (c .args .v)) (now (c .args .s))
 form c = keeps-form _ _ (c .pre .form)
@@ -50,7 +57,7 @@ first c =
 returns : tie.Need-returns
 returns c =
     let p = c .before .before .before in
-    let b = p .before .before .before .before in
+    let b = lent p in
     chain-none (now (b .args .v)) (now (b .args .s)) (form b) _ _ _ _ _ (first-at b) (c .before .enum-told2 .given .1)
     (p .pass-if .ensures) (c .judge-after .ensures)
 
@@ -77,12 +84,13 @@ returns-2 c =
     chain-other (now (b .args .v)) (now (b .args .s)) (form b) _ (first-at b) (first (e .before)) _ (e .read-entry .ensures)
     _ _ _ _ (c .before .enum-told4 .given .1) (p .pass-if2 .ensures) (c .judge-after2 .ensures)
 
--- its column, of which the other steps are run, has a literal
-some : (c : tie.After-query-column) → 0 < c .query-column .result .first
-some c =
+-- its column has one literal
+single : (c : tie.After-query-column)
+    → literals (c .query-column .result) ≡ c .query-column .result .first ∷ []
+single c =
     let e = begun (c .before) in
     let q = c .query-column in
-    start-some (queryIn (start (e .before) .args .header)) (e .read-entry .result .w1) (q .result .first) (q .result .second)
+    start-single (queryIn (start (e .before) .args .header)) (e .read-entry .result .w1) (q .result .first) (q .result .second)
     (q .result .third) (column (c .before)) (q .ensures 0 0 0)
 
 -- what the run of them relies on
@@ -97,7 +105,8 @@ ready c = let b = at-query c in subst (Ready _ _ _) (b .pre .begun .read) (b .pr
 -- and what its answer tells
 answered : (c : tie.After-query-column) (r : Judged)
     → let b = at-query c in
-    judged r ≡ runAfter (now (b .args .v)) (now (b .args .s)) (literals (c .query-column .result) ∷ []) (b .args .header .w3)
+    judged r
+    ≡ runAfter (now (b .args .v)) (now (b .args .s)) ((c .query-column .result .first ∷ []) ∷ []) (b .args .header .w3)
     → judged r ≡ chainOutcome (now (b .args .v)) (now (b .args .s))
 answered c r told =
     let q = c .query-column in
@@ -106,9 +115,9 @@ answered c r told =
     let b = at-query c in
     told
     ∙ chain-started (now (b .args .v)) (now (b .args .s)) (form b) _ (first-at b) (first (e .before)) _
-    (e .read-entry .ensures) (literals (q .result))
+    (e .read-entry .ensures) (q .result .first ∷ [])
     (start-column (now (b .args .v)) (now (b .args .s)) (b .args .header) (b .pre .begun .read) (e .read-entry .result .w1)
-    (literals (q .result)) (q .ensures 0 0 0))
+    (q .result .first ∷ []) (sym (single c) ∙ q .ensures 0 0 0))
     (started g)
 
 find-end-requires : tie.Need-find-end-requires
@@ -118,24 +127,24 @@ run-few-requires : tie.Need-run-few-requires
 run-few-requires c κs =
     let e = c .before .find-end .ensures in
     let q = c .before .before in
-    (ready q, (first (begun (q .before) .before), (some q, (e .0, (e .1, c .if1 .taken)))))
+    (ready q, (first (begun (q .before) .before), (e .0, (e .1, c .if1 .taken))))
 
 returns-3 : tie.Need-returns-3
 returns-3 c = answered (c .before .before .before) (c .run-few .result) (c .run-few .ensures)
 
 run-numbering-requires : tie.Need-run-numbering-requires
 run-numbering-requires c κs =
-    let f = c .before .before .before in
+    let f = ended c in
     let q = f .before in
     let most = form (at-query q) .sized .most in
     let s = now (at-query q .args .s) in
     let blank = blank-tables s entryLimit (λ n r. omega (arith, r .within, most)) (omega arith) in
-    (ready q, (first (begun (q .before) .before), (some q, (f .find-end .ensures .0, (f .find-end .ensures .1, blank)))))
+    (ready q, (first (begun (q .before) .before), (f .find-end .ensures .0, (f .find-end .ensures .1, blank))))
 
 returns-4 : tie.Need-returns-4
 returns-4 c =
     let r = c .before .before in
-    answered (r .before .before .before .before .before) (r .run-numbering .result) (r .run-numbering .ensures)
+    answered (ended (r .before) .before) (r .run-numbering .result) (r .run-numbering .ensures)
 
 pub check-chain-spec : {M : Type 1} → statement M
 check-chain-spec =

@@ -12,11 +12,10 @@ use Rattle.scripts.proofs.run.has_room.Statement.{statement}
 use Rattle.scripts.proofs.run.has_room.Tie as tie
 
 -- where there is another literal, room is needed
-room-for : (a b c : ℕ) (r : Bool) → (a ≡ 0 → ⊥) → r ≡ (isNil (untilZero a b c) || r)
-room-for zero b c r h = absurd (h refl)
-room-for (suc a) zero c r h = refl
-room-for (suc a) (suc b) zero r h = refl
-room-for (suc a) (suc b) (suc c) r h = refl
+room-for : (a b : ℕ) (r : Bool) → (a ≡ 0 → ⊥) → r ≡ (isNil (untilZero a b 0) || r)
+room-for zero b r h = absurd (h refl)
+room-for (suc a) zero r h = refl
+room-for (suc a) (suc b) r h = refl
 
 returns : tie.Need-returns
 returns c = search needs
@@ -25,7 +24,7 @@ returns-2 : tie.Need-returns-2
 returns-2 c =
     let a = c .before .before .args in
     let l = a .remainder in
-    room-for (l .first) (l .second) (l .third) (ltb (a .depth) frameLimit) (c .if1 .left)
+    room-for (l .goal) (l .other) (ltb (a .depth) frameLimit) (c .if1 .left)
 
 pub has-room-spec : {M : Type 1} → statement M
 has-room-spec = tie.close (tie.spec returns returns-2)

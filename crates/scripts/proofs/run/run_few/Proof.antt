@@ -9,10 +9,10 @@ use Rattle.scripts.proofs.run.run_few.Tie as tie
 
 run-numbering-requires : tie.Need-run-numbering-requires
 run-numbering-requires c κs =
-    let b = c .before .before .before .before in
-    let p = b .pre .1 .1 .1 in
-    let blank = blank-tables _ fewEntries (λ n r. omega (arith, p .0 n r, p .1 .1)) (omega arith) in
-    (b .pre .0, (b .pre .1 .0, (b .pre .1 .1 .0, (p .0, (p .1 .0, blank)))))
+    let p = c .before .before .before .before .pre in
+    let q = p .1 .1 in
+    let blank = blank-tables _ fewEntries (λ n r. omega (arith, q .0 n r, q .1 .1)) (omega arith) in
+    (p .0, (p .1 .0, (q .0, (q .1 .0, blank))))
 
 pub run-few-spec : {M : Type 1} → statement M
 run-few-spec =

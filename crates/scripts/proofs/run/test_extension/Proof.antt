@@ -19,45 +19,50 @@ use Rattle.records.specs.Finite.{without, isNil}
 use Rattle.scripts.specs.Calculus.{frameLimit}
 use Rattle.scripts.specs.Run.{connectedIn, remainderIn}
 use Rattle.scripts.specs.Code.Codes.{opposed}
+use Rattle.scripts.specs.Code.Machine.{left}
 use Rattle.scripts.specs.Code.Numbered.{noNumber, numbered}
 use Rattle.scripts.proofs.Refinement.Extensions.{read-extends}
 use Rattle.scripts.proofs.Refinement.Stepping.{not-passed, room-left}
 use Rattle.scripts.proofs.run.test_extension.Statement.{statement}
 use Rattle.scripts.proofs.run.test_extension.Tie as tie
 
--- Places: the start, after the column was found, after row 21 was tried.
+-- Places: the start, after the column was found, after the rest of it was, after row 21 was tried.
 abbrev start : tie.After-used-column → tie.Start
 start c = c .before .before .before .before
 
 abbrev found : tie.After-pass-if → tie.After-used-column
 found c = c .before .before .before .before
 
+abbrev rest : tie.After-pass-if2 → tie.After-leave-out
+rest c = c .before .before
+
 abbrev tried : tie.After-pass-if2 → tie.After-pass-if
-tried c = c .before .before .before .before .before
+tried c = rest c .before .before .before
 
 -- the extension, and its two rows
 abbrev named : tie.Start → Extension ℕ
-named c = extensionOf (c .args .e)
+named c = extensionOf (c .args .step .entry)
 
 abbrev row21 : tie.Start → Check
 row21 c =
     let a = c .args in
-    require (opposed (connectedIn (numbered (now (a .v)) (now (a .s))) (named c)) (a .goal)) 21 (a .i)
+    require (opposed (connectedIn (numbered (now (a .v)) (now (a .s))) (named c)) (a .aim .goal)) 21 (a .step .number)
 
 abbrev row23 : tie.Start → Check
 row23 c =
     let a = c .args in
-    require (isNil (remainderIn (numbered (now (a .v)) (now (a .s))) (named c)) || ltb (a .depth) frameLimit) 23 (a .i)
+    let room = isNil (remainderIn (numbered (now (a .v)) (now (a .s))) (named c)) || ltb (a .aim .depth) frameLimit in
+    require room 23 (a .step .number)
 
 used-column-requires : tie.Need-used-column-requires
 used-column-requires c κs = c .before .before .before .pre
 
 -- the column has the position
-placed : (c : tie.After-used-column) → start c .args .e .w5 < length (literals (c .used-column .result))
+placed : (c : tie.After-used-column) → start c .args .step .entry .w5 < length (literals (c .used-column .result))
 placed c =
     let b = start c in
-    let e = b .args .e in
-    let x = read-extends _ _ _ _ (b .pre .0) (b .args .i) e (b .pre .1 .1) in
+    let e = b .args .step .entry in
+    let x = read-extends _ _ _ _ (b .pre .0) (b .args .step) (b .pre .1 .1) in
     rw (c .used-column .ensures, length-map (columnAt (now (b .args .v)) (queryOf (now (b .args .s))) (e .w1) (e .w2)) _)
     (x .position)
 
@@ -70,9 +75,9 @@ connected c =
     let a = start (found c) .args in
     require-test _ _ _ _ _ (c .pass-if .ensures)
     (c .before .is-opposed .ensures
-    ∙ ap (λ (x : ℕ). opposed x (a .goal))
+    ∙ ap (λ (x : ℕ). opposed x (a .aim .goal))
     (c .before .before .literal-at .ensures
-    ∙ ap (λ (l : List ℕ). getD l (a .e .w5) noNumber) (found c .used-column .ensures)))
+    ∙ ap (λ (l : List ℕ). getD l (a .step .entry .w5) noNumber) (found c .used-column .ensures)))
 
 returns : tie.Need-returns
 returns c =
@@ -90,28 +95,28 @@ leave-out-requires : tie.Need-leave-out-requires
 leave-out-requires c κs = placed (found (c .before .before))
 
 -- the column's other literals
-left : (c : tie.After-pass-if2)
+others : (c : tie.After-pass-if2)
     → let b = start (found (tried c)) in
-    literals (c .before .before .leave-out .result) ≡ remainderIn (numbered (now (b .args .v)) (now (b .args .s))) (named b)
-left c =
+    left (rest c .leave-out .result) ≡ remainderIn (numbered (now (b .args .v)) (now (b .args .s))) (named b)
+others c =
     let u = found (tried c) in
-    c .before .before .leave-out .ensures ∙ ap (without (start u .args .e .w5)) (u .used-column .ensures)
+    rest c .leave-out .ensures ∙ ap (without (start u .args .step .entry .w5)) (u .used-column .ensures)
 
 -- row 23, from the call that tests it
 roomy : (c : tie.After-pass-if2) → checked (c .pass-if2 .result) ≡ row23 (start (found (tried c)))
 roomy c =
     let a = start (found (tried c)) .args in
     require-test _ _ _ _ _ (c .pass-if2 .ensures)
-    (c .before .has-room .ensures ∙ ap (λ (l : List ℕ). isNil l || ltb (a .depth) frameLimit) (left c))
+    (c .before .has-room .ensures ∙ ap (λ (l : List ℕ). isNil l || ltb (a .aim .depth) frameLimit) (others c))
 
 returns-2 : tie.Need-returns-2
 returns-2 c =
-    let l = c .before .before .leave-out .result in
-    let depth = start (found (tried c)) .args .depth in
+    let l = rest c .leave-out .result in
+    let depth = start (found (tried c)) .args .aim .depth in
     record {
-      rows = then-fine _ _ _ _ (connected (tried c)) (c .before .before .before .enum-told .given .1) (roomy c);
-      remainder = λ q. left c;
-      room = λ q. room-left (l .first) (l .second) (l .third) depth
+      rows = then-fine _ _ _ _ (connected (tried c)) (rest c .before .enum-told .given .1) (roomy c);
+      remainder = λ q. others c;
+      room = λ q. room-left (l .goal) (l .other) depth
           (sym (c .before .has-room .ensures) ∙ require-passed _ _ _ (sym (c .pass-if2 .ensures) ∙ q));
     }
 

@@ -1,11 +1,10 @@
 -- `scripts::run::test_step` meets its contract. Row 25 first; then the kind of the record that was read says which rows are next.
 -- Assumes nothing.
-use Prim.Native.Nat.{ℕ, _-_, _<_}
+use Prim.Native.Nat.{ℕ, _<_}
 use native.Mathlib.Omega.{arith}
 use mathlib.Core.Path.{_≡_, refl, sym, ap, subst, _∙_}
 use mathlib.Core.Bool.{not}
 use mathlib.Core.List.{List}
-use lib.ListN.{length}
 use denote.Ref.{now}
 use borrow.Author.Needs.{needs}
 use Rattle.records.specs.Outcome.{refused, pass, require}
@@ -16,11 +15,11 @@ use Rattle.scripts.specs.Format.{extensionOf}
 use Rattle.scripts.specs.Calculus.{frameLimit}
 use Rattle.records.specs.Finite.{isNil}
 use Rattle.scripts.specs.Run.{Frames, extendBy, goal, stepCheck}
-use Rattle.scripts.specs.Code.Machine.{framesFrom}
 use Rattle.scripts.specs.Code.Numbered.{numbered}
+use Rattle.scripts.specs.Code.Tested.{Aims}
 use Rattle.scripts.specs.declared.entry.Entry.{Entry}
-use Rattle.scripts.proofs.Refinement.Frames.{frames-length, untilZero-none}
-use Rattle.scripts.proofs.Refinement.Stepping.{open-positive, not-passed, open-frames, goal-frames, step-extending}
+use Rattle.scripts.proofs.Refinement.Frames.{left-none, nil-frames}
+use Rattle.scripts.proofs.Refinement.Stepping.{open-positive, not-passed, step-extending}
 use Rattle.scripts.proofs.Refinement.Stepping.{step-reducing, step-neither, extension-rows, reduction-rows, start-rows}
 use Rattle.scripts.proofs.Refinement.Stepping.{extension-after, reduction-after}
 use Rattle.scripts.proofs.run.test_step.Statement.{statement}
@@ -34,146 +33,115 @@ no-pass e = clash (cc)
 four-five : (a b : ℕ) → a ≡ b → a ≡ 4 → b ≡ 5 → ⊥
 four-five a b e h k = omega arith
 
--- Places: the start, after row 25 was tried, where a frame is open, after the record was read, after the goal was found.
+-- Places: the start, from where the slices are lent and where row 25 was tried; where a frame is open.
+abbrev lent : tie.After-shared-slice-known3 → tie.Start
+lent c = c .before .before .before
+
 abbrev start : tie.After-pass-if → tie.Start
-start c = c .before .before .before .before
+start c = lent (c .before .before)
 
 abbrev tried : tie.After-enum-told → tie.After-pass-if
 tried c = c .before .before
 
-abbrev read : tie.After-goal-at → tie.After-read-entry
-read c = c .before .before
+abbrev begun : tie.After-enum-told → tie.Start
+begun c = start (tried c)
 
-abbrev begun : tie.After-goal-at → tie.Start
-begun c = start (tried (read c .before))
+-- The frames, and what tells of them.
+module _ (frames : Frames ℕ) where
+  abbrev Known : tie.Start → Type 0
+  Known b = Aims (b .args .aim) frames (b .args .step .entry .w1)
 
-abbrev frames : tie.Start → Frames ℕ
-frames c = framesFrom (now (c .args .table)) (now (c .args .closed)) (c .args .depth)
+  -- row 25
+  opened : (c : tie.After-pass-if) → Known (start c)
+      → checked (c .pass-if .result) ≡ require (not (isNil frames)) 25 (start c .args .step .number)
+  opened c k = require-test _ _ _ _ _ (c .pass-if .ensures) (ap not (nil-frames frames _ (k .depth)))
 
--- row 25
-opened : (c : tie.After-pass-if)
-    → checked (c .pass-if .result) ≡ require (not (isNil (frames (start c)))) 25 (start c .args .i)
-opened c =
-    let a = start c .args in
-    require-test _ _ _ _ _ (c .pass-if .ensures) (open-frames (now (a .table)) (now (a .closed)) (a .depth))
-
--- a frame is open
-positive : (c : tie.After-enum-told) → 0 < start (tried c) .args .depth
-positive c = open-positive _ (require-passed _ _ _ (checked-fine _ _ (tried c .pass-if .ensures) (c .enum-told .given .1)))
+  -- the goal is that of the frames, of which one is open
+  aimed : (c : tie.After-enum-told) → Known (begun c)
+      → let a = begun c .args in a .aim .goal ≡ goal (numbered (now (a .v)) (now (a .s))) frames
+  aimed c k =
+      k .goal
+      (subst (λ (n : ℕ). 0 < n) (k .depth)
+      (open-positive _ (require-passed _ _ _ (checked-fine _ _ (tried c .pass-if .ensures) (c .enum-told .given .1)))))
 
 returns : tie.Need-returns
 unfolding stepCheck
-returns c =
+returns c frames k =
     let refused = c .before .enum-told2 .given .1 in
     let same = ap checked (c .no-frame .ensures .0) in
     let no = not-passed _ _ _ refused in
-    let l = c .no-frame .result .remainder in
     record {
-      rows = same ∙ then-refused _ _ _ _ _ (opened (c .before .before .before)) refused;
+      rows = same ∙ then-refused _ _ _ _ _ (opened frames (c .before .before .before) k) refused;
       after = λ q. absurd (no (sym same ∙ q));
       room = λ q. absurd (no (sym same ∙ q));
-      reduced = λ k. untilZero-none (l .first) (l .second) (l .third) (c .no-frame .ensures .1);
+      reduced = λ five. c .no-frame .ensures .1;
     }
-
-read-entry-requires : tie.Need-read-entry-requires
-read-entry-requires c κs = omega (arith, start (tried c) .pre .1 .1 .0 .within)
-
-sub-last : tie.Need-sub-last
-sub-last c = omega (arith, positive (c .before))
-
-element-copy-out-goal-at : tie.Need-element-copy-out-goal-at
-element-copy-out-goal-at c = omega (arith, positive (c .before), start (tried (c .before)) .pre .1 .1 .1 .deep)
-
-goal-at-requires : tie.Need-goal-at-requires
-goal-at-requires c κs =
-    let o = c .before .before in
-    let b = start (tried o) in
-    (omega (arith, positive o, b .pre .1 .1 .1 .deep), b .pre .1 .1 .1 .goals (b .args .depth - 1) (omega (arith, positive o)))
-
--- the goal is that of the frames
-aimed : (c : tie.After-goal-at)
-    → let b = begun c in c .goal-at .result ≡ goal (numbered (now (b .args .v)) (now (b .args .s))) (frames b)
-aimed c =
-    let a = begun c .args in
-    goal-frames (now (a .table)) (now (a .closed)) (a .depth) (now (a .v)) (now (a .s)) (a .depth - 1) _
-    (positive (read c .before)) refl (c .goal-at .ensures)
-
--- how many frames there are
-many : (b : tie.Start) → b .args .depth ≡ length (frames b)
-many b = sym (frames-length (now (b .args .table)) (now (b .args .closed)) (b .args .depth))
 
 test-extension-requires : tie.Need-test-extension-requires
 test-extension-requires c κs =
-    let b = begun (c .before) in
-    let e = read (c .before) .read-entry .ensures in
-    (b .pre .0, (b .pre .1 .0, record { step = b .pre .1 .1 .0; read = e; kind = c .match2 .keys1 }))
-
-can-reduce-requires : tie.Need-can-reduce-requires
-can-reduce-requires c κs = begun (c .before) .pre .1 .1 .1
+    let p = begun (c .before) .pre in
+    (p .0, (p .1 .0, record { read = p .1 .1; kind = c .match2 .keys1 }))
 
 returns-2 : tie.Need-returns-2
-returns-2 c =
-    let g = c .before .before in
-    let o = read g .before in
-    let b = begun g in
+returns-2 c frames k =
+    let o = c .before .before in
+    let b = begun o in
     let a = b .args in
-    let e = read g .read-entry in
+    let e = a .step .entry in
     let x = c .test-extension .ensures in
-    let k = c .before .match2 .keys1 in
-    let step = step-extending (now (a .s)) (a .i) (e .result) (e .ensures) k in
+    let four = c .before .match2 .keys1 in
+    let read = b .pre .1 .1 .read in
+    let step = step-extending (now (a .s)) (a .step .number) e read four in
     record {
-      rows = then-fine _ _ _ _ (opened (tried o)) (o .enum-told .given .1) (x .rows)
-          ∙ extension-rows (now (a .v)) (now (a .s)) (a .i) (frames b) (extensionOf (e .result)) step _ _ (aimed g) (many b);
-      after = λ q. ap (λ (l : List ℕ). extendBy l (frames b)) (x .remainder q)
-          ∙ extension-after (now (a .v)) (now (a .s)) (a .i) (frames b) (extensionOf (e .result)) step;
-      room = λ q h. subst (λ (n : ℕ). n < frameLimit) (many b) (x .room q h);
-      reduced = λ l. absurd (four-five _ _ (ap (λ (h : Entry). h .w0) (e .ensures)) k l);
+      rows = then-fine _ _ _ _ (opened frames (tried o) k) (o .enum-told .given .1) (x .rows)
+          ∙ extension-rows (now (a .v)) (now (a .s)) (a .step .number) frames (extensionOf e) step _ _ (aimed frames o k)
+          (k .depth);
+      after = λ q. ap (λ (l : List ℕ). extendBy l frames) (x .remainder q)
+          ∙ extension-after (now (a .v)) (now (a .s)) (a .step .number) frames (extensionOf e) step;
+      room = λ q h. subst (λ (n : ℕ). n < frameLimit) (k .depth) (x .room q h);
+      reduced = λ five. absurd (four-five _ _ (ap (λ (h : Entry). h .w0) read) four five);
     }
 
 returns-3 : tie.Need-returns-3
-returns-3 c =
+returns-3 c frames k =
     let m = c .before .before .before in
-    let g = m .before in
-    let o = read g .before in
-    let b = begun g in
-    let a = b .args in
-    let e = read g .read-entry in
-    let step = step-reducing (now (a .s)) (a .i) (e .result) (e .ensures) (m .match2 .keys2) in
+    let o = m .before in
+    let a = begun o .args in
+    let e = a .step .entry in
+    let step = step-reducing (now (a .s)) (a .step .number) e (begun o .pre .1 .1 .read) (m .match2 .keys2) in
+    let none = c .no-frame2 .ensures .1 in
     let l = c .no-frame2 .result .remainder in
-    let none = untilZero-none (l .first) (l .second) (l .third) (c .no-frame2 .ensures .1) in
     record {
       rows = ap checked (c .no-frame2 .ensures .0)
-          ∙ then-fine _ _ _ _ (opened (tried o)) (o .enum-told .given .1)
-          (require-test _ _ _ _ _ (c .before .pass-if2 .ensures) (c .before .before .can-reduce .ensures))
-          ∙ reduction-rows (now (a .v)) (now (a .s)) (a .i) (frames b) (e .result .w1) step _ (aimed g);
-      after = λ q. reduction-after (now (a .v)) (now (a .s)) (a .i) (frames b) (e .result .w1) _ step (c .no-frame2 .ensures .1);
+          ∙ then-fine _ _ _ _ (opened frames (tried o) k) (o .enum-told .given .1)
+          (require-test _ _ _ _ _ (c .before .pass-if2 .ensures) (c .before .before .is-opposed .ensures ∙ k .lower))
+          ∙ reduction-rows (now (a .v)) (now (a .s)) (a .step .number) frames (e .w1) step _ (aimed frames o k);
+      after = λ q. reduction-after (now (a .v)) (now (a .s)) (a .step .number) frames (e .w1) _ step
+          (left-none (l .goal) (l .other) none);
       room = λ q h. absurd (omega (arith, h, none));
-      reduced = λ k. none;
+      reduced = λ five. none;
     }
 
 returns-4 : tie.Need-returns-4
-returns-4 c =
+returns-4 c frames k =
     let m = c .before in
-    let g = m .before in
-    let o = read g .before in
-    let b = begun g in
-    let a = b .args in
-    let e = read g .read-entry in
-    let l = c .no-frame3 .result .remainder in
+    let o = m .before in
+    let a = begun o .args in
     let same = ap checked (c .no-frame3 .ensures .0) in
-    let starts = step-neither (now (a .s)) (a .i) (e .result) (e .ensures) (m .match2 .rest .0 .1) (m .match2 .rest .1) in
+    let starts = step-neither (now (a .s)) (a .step .number) (a .step .entry) (begun o .pre .1 .1 .read)
+    (m .match2 .rest .0 .1) (m .match2 .rest .1) in
     record {
       rows = same
-          ∙ then-fine _ _ _ _ (opened (tried o)) (o .enum-told .given .1) refl
-          ∙ start-rows (now (a .v)) (now (a .s)) (a .i) (frames b) starts;
+          ∙ then-fine _ _ _ _ (opened frames (tried o) k) (o .enum-told .given .1) refl
+          ∙ start-rows (now (a .v)) (now (a .s)) (a .step .number) frames starts;
       after = λ q. absurd (no-pass (sym same ∙ q));
       room = λ q. absurd (no-pass (sym same ∙ q));
-      reduced = λ k. untilZero-none (l .first) (l .second) (l .third) (c .no-frame3 .ensures .1);
+      reduced = λ five. c .no-frame3 .ensures .1;
     }
 
 pub test-step-spec : {M : Type 1} → statement M
 test-step-spec =
     tie.close
     (tie.spec (λ c κs. search needs) (λ c. search needs) (λ c. search needs) (λ c κs. search needs) returns
-    read-entry-requires sub-last element-copy-out-goal-at goal-at-requires test-extension-requires can-reduce-requires
-    (λ c κs. search needs) (λ c κs. search needs) (λ c κs. search needs) returns-2 returns-3 returns-4)
+    test-extension-requires (λ c κs. search needs) (λ c κs. search needs) (λ c κs. search needs) (λ c κs. search needs) returns-2
+    returns-3 returns-4)

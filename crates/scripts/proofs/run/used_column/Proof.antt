@@ -41,12 +41,15 @@ form : (c : tie.Start) → KeepsForm (now (c .args .v)) (now (c .args .s))
 form c = keeps-form _ _ (c .pre .0 .form)
 
 -- what row 18 tells
-extends : (c : tie.Start) → Extends (now (c .args .v)) (now (c .args .s)) (extensionOf (c .args .e))
-extends c = read-extends _ _ _ _ (c .pre .0) (c .args .i) (c .args .e) (c .pre .1 .1)
+extends : (c : tie.Start) → Extends (now (c .args .v)) (now (c .args .s)) (extensionOf (c .args .step .entry))
+extends c = read-extends _ _ _ _ (c .pre .0) (c .args .step) (c .pre .1 .1)
 
--- Places: the start, from where the code of x, the code of y and the origin of x were found.
+-- Places: the start, from where the slices are lent, and where the code of x, the code of y and the origin of x were found.
+abbrev lent : tie.After-shared-slice-known3 → tie.Start
+lent c = c .before .before .before
+
 abbrev at-x : tie.After-code-in → tie.Start
-at-x c = c .before .before .before .before .before
+at-x c = lent (c .before .before .before)
 
 abbrev at-y : tie.After-code-in2 → tie.Start
 at-y c = at-x (c .before .before)
@@ -56,7 +59,7 @@ at-fx c = at-y (c .before .before)
 
 code-in-requires : tie.Need-code-in-requires
 code-in-requires c κs =
-    let b = c .before .before .before .before in
+    let b = lent (c .before .before) in
     b .pre .1 .0 .room _ (extends b .first)
 
 code-in-requires-2 : tie.Need-code-in-requires-2
@@ -71,18 +74,18 @@ origin-in-requires c κs =
     b .pre .1 .0 .room _ (extends b .first)
 
 -- the codes of the two terms, and the origin of the first
-first-code : (c : tie.After-code-in) → c .code-in .result ≡ codeAt (now (at-x c .args .s)) (at-x c .args .e .w3)
+first-code : (c : tie.After-code-in) → c .code-in .result ≡ codeAt (now (at-x c .args .s)) (at-x c .args .step .entry .w3)
 first-code c =
     let b = at-x c in
     let x = extends b .first in
     c .code-in .ensures ∙ number-code _ _ (good b) (form b) _ _ (b .pre .1 .0) _ (x .within) x
 
-second-code : (c : tie.After-code-in2) → c .code-in2 .result ≡ codeAt (now (at-y c .args .s)) (at-y c .args .e .w4)
+second-code : (c : tie.After-code-in2) → c .code-in2 .result ≡ codeAt (now (at-y c .args .s)) (at-y c .args .step .entry .w4)
 second-code c =
     let b = at-y c in
     c .code-in2 .ensures ∙ number-second _ _ (good b) (form b) _ (b .pre .1 .0) _ (extends b .second)
 
-first-origin : (c : tie.After-origin-in) → c .origin-in .result ≡ origin (now (at-fx c .args .s)) (at-fx c .args .e .w3)
+first-origin : (c : tie.After-origin-in) → c .origin-in .result ≡ origin (now (at-fx c .args .s)) (at-fx c .args .step .entry .w3)
 first-origin c =
     let b = at-fx c in
     let x = extends b .first in
@@ -116,9 +119,9 @@ returns c =
     let y = o .before .before in
     let b = at-fx o in
     c .find-column .ensures
-    ∙ used-as (now (b .args .v)) (now (b .args .s)) (b .args .header) (extensionOf (b .args .e)) _ _ _
+    ∙ used-as (now (b .args .v)) (now (b .args .s)) (b .args .header) (extensionOf (b .args .step .entry)) _ _ _
     (b .pre .0 .begun .read) (first-code (y .before .before)) (second-code y)
-    (c .before .code-of .ensures ∙ ap (codeOf (b .args .e .w1)) (first-origin o))
+    (c .before .code-of .ensures ∙ ap (codeOf (b .args .step .entry .w1)) (first-origin o))
 
 pub used-column-spec : {M : Type 1} → statement M
 used-column-spec =
