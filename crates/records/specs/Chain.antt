@@ -27,7 +27,7 @@ abbrev pub chained : List ℕ → ℕ → Bool
 chained v i = occurs i (chain v)
 
 -- Record i is a statement of the vocabulary, as the crates above ask: "The statements of a vocabulary, here and in the demands,
--- are those on the chain."
+-- are those on the chain." (Request 7 will make it: chained and not replaced.)
 abbrev pub inForce : List ℕ → ℕ → Bool
 inForce v i = chained v i
 

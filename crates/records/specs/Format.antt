@@ -4,8 +4,8 @@ use mathlib.Core.List.{List, [], _∷_, _++_}
 use lib.ListN.{length, getD, take, drop}
 use Rattle.records.specs.declared.fields.Record.{Record}
 
--- The figures, by names for the code and its laws. Rows 1 and 2 (specs/Check.antt) have the numbers, and could not be met with
--- others here.
+-- Figures, under the names by which code and laws cite them. Rows 1 and 2 (Check) say the numbers themselves, so that with
+-- another number here no proof of these rows stands.
 
 -- "A record is 8 bytes"
 abbrev pub recordSize : ℕ

@@ -26,7 +26,7 @@ abbrev pub require : Bool → ℕ → ℕ → Check
 require true n p = pass
 require false n p = refused n p
 
--- Rows one after the other, by their numbers.
+-- Rows by their numbers, in "table order".
 abbrev pub inRows : (ℕ → Check) → List ℕ → Check
 inRows check [] = pass
 inRows check (n ∷ rows) = check n then inRows check rows
