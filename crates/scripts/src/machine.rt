@@ -120,11 +120,11 @@ impl Machine {
         requires { ⌜ Shows self [] ⌝ }
         ensures { λ r. ⌜ Shows r ((goal ∷ []) ∷ []) ⌝ }
     {
-        self.extend_single(goal)
+        self.extend(goal)
     }
 
     // The goal is connected with a column that has one other literal, which is the next frame.
-    pub fn extend_single(self, goal: u64) -> Self
+    pub fn extend(self, goal: u64) -> Self
         requires { ⌜ Standing self ⌝ }
         requires { ⌜ self .depth < frameLimit ⌝ }
         ensures { λ r. ⌜ Shows r ((goal ∷ []) ∷ framesOf self) ⌝ }

@@ -214,7 +214,7 @@ fn run_steps(
         } else if next.goal == 0 {
             state = state.close();
         } else if next.other == 0 {
-            state = state.extend_single(next.goal);
+            state = state.extend(next.goal);
         } else {
             state = state.extend_pair(next.goal, next.other);
         }

@@ -139,8 +139,8 @@ reduce-requires c κs = stands (c .before)
 close-requires : tie.Need-close-requires Inv-loop μ-loop
 close-requires c κs = stands (no-reduction (c .before))
 
-extend-single-requires : tie.Need-extend-single-requires Inv-loop μ-loop
-extend-single-requires c κs =
+extend-requires : tie.Need-extend-requires Inv-loop μ-loop
+extend-requires c κs =
     let p = opening (c .before) in
     (stands p, room p (omega (arith, c .before .before .if2 .left)))
 
@@ -209,5 +209,5 @@ run-steps-spec =
     (tie.spec Inv-loop μ-loop read-entry-requires (λ c κs. tt) start-requires read-entry-requires-2
     (λ c. omega (arith, c .before .read-entry2 .ok)) loop-holds read-entry-requires-3 aim-at-requires test-step-requires
     (λ c. search needs) (λ c. search needs) (λ c κs. tt)
-    returns reduce-requires close-requires extend-single-requires extend-pair-requires add-steps (λ c. omega arith) loop-less
+    returns reduce-requires close-requires extend-requires extend-pair-requires add-steps (λ c. omega arith) loop-less
     loop-again (λ c κs. tt) (λ c κs. tt) returns-2)

@@ -10,14 +10,14 @@ use Rattle.scripts.proofs.Refinement.Frames.{depth-length}
 use Rattle.scripts.proofs.machine.Machine.start.Statement.{statement}
 use Rattle.scripts.proofs.machine.Machine.start.Tie as tie
 
-extend-single-requires : tie.Need-extend-single-requires
-extend-single-requires c κs =
+extend-requires : tie.Need-extend-requires
+extend-requires c κs =
     let none : c .args .self .depth ≡ 0 = sym (depth-length (c .args .self)) ∙ ap length (c .pre .shown) in
     (c .pre .standing, omega arith)
 
 returns : tie.Need-returns
 returns c =
-    let r = c .extend-single .ensures in
+    let r = c .extend .ensures in
     let b = c .before in
     record {
       standing = r .standing;
@@ -25,4 +25,4 @@ returns c =
     }
 
 pub start-spec : {M : Type 1} → statement M
-start-spec = tie.close (tie.spec extend-single-requires returns)
+start-spec = tie.close (tie.spec extend-requires returns)

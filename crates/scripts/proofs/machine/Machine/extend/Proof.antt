@@ -1,4 +1,4 @@
--- `scripts::machine::Machine::extend_single` meets its contract: a frame of one literal stands above those that are open. That
+-- `scripts::machine::Machine::extend` meets its contract: a frame of one literal stands above those that are open. That
 -- an array has an entry for each frame is what owning the machine tells.
 -- Assumes nothing.
 use native.Mathlib.Omega.{arith}
@@ -7,8 +7,8 @@ use lib.ListN.{length}
 use borrow.Author.Needs.{needs}
 use Rattle.scripts.specs.Calculus.{frameLimit}
 use Rattle.scripts.proofs.Refinement.Frames.{entries-length, frames-single}
-use Rattle.scripts.proofs.machine.Machine.extend_single.Statement.{statement}
-use Rattle.scripts.proofs.machine.Machine.extend_single.Tie as tie
+use Rattle.scripts.proofs.machine.Machine.extend.Statement.{statement}
+use Rattle.scripts.proofs.machine.Machine.extend.Tie as tie
 
 returns : tie.Need-returns
 returns c =
@@ -22,5 +22,5 @@ returns c =
           (p .0 .back) (omega (arith, p .1));
     }
 
-pub extend-single-spec : {M : Type 1} → statement M
-extend-single-spec = tie.close (tie.spec (λ c. search needs) (λ c. search needs) (λ c. search needs) returns)
+pub extend-spec : {M : Type 1} → statement M
+extend-spec = tie.close (tie.spec (λ c. search needs) (λ c. search needs) (λ c. search needs) returns)
