@@ -482,8 +482,8 @@ static const struct plan {
     {"2,046 terms, no step (20)", make_no_step, 1, 0},
     {"small: 5 records", make_sample, 0.0015, 3},
     {"small: 6 records, a function", make_sample_function, 0.0015, 3},
-    {"middle: 64 records", make_few, 0.015, 35},
-    {"middle: 65 records", make_one_more, 0.0165, 35},
+    {"middle: 64 records", make_few, 0.018, 35},
+    {"middle: 65 records", make_one_more, 0.02, 35},
 };
 
 static void begin_maker(struct maker *maker, struct proof *proof, const char *name)

@@ -128,18 +128,15 @@ fn test_extension(
     requires { ⌜ IsExtension (now s) step ⌝ }
     ensures { λ r. ⌜ ExtensionTested (now (v .entry)) (now (s .entry)) step aim r ⌝ }
 {
+    let i = step.number;
     let column = used_column(v, marks, s, terms, header, step);
     let position = step.entry.w5 as usize;
-    let answer = pass_if(
-        is_opposed(literal_at(column, position), aim.goal),
-        21,
-        step.number,
-    );
+    let answer = pass_if(is_opposed(literal_at(column, position), aim.goal), 21, i);
     let Checked::Fine = answer else {
         return no_frame(answer);
     };
     let remainder = leave_out(column, position);
-    let answer = pass_if(has_room(remainder, aim.depth), 23, step.number);
+    let answer = pass_if(has_room(remainder, aim.depth), 23, i);
     Tested { answer, remainder }
 }
 
@@ -158,7 +155,8 @@ fn test_step(
     requires { ⌜ IsRead (now s) step ⌝ }
     ensures { λ r. ⌜ TestedAt (now (v .entry)) (now (s .entry)) step aim r ⌝ }
 {
-    let answer = pass_if(aim.depth != 0, 25, step.number);
+    let i = step.number;
+    let answer = pass_if(aim.depth != 0, 25, i);
     let Checked::Fine = answer else {
         return no_frame(answer);
     };
@@ -166,12 +164,12 @@ fn test_step(
     match kind {
         4 => test_extension(v, marks, s, terms, header, step, aim),
         5 => {
-            let answer = pass_if(is_opposed(aim.lower, aim.goal), 22, step.number);
+            let answer = pass_if(is_opposed(aim.lower, aim.goal), 22, i);
             no_frame(answer)
         }
         _ => no_frame(Checked::Refused {
             number: 20,
-            place: step.number,
+            place: i,
         }),
     }
 }

@@ -136,7 +136,7 @@ module _ (v : List ℕ) (q : Query) where
             (r .same
             ∙ ap (λ (x : Steps). steps (r .derivation) ++ x) (closed-fails (r .rest) (r .succeeded))
             ∙ append-nil (steps (r .derivation)));
-        frames = r .bounded;
+        frames = omega (arith, r .bounded);
       }
 
   begins-derives : (list : Steps) → AllListed v q list → chainSucceeds (writtenOut v q) list ≡ true → Derives v q list
