@@ -100,7 +100,7 @@ enum {
 
 /* Stack that is enough for any call; measured, not proved (tests/stack.c, over the stored cases; the kit's compiler,
  * x86-64): the vocabulary check needs 104 bytes, the record call 8, the comparison 46,248, the classification 46,584,
- * the script check 24,248, making 8, adding a term 216, adding a statement 200, and at most 3,100 more where the
+ * the script check 24,216, making 8, adding a term 216, adding a statement 200, and at most 3,100 more where the
  * program binds memset or memcpy only at the first call. */
 enum { JUDGE_STACK_BYTES = 131072 };
 

@@ -25,8 +25,8 @@ use records::answers::pass_if;
 use records::fields::Record;
 ghost use mathlib.Core.Path.{_≡_};
 ghost use mathlib.Core.Bool.{_||_};
-ghost use mathlib.Core.List.{[], _∷_};
-ghost use Prim.Native.Nat.{_≤_};
+ghost use mathlib.Core.List.{List, [], _∷_};
+ghost use Prim.Native.Nat.{ℕ, _≤_};
 ghost use lib.Dec.{ltb};
 ghost use Rattle.columns.specs.Code.Packed.{literals};
 ghost use Rattle.scripts.specs.Format.{entryAt, entries, extensionOf};
@@ -34,23 +34,17 @@ ghost use Rattle.scripts.specs.Calculus.{frameLimit};
 ghost use Rattle.records.specs.Finite.{isNil};
 ghost use Rattle.scripts.specs.Code.Codes.{opposed};
 ghost use Rattle.scripts.specs.Code.Index.{TermsBefore, AllNumbered, fewEntries, Blank};
-ghost use Rattle.scripts.specs.Code.Machine.{left};
-ghost use Rattle.scripts.specs.Code.Numbered.{usedNumbers};
-ghost use Rattle.scripts.specs.Code.Tested.{ExtensionTested, TestedAt, runAfter, chainOutcome};
+ghost use Rattle.scripts.specs.Code.Machine.{left, Shows};
+ghost use Rattle.scripts.specs.Code.Numbered.{startNumbers, usedNumbers};
+ghost use Rattle.scripts.specs.Code.Tested.{ExtensionTested, TestedAt, startOutcome, chainOutcome};
 ghost use Rattle.scripts.specs.Answers.{judged};
-ghost use Rattle.scripts.specs.Code.Ready.{Ready, IsStep, IsRead, IsExtension};
+ghost use Rattle.scripts.specs.Code.Ready.{Ready, IsStart, IsRead, IsExtension};
 
 // A step's answer and, if it passed, the literals of the frame that it opens: the other literals of an extension's column.
 // A step that closes the goal has none.
 pub struct Tested {
     pub answer: Checked,
     pub remainder: Remainder,
-}
-
-// A start: the number of its record, and the literal of its query column, which is the goal of frame 0.
-pub struct Start {
-    pub number: usize,
-    pub goal: u64,
 }
 
 // The answer of a step that opens no frame.
@@ -174,24 +168,34 @@ fn test_step(
     }
 }
 
-// The steps after a start.
+// The machine after a start, whose record e is: the literal of its query column is frame 0.
+fn begin(header: Entry, e: Entry) -> Machine
+    requires { ⌜ e .w1 ≤ 1 ⌝ }
+    ensures { λ r. ⌜ ((v s : List ℕ) → header ≡ entryAt s 0 → Shows r (startNumbers v s (e .w1) ∷ [])) ⌝ }
+{
+    let column = query_column(header.w1, header.w2, e.w1);
+    Machine::empty().start(column.first)
+}
+
+// A start, record `first`, and the steps after it.
 fn run_steps(
     v: &[u8],
     marks: &[bool; Record::LIMIT],
     s: &[u8],
     terms: &[u32],
-    start: Start,
+    first: usize,
 ) -> Judged
     requires { ⌜ Ready (now v) (now s) (now marks) (entryAt (now s) 0) ⌝ }
     requires { ⌜ AllNumbered (now s) (now terms) ⌝ }
-    requires { ⌜ IsStep (now s) (start .number) ⌝ }
-    ensures { λ r. ⌜ judged r ≡ runAfter (now (v .entry)) (now (s .entry)) ((start .goal ∷ []) ∷ []) (start .number) ⌝ }
+    requires { ⌜ IsStart (now s) first ⌝ }
+    ensures { λ r. ⌜ judged r ≡ startOutcome (now (v .entry)) (now (s .entry)) first ⌝ }
 {
     // Read again: kept until here, its words would take registers from the loops of the form.
     let header = read_entry(s, 0);
-    let mut state = Machine::empty().start(start.goal);
-    let mut last = start.number;
-    let mut at = read_entry(s, start.number).w7 as usize;
+    let start = read_entry(s, first);
+    let mut state = begin(header, start);
+    let mut last = first;
+    let mut at = start.w7 as usize;
     let mut steps = 1;
     while at != 0 {
         let e = read_entry(s, at);
@@ -229,33 +233,33 @@ fn run_numbering(
     marks: &[bool; Record::LIMIT],
     s: &[u8],
     end: usize,
-    start: Start,
+    first: usize,
     links: &mut [u16],
     terms: &mut [u32],
 ) -> Judged
     requires { ⌜ Ready (now v) (now s) (now marks) (entryAt (now s) 0) ⌝ }
-    requires { ⌜ IsStep (now s) (start .number) ⌝ }
+    requires { ⌜ IsStart (now s) first ⌝ }
     requires { ⌜ TermsBefore (now s) end ⌝ }
     requires { ⌜ end ≤ entries (now s) ⌝ }
     requires { ⌜ Blank (now s) (now links) (now terms) ⌝ }
-    ensures { λ r. ⌜ judged r ≡ runAfter (now (v .entry)) (now (s .entry)) ((start .goal ∷ []) ∷ []) (start .number) ⌝ }
+    ensures { λ r. ⌜ judged r ≡ startOutcome (now (v .entry)) (now (s .entry)) first ⌝ }
 {
     index_terms(s, end, links, terms);
-    run_steps(v, marks, s, terms, start)
+    run_steps(v, marks, s, terms, first)
 }
 
 // Does so for few terms in small tables: to zero the large ones takes as long as a small call.
-fn run_few(v: &[u8], marks: &[bool; Record::LIMIT], s: &[u8], end: usize, start: Start) -> Judged
+fn run_few(v: &[u8], marks: &[bool; Record::LIMIT], s: &[u8], end: usize, first: usize) -> Judged
     requires { ⌜ Ready (now v) (now s) (now marks) (entryAt (now s) 0) ⌝ }
-    requires { ⌜ IsStep (now s) (start .number) ⌝ }
+    requires { ⌜ IsStart (now s) first ⌝ }
     requires { ⌜ TermsBefore (now s) end ⌝ }
     requires { ⌜ end ≤ entries (now s) ⌝ }
     requires { ⌜ end ≤ fewEntries ⌝ }
-    ensures { λ r. ⌜ judged r ≡ runAfter (now (v .entry)) (now (s .entry)) ((start .goal ∷ []) ∷ []) (start .number) ⌝ }
+    ensures { λ r. ⌜ judged r ≡ startOutcome (now (v .entry)) (now (s .entry)) first ⌝ }
 {
     let mut links = [0; Index::LINKS * Index::FEW];
     let mut terms = [0; Index::FEW];
-    run_numbering(v, marks, s, end, start, &mut links, &mut terms)
+    run_numbering(v, marks, s, end, first, &mut links, &mut terms)
 }
 
 // The chain: its first step is a start, the others follow.
@@ -268,21 +272,15 @@ pub fn check_chain(v: &[u8], marks: &[bool; Record::LIMIT], s: &[u8], header: En
     let Checked::Fine = present else {
         return judge_after(present, 0);
     };
-    let e = read_entry(s, first);
-    let begun = pass_if(e.w0 == 3, 20, first);
+    let begun = pass_if(read_entry(s, first).w0 == 3, 20, first);
     let Checked::Fine = begun else {
         return judge_after(begun, 0);
     };
-    let column = query_column(header.w1, header.w2, e.w1);
-    let start = Start {
-        number: first,
-        goal: column.first,
-    };
     let end = find_end(s);
     if end <= Index::FEW {
-        return run_few(v, marks, s, end, start);
+        return run_few(v, marks, s, end, first);
     }
     let mut links = [0; Index::LINKS * Entry::LIMIT];
     let mut terms = [0; Entry::LIMIT];
-    run_numbering(v, marks, s, end, start, &mut links, &mut terms)
+    run_numbering(v, marks, s, end, first, &mut links, &mut terms)
 }

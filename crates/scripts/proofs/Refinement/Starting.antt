@@ -1,5 +1,6 @@
 -- The first step of the chain.
 --   start-single, start-column               a query column has one literal; it is the start's
+--   start-frames                             the frames after a start
 --   start-listed                             row 18: a start names one of the two query columns
 --   first-step                               a first step that is not 0 is a step
 --   chain-none, chain-other, chain-started   the chain's outcome: no step, another first step, a start
@@ -19,10 +20,10 @@ use Rattle.records.specs.declared.answers.Checked.the-variants.{Refused}
 use Rattle.records.proofs.Laws.Tests.{clash}
 use Rattle.columns.specs.Columns.{Query, queryColumns, columnsAt}
 use Rattle.columns.specs.Code.Packed.{packedAt, untilZero}
-use Rattle.scripts.specs.Format.{entryAt, queryIn, firstStep, chainFrom, chain}
+use Rattle.scripts.specs.Format.{entryAt, queryIn, firstStep, recordStep, chainFrom, chain}
 use Rattle.scripts.specs.Run.{stepped, chainCheck}
-use Rattle.scripts.specs.Code.Numbered.{startNumbers}
-use Rattle.scripts.specs.Code.Tested.{stepsAfter, runAfter, chainOutcome}
+use Rattle.scripts.specs.Code.Numbered.{startNumbers, numbered}
+use Rattle.scripts.specs.Code.Tested.{stepsAfter, startOutcome, chainOutcome}
 use Rattle.scripts.specs.Code.Ready.{IsStep}
 use Rattle.scripts.specs.declared.entry.Entry.{Entry}
 use Rattle.scripts.proofs.Refinement.Lines.{step-start}
@@ -53,6 +54,11 @@ pub start-column : (v s : List ℕ) (h : Entry) → h ≡ entryAt s 0 → (n : �
 unfolding columnsAt
 start-column v s h q n c e = e ∙ ap (λ (x : Entry). packedAt 0 0 0 (getD (queryColumns (queryIn x)) n [])) q
 
+pub start-frames : (v s : List ℕ) (i : ℕ) (e : Entry) → e ≡ entryAt s i → e .w0 ≡ 3
+    → startNumbers v s (e .w1) ∷ [] ≡ stepped (numbered v s) [] (recordStep s i)
+unfolding stepped
+start-frames v s i e q h = rw (step-starting s i e q h)
+
 module _ (v s : List ℕ) (f : KeepsForm v s) where
   pub start-listed : (i : ℕ) (e : Entry) → e ≡ entryAt s i → IsStep s i → e .w0 ≡ 3 → e .w1 ≤ 1
   start-listed i e q t h = leb-true (e .w1) 1 (step-start v s i e h ∙ (rw q (f .steps i (t .positive) (t .within))))
@@ -80,7 +86,6 @@ module _ (v s : List ℕ) (f : KeepsForm v s) where
         let n : e .w0 ≡ 3 → ⊥ = eqb-false (e .w0) 3 (row-refused k (eqb (e .w0) 3) 20 first m p h r) in
         a ∙ rw (h, ne-eqb (e .w0) 3 n, begun, step-other s first e read t n)
 
-    pub chain-started : (column : List ℕ) → column ≡ startNumbers v s (e .w1) → e .w0 ≡ 3
-        → runAfter v s (column ∷ []) first ≡ chainOutcome v s
-    unfolding chainCheck stepped
-    chain-started column a h = rw (a, begun, step-starting s first e read h)
+    pub chain-started : e .w0 ≡ 3 → startOutcome v s first ≡ chainOutcome v s
+    unfolding chainCheck
+    chain-started h = rw (begun, step-starting s first e read h)

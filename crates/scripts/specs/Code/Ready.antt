@@ -42,6 +42,11 @@ pub record IsStep (s : List ℕ) (i : ℕ) : Type 0 where
   pub within : i < entries s
   pub step : isStep (entryAt s i .w0) ≡ true
 
+-- Record i is a start.
+pub record IsStart (s : List ℕ) (i : ℕ) : Type 0 where
+  pub step : IsStep s i
+  pub kind : entryAt s i .w0 ≡ 3
+
 abbrev pub Reached : List ℕ → ℕ → Type 0
 Reached s i = (i ≡ 0) ⊎ IsStep s i
 

@@ -62,6 +62,10 @@ abbrev pub runAfter : List ℕ → List ℕ → Frames ℕ → ℕ → Outcome �
 runAfter v s frames first =
     run (numbered v s) (recordStep s) frames first (stepsAfter s first) then accepted (suc (length (stepsAfter s first)))
 
+-- The outcome of a start, record `first`, and the steps after it.
+abbrev pub startOutcome : List ℕ → List ℕ → ℕ → Outcome ℕ
+startOutcome v s first = runAfter v s (stepped (numbered v s) [] (recordStep s first)) first
+
 -- The outcome of the chain.
 abbrev pub chainOutcome : List ℕ → List ℕ → Outcome ℕ
 chainOutcome v s = chainCheck (numbered v s) (recordStep s) (chain s) then accepted (length (chain s))

@@ -1,24 +1,19 @@
--- `scripts::run::check_chain` meets its contract. The first step is a start, as row 20 asks; from its column the
--- other steps are run.
+-- `scripts::run::check_chain` meets its contract. The first step is a start, as row 20 asks; it and the other steps are run.
 -- Assumes nothing.
-use Prim.Native.Nat.{_≤_}
 use native.Mathlib.Omega.{arith}
 use mathlib.Core.Path.{_≡_, sym, ap, subst, _∙_}
-use mathlib.Core.List.{[], _∷_}
 use denote.Ref.{now}
 use borrow.Author.Needs.{needs}
 use borrow.Author.Tests.{eqb-true}
 use Rattle.records.proofs.Laws.Checks.{require-passed, checked-fine}
-use Rattle.columns.specs.Code.Packed.{literals}
-use Rattle.scripts.specs.Format.{entryAt, entryLimit, queryIn, firstStep}
+use Rattle.scripts.specs.Format.{entryAt, entryLimit, firstStep}
 use Rattle.scripts.specs.Answers.{judged}
-use Rattle.scripts.specs.Code.Tested.{runAfter, chainOutcome}
-use Rattle.scripts.specs.Code.Ready.{Ready, IsStep}
+use Rattle.scripts.specs.Code.Tested.{startOutcome, chainOutcome}
+use Rattle.scripts.specs.Code.Ready.{Ready, IsStep, IsStart}
 use Rattle.scripts.specs.declared.answers.Judged.{Judged}
 use Rattle.scripts.specs.declared.entry.Entry.{Entry}
 use Rattle.scripts.proofs.Theorems.Form.{KeepsForm, keeps-form}
-use Rattle.scripts.proofs.Refinement.Starting.{start-listed, start-single, start-column, chain-none, chain-other}
-use Rattle.scripts.proofs.Refinement.Starting.{chain-started, first-step}
+use Rattle.scripts.proofs.Refinement.Starting.{chain-none, chain-other, chain-started, first-step}
 use Rattle.scripts.proofs.Invariants.Indexing.{blank-tables}
 use Rattle.scripts.proofs.run.check_chain.Statement.{statement}
 use Rattle.scripts.proofs.run.check_chain.Tie as tie
@@ -69,13 +64,6 @@ started : (c : tie.After-enum-told3) → begun c .read-entry .result .w0 ≡ 3
 started c = eqb-true _ 3
     (require-passed _ _ _ (checked-fine _ _ (c .before .before .pass-if2 .ensures) (c .enum-told3 .given .1)))
 
--- of one of the two query columns
-column : (c : tie.After-enum-told3) → begun c .read-entry .result .w1 ≤ 1
-column c =
-    let e = begun c in
-    let b = start (e .before) in
-    start-listed (now (b .args .v)) (now (b .args .s)) (form b) _ _ (e .read-entry .ensures) (first (e .before)) (started c)
-
 returns-2 : tie.Need-returns-2
 returns-2 c =
     let p = c .before .before .before in
@@ -84,41 +72,31 @@ returns-2 c =
     chain-other (now (b .args .v)) (now (b .args .s)) (form b) _ (first-at b) (first (e .before)) _ (e .read-entry .ensures)
     _ _ _ _ (c .before .enum-told4 .given .1) (p .pass-if2 .ensures) (c .judge-after2 .ensures)
 
--- its column has one literal
-single : (c : tie.After-query-column)
-    → literals (c .query-column .result) ≡ c .query-column .result .first ∷ []
-single c =
-    let e = begun (c .before) in
-    let q = c .query-column in
-    start-single (queryIn (start (e .before) .args .header)) (e .read-entry .result .w1) (q .result .first) (q .result .second)
-    (q .result .third) (column (c .before)) (q .ensures 0 0 0)
+-- what the run of it relies on
+abbrev at-start : tie.After-enum-told3 → tie.Start
+at-start c = start (begun c .before)
 
--- what the run of them relies on
-abbrev at-query : tie.After-query-column → tie.Start
-at-query c = start (begun (c .before) .before)
-
-ready : (c : tie.After-query-column)
-    → let b = at-query c in
+ready : (c : tie.After-enum-told3)
+    → let b = at-start c in
     Ready (now (b .args .v)) (now (b .args .s)) (now (b .args .marks)) (entryAt (now (b .args .s)) 0)
-ready c = let b = at-query c in subst (Ready _ _ _) (b .pre .begun .read) (b .pre)
+ready c = let b = at-start c in subst (Ready _ _ _) (b .pre .begun .read) (b .pre)
+
+is-start : (c : tie.After-enum-told3) → let b = at-start c in IsStart (now (b .args .s)) (b .args .header .w3)
+is-start c =
+    let e = begun c in
+    record { step = first (e .before); kind = sym (ap (λ (x : Entry). x .w0) (e .read-entry .ensures)) ∙ started c }
 
 -- and what its answer tells
-answered : (c : tie.After-query-column) (r : Judged)
-    → let b = at-query c in
-    judged r
-    ≡ runAfter (now (b .args .v)) (now (b .args .s)) ((c .query-column .result .first ∷ []) ∷ []) (b .args .header .w3)
+answered : (c : tie.After-enum-told3) (r : Judged)
+    → let b = at-start c in
+    judged r ≡ startOutcome (now (b .args .v)) (now (b .args .s)) (b .args .header .w3)
     → judged r ≡ chainOutcome (now (b .args .v)) (now (b .args .s))
 answered c r told =
-    let q = c .query-column in
-    let g = c .before in
-    let e = begun g in
-    let b = at-query c in
+    let e = begun c in
+    let b = at-start c in
     told
     ∙ chain-started (now (b .args .v)) (now (b .args .s)) (form b) _ (first-at b) (first (e .before)) _
-    (e .read-entry .ensures) (q .result .first ∷ [])
-    (start-column (now (b .args .v)) (now (b .args .s)) (b .args .header) (b .pre .begun .read) (e .read-entry .result .w1)
-    (q .result .first ∷ []) (sym (single c) ∙ q .ensures 0 0 0))
-    (started g)
+    (e .read-entry .ensures) (started c)
 
 find-end-requires : tie.Need-find-end-requires
 find-end-requires c κs = tt
@@ -127,7 +105,7 @@ run-few-requires : tie.Need-run-few-requires
 run-few-requires c κs =
     let e = c .before .find-end .ensures in
     let q = c .before .before in
-    (ready q, (first (begun (q .before) .before), (e .0, (e .1, c .if1 .taken))))
+    (ready q, (is-start q, (e .0, (e .1, c .if1 .taken))))
 
 returns-3 : tie.Need-returns-3
 returns-3 c = answered (c .before .before .before) (c .run-few .result) (c .run-few .ensures)
@@ -136,10 +114,10 @@ run-numbering-requires : tie.Need-run-numbering-requires
 run-numbering-requires c κs =
     let f = ended c in
     let q = f .before in
-    let most = form (at-query q) .sized .most in
-    let s = now (at-query q .args .s) in
+    let most = form (at-start q) .sized .most in
+    let s = now (at-start q .args .s) in
     let blank = blank-tables s entryLimit (λ n r. omega (arith, r .within, most)) (omega arith) in
-    (ready q, (first (begun (q .before) .before), (f .find-end .ensures .0, (f .find-end .ensures .1, blank))))
+    (ready q, (is-start q, (f .find-end .ensures .0, (f .find-end .ensures .1, blank))))
 
 returns-4 : tie.Need-returns-4
 returns-4 c =
@@ -151,5 +129,5 @@ check-chain-spec =
     tie.close
     (tie.spec (λ c. search needs) (λ c κs. search needs) (λ c. search needs) (λ c. search needs) (λ c κs. search needs)
     returns read-entry-requires (λ c κs. search needs) (λ c. search needs) (λ c. search needs) (λ c κs. search needs)
-    returns-2 (λ c κs. search needs) find-end-requires run-few-requires returns-3 (λ c. search needs) (λ c. search needs)
+    returns-2 find-end-requires run-few-requires returns-3 (λ c. search needs) (λ c. search needs)
     run-numbering-requires returns-4)

@@ -1,9 +1,10 @@
 -- `scripts::run::run_steps` meets its contract. The loop's invariant: the steps made and those from `at` on are the run from the
--- frames that the start left; the machine's frames stand. The walk ends since the links of a passed form rise.
+-- frames that the start opened; the machine's frames stand. The walk ends since the links of a passed form rise.
 -- Assumes nothing.
 use Prim.Native.Nat.{ℕ, _<_}
 use native.Mathlib.Omega.{arith}
 use mathlib.Core.Path.{_≡_, refl, sym, ap, subst, _∙_}
+use mathlib.Core.List.{[], _∷_}
 use mathlib.Core.Logic.{⊎-elim}
 use denote.Ref.{now}
 use borrow.Author.Needs.{needs}
@@ -14,31 +15,33 @@ use Rattle.scripts.specs.Calculus.{frameLimit}
 use Rattle.scripts.specs.Run.{Frames, extendBy}
 use Rattle.scripts.specs.Code.Machine.{framesOf, Standing, Shows}
 use Rattle.scripts.specs.Code.Machine as machine
-use Rattle.scripts.specs.Code.Tested.{StepTested, runAfter}
+use Rattle.scripts.specs.Code.Numbered.{startNumbers}
+use Rattle.scripts.specs.Code.Tested.{StepTested, runAfter, startOutcome}
 use Rattle.scripts.specs.Code.Ready.{Ready, IsStep}
 use Rattle.scripts.specs.declared.entry.Entry.{Entry}
 use Rattle.scripts.proofs.Theorems.Form.{KeepsForm, keeps-form}
 use Rattle.scripts.proofs.Refinement.Frames.{depth-length, shows-none, shows-single, shows-pair}
+use Rattle.scripts.proofs.Refinement.Starting.{start-listed, start-frames}
 use Rattle.scripts.proofs.Invariants.Walk.{Walk, standing, walk-start, walk-next, walk-refused, walk-done, walk-falls}
 use Rattle.scripts.proofs.run.run_steps.Statement.{statement}
 use Rattle.scripts.proofs.run.run_steps.Tie as tie
 
 abbrev Inv-loop : tie.InvT-loop
-Inv-loop v marks s terms header state₀ last₀ at₀ steps₀ state last at steps =
+Inv-loop v marks s terms first header state₀ last₀ at₀ steps₀ state last at steps =
     Walk v s (runAfter v s (framesOf state₀) last₀) (framesOf state) last at steps × Standing state
 
 abbrev μ-loop : tie.MeasureT-loop
-μ-loop v marks s terms header state₀ last₀ at₀ steps₀ state last at steps = left (entries s) at
+μ-loop v marks s terms first header state₀ last₀ at₀ steps₀ state last at steps = left (entries s) at
 
 -- Places before the loop: the start, from where the slices are lent, and where the machine was started.
 abbrev lent : tie.After-shared-slice-known3 Inv-loop μ-loop → tie.Start Inv-loop μ-loop
 lent c = c .before .before .before
 
-abbrev start : tie.After-start Inv-loop μ-loop → tie.Start Inv-loop μ-loop
+abbrev start : tie.After-begin Inv-loop μ-loop → tie.Start Inv-loop μ-loop
 start c = lent (c .before .before .before)
 
-abbrev started : tie.At-loop Inv-loop μ-loop → tie.After-start Inv-loop μ-loop
-started c = c .before .before .before
+abbrev started : tie.At-loop Inv-loop μ-loop → tie.After-begin Inv-loop μ-loop
+started c = c .before .before
 
 -- In the loop: where the step was read, where it was tested, where it passed, and the branches by how it changes the frames.
 abbrev begun : tie.In-loop Inv-loop μ-loop → tie.Start Inv-loop μ-loop
@@ -84,19 +87,42 @@ facts c =
 read-entry-requires : tie.Need-read-entry-requires Inv-loop μ-loop
 read-entry-requires c κs = omega (arith, form (lent c) .sized .least)
 
-start-requires : tie.Need-start-requires Inv-loop μ-loop
-start-requires c κs = c .empty .ensures
-
 read-entry-requires-2 : tie.Need-read-entry-requires-2 Inv-loop μ-loop
-read-entry-requires-2 c κs = omega (arith, start c .pre .1 .1 .within)
+read-entry-requires-2 c κs = omega (arith, lent (c .before) .pre .1 .1 .step .within)
+
+-- the record that was read is a start
+kind : (c : tie.After-read-entry2 Inv-loop μ-loop) → c .read-entry2 .result .w0 ≡ 3
+kind c = ap (λ (x : Entry). x .w0) (c .read-entry2 .ensures) ∙ lent (c .before .before) .pre .1 .1 .kind
+
+begin-requires : tie.Need-begin-requires Inv-loop μ-loop
+begin-requires c κs =
+    let b = lent (c .before .before) in
+    start-listed (now (b .args .v)) (now (b .args .s)) (form b) _ _ (c .read-entry2 .ensures) (b .pre .1 .1 .step) (kind c)
+
+-- the frames that it opened
+opened : (c : tie.After-begin Inv-loop μ-loop)
+    → let a = start c .args in
+    Shows (c .begin .result) (startNumbers (now (a .v)) (now (a .s)) (c .before .read-entry2 .result .w1) ∷ [])
+opened c = c .begin .ensures _ _ (c .before .before .read-entry .ensures)
+
+-- so the run from them is the outcome of the start
+begins : (c : tie.After-begin Inv-loop μ-loop)
+    → let a = start c .args in
+    runAfter (now (a .v)) (now (a .s)) (framesOf (c .begin .result)) (a .first)
+    ≡ startOutcome (now (a .v)) (now (a .s)) (a .first)
+begins c =
+    let a = start c .args in
+    ap (λ (fs : Frames ℕ). runAfter (now (a .v)) (now (a .s)) fs (a .first))
+    (opened c .shown
+    ∙ start-frames (now (a .v)) (now (a .s)) (a .first) _ (c .before .read-entry2 .ensures) (kind (c .before)))
 
 loop-holds : tie.Need-loop-holds Inv-loop μ-loop
 loop-holds c =
-    let m = c .before .before in
+    let m = c .before in
     let b = start m in (
-      walk-start (now (b .args .v)) (now (b .args .s)) (form b) _ _ _ _ (b .pre .1 .1) refl
-          (ap (λ (x : Entry). x .w7) (c .before .read-entry2 .ensures)),
-      m .start .ensures .standing,
+      walk-start (now (b .args .v)) (now (b .args .s)) (form b) _ _ _ _ (b .pre .1 .1 .step) refl
+          (ap (λ (x : Entry). x .w7) (m .before .read-entry2 .ensures)),
+      opened m .standing,
     )
 
 read-entry-requires-3 : tie.Need-read-entry-requires-3 Inv-loop μ-loop
@@ -119,8 +145,7 @@ returns c =
     let b = begun w in
     walk-refused (now (b .args .v)) (now (b .args .s)) (form b) _ _ _ _ _ (w .before .loop .inv .0) _ _ _ _ (here w)
     (facts t .rows) (c .before .enum-told2 .given .1) (c .judge-after .ensures)
-    ∙ ap (λ (fs : Frames ℕ). runAfter (now (b .args .v)) (now (b .args .s)) fs (b .args .start .number))
-    (started (w .before) .start .ensures .shown)
+    ∙ begins (started (w .before))
 
 -- the machine stands
 stands : (c : tie.After-struct-known2 Inv-loop μ-loop) → Standing (walked c .before .loop .state)
@@ -200,14 +225,13 @@ returns-2 c =
     walk-done (now (b .args .v)) (now (b .args .s)) _ _ _ _ _ _ (e .before .loop .inv .0)
     (sym (depth-length (e .before .loop .state))) (e .loop-test .left) _ _
     (c .before .pass-if .ensures) (c .judge-after2 .ensures)
-    ∙ ap (λ (fs : Frames ℕ). runAfter (now (b .args .v)) (now (b .args .s)) fs (b .args .start .number))
-    (started (e .before) .start .ensures .shown)
+    ∙ begins (started (e .before))
 
 pub run-steps-spec : {M : Type 1} → statement M
 run-steps-spec =
     tie.close
-    (tie.spec Inv-loop μ-loop read-entry-requires (λ c κs. tt) start-requires read-entry-requires-2
-    (λ c. omega (arith, c .before .read-entry2 .ok)) loop-holds read-entry-requires-3 aim-at-requires test-step-requires
+    (tie.spec Inv-loop μ-loop read-entry-requires read-entry-requires-2 begin-requires
+    (λ c. omega (arith, c .before .before .read-entry2 .ok)) loop-holds read-entry-requires-3 aim-at-requires test-step-requires
     (λ c. search needs) (λ c. search needs) (λ c κs. tt)
     returns reduce-requires close-requires extend-requires extend-pair-requires add-steps (λ c. omega arith) loop-less
     loop-again (λ c κs. tt) (λ c κs. tt) returns-2)
