@@ -26,7 +26,8 @@ use records::fields::Record;
 ghost use mathlib.Core.Path.{_≡_};
 ghost use mathlib.Core.Bool.{_||_};
 ghost use mathlib.Core.List.{List, [], _∷_};
-ghost use Prim.Native.Nat.{ℕ, _≤_};
+ghost use Prim.Native.Nat.{ℕ, _≤_, _<_};
+ghost use lib.ListN.{length};
 ghost use lib.Dec.{ltb};
 ghost use Rattle.columns.specs.Code.Packed.{literals};
 ghost use Rattle.scripts.specs.Format.{entryAt, entries, extensionOf};
@@ -107,23 +108,12 @@ fn has_room(remainder: Remainder, depth: usize) -> bool
     depth < Machine::FRAMES
 }
 
-// Rows 21 and 23, at an extension.
-fn test_extension(
-    v: &[u8],
-    marks: &[bool; Record::LIMIT],
-    s: &[u8],
-    terms: &[u32],
-    header: Entry,
-    step: StepRecord,
-    aim: Aim,
-) -> Tested
-    requires { ⌜ Ready (now v) (now s) (now marks) header ⌝ }
-    requires { ⌜ AllNumbered (now s) (now terms) ⌝ }
-    requires { ⌜ IsExtension (now s) step ⌝ }
-    ensures { λ r. ⌜ ExtensionTested (now (v .entry)) (now (s .entry)) step aim r ⌝ }
+// Rows 21 and 23, at an extension by a column.
+fn test_extension(column: Column, step: StepRecord, aim: Aim) -> Tested
+    requires { ⌜ step .entry .w5 < length (literals column) ⌝ }
+    ensures { λ r. ⌜ ExtensionTested (literals column) step aim r ⌝ }
 {
     let i = step.number;
-    let column = used_column(v, marks, s, terms, header, step);
     let position = step.entry.w5 as usize;
     let answer = pass_if(is_opposed(literal_at(column, position), aim.goal), 21, i);
     let Checked::Fine = answer else {
@@ -156,7 +146,7 @@ fn test_step(
     };
     let kind = step.entry.w0;
     match kind {
-        4 => test_extension(v, marks, s, terms, header, step, aim),
+        4 => test_extension(used_column(v, marks, s, terms, header, step), step, aim),
         5 => {
             let answer = pass_if(is_opposed(aim.lower, aim.goal), 22, i);
             no_frame(answer)

@@ -29,7 +29,7 @@ use Rattle.records.specs.Finite.{isNil}
 use Rattle.scripts.specs.Run.{isStart, Frames, extendBy, goal, remainderIn, stepCheck, stepped}
 use Rattle.scripts.specs.Code.Codes.{opposed}
 use Rattle.scripts.specs.Code.Machine.{framesFrom}
-use Rattle.scripts.specs.Code.Numbered.{noNumber, numbered}
+use Rattle.scripts.specs.Code.Numbered.{noNumber, numbered, usedNumbers}
 use Rattle.scripts.specs.Code.Tested.{extensionCheck, reducesTo}
 use Rattle.scripts.specs.Code.Ready.{IsStep}
 use Rattle.scripts.specs.declared.entry.Entry.{Entry}
@@ -110,7 +110,8 @@ module _ (v s : List ℕ) (i : ℕ) (frames : Frames ℕ) where
 
   pub extension-rows : (e : Extension ℕ) → recordStep s i ≡ extension e → (g d : ℕ) → g ≡ goal (numbered v s) frames
       → d ≡ length frames
-      → (require (not (isNil frames)) 25 i then extensionCheck v s i g d e) ≡ stepCheck (numbered v s) i frames (recordStep s i)
+      → (require (not (isNil frames)) 25 i then extensionCheck (usedNumbers v s e) (e .position) i g d)
+      ≡ stepCheck (numbered v s) i frames (recordStep s i)
   unfolding stepCheck
   extension-rows e h g d p q = rw (h, p, q)
 

@@ -7,11 +7,10 @@ use lib.ListN.{length, getD}
 use lib.Dec.{ltb}
 use Rattle.records.specs.Outcome.{Outcome, Check, accepted, pass, _then_, require}
 use Rattle.records.specs.Answers.{checked}
-use Rattle.scripts.specs.Steps.{Extension}
-use Rattle.scripts.specs.Format.{entryAt, extensionOf, nextStep, recordStep, chainFrom, chain}
+use Rattle.scripts.specs.Format.{entryAt, nextStep, recordStep, chainFrom, chain}
 use Rattle.scripts.specs.Calculus.{frameLimit}
-use Rattle.scripts.specs.Run.{Frames, extendBy, connectedIn, remainderIn, stepCheck, stepped, run, chainCheck}
-use Rattle.records.specs.Finite.{isNil}
+use Rattle.scripts.specs.Run.{Frames, extendBy, stepCheck, stepped, run, chainCheck}
+use Rattle.records.specs.Finite.{isNil, without}
 use Rattle.scripts.specs.Code.Codes.{opposed}
 use Rattle.scripts.specs.Code.Machine.{left}
 use Rattle.scripts.specs.Code.Numbered.{noNumber, numbered}
@@ -19,11 +18,12 @@ use Rattle.scripts.specs.declared.entry.StepRecord.{StepRecord}
 use Rattle.scripts.specs.declared.machine.Aim.{Aim}
 use Rattle.scripts.specs.declared.run.Tested.{Tested}
 
--- Rows 21 and 23 at an extension, where the goal and the number of frames are given.
-abbrev pub extensionCheck : List ℕ → List ℕ → ℕ → ℕ → ℕ → Extension ℕ → Check
-extensionCheck v s i goal depth e =
-    require (opposed (connectedIn (numbered v s) e) goal) 21 i
-    then require (isNil (remainderIn (numbered v s) e) || ltb depth frameLimit) 23 i
+-- Rows 21 and 23 at an extension by a column, whose literal at the position is connected, where the goal and the number of
+-- frames are given.
+abbrev pub extensionCheck : List ℕ → ℕ → ℕ → ℕ → ℕ → Check
+extensionCheck column position i goal depth =
+    require (opposed (getD column position noNumber) goal) 21 i
+    then require (isNil (without position column) || ltb depth frameLimit) 23 i
 
 -- Row 22, where the goal is given.
 abbrev pub reducesTo : Frames ℕ → ℕ → ℕ → Bool
@@ -37,9 +37,9 @@ pub record Aims (aim : Aim) (frames : Frames ℕ) (f : ℕ) : Type 0 where
   pub lower : opposed (aim .lower) (aim .goal) ≡ reducesTo frames f (aim .goal)
 
 -- An extension was tested: its answer; where it passed, the column's other literals, for which there is room.
-pub record ExtensionTested (v s : List ℕ) (step : StepRecord) (aim : Aim) (t : Tested) : Type 0 where
-  pub rows : checked (t .answer) ≡ extensionCheck v s (step .number) (aim .goal) (aim .depth) (extensionOf (step .entry))
-  pub remainder : checked (t .answer) ≡ pass → left (t .remainder) ≡ remainderIn (numbered v s) (extensionOf (step .entry))
+pub record ExtensionTested (column : List ℕ) (step : StepRecord) (aim : Aim) (t : Tested) : Type 0 where
+  pub rows : checked (t .answer) ≡ extensionCheck column (step .entry .w5) (step .number) (aim .goal) (aim .depth)
+  pub remainder : checked (t .answer) ≡ pass → left (t .remainder) ≡ without (step .entry .w5) column
   pub room : checked (t .answer) ≡ pass → 0 < t .remainder .goal → aim .depth < frameLimit
 
 -- The step of record i was tested: its answer; where it passed, the literals that extend the frames, none for a reduction.

@@ -5,19 +5,23 @@ use native.Mathlib.Omega.{arith}
 use mathlib.Core.Path.{_≡_, refl, sym, ap, subst, _∙_}
 use mathlib.Core.Bool.{not}
 use mathlib.Core.List.{List}
+use lib.ListN.{length-map}
 use denote.Ref.{now}
 use borrow.Author.Needs.{needs}
 use Rattle.records.specs.Outcome.{refused, pass, require}
 use Rattle.records.specs.Answers.{checked}
 use Rattle.records.proofs.Laws.Checks.{require-passed, then-refused, then-fine, require-test, checked-fine}
 use Rattle.records.proofs.Laws.Tests.{clash}
-use Rattle.scripts.specs.Format.{extensionOf}
+use Rattle.columns.specs.Columns.{columnAt}
+use Rattle.scripts.specs.Format.{queryOf, extensionOf}
 use Rattle.scripts.specs.Calculus.{frameLimit}
 use Rattle.records.specs.Finite.{isNil}
 use Rattle.scripts.specs.Run.{Frames, extendBy, goal, stepCheck}
 use Rattle.scripts.specs.Code.Numbered.{numbered}
-use Rattle.scripts.specs.Code.Tested.{Aims}
+use Rattle.scripts.specs.Code.Tested.{Aims, ExtensionTested}
+use Rattle.scripts.specs.Code.Ready.{IsExtension}
 use Rattle.scripts.specs.declared.entry.Entry.{Entry}
+use Rattle.scripts.proofs.Refinement.Extensions.{read-extends}
 use Rattle.scripts.proofs.Refinement.Frames.{left-none, nil-frames}
 use Rattle.scripts.proofs.Refinement.Stepping.{open-positive, not-passed, step-extending}
 use Rattle.scripts.proofs.Refinement.Stepping.{step-reducing, step-neither, extension-rows, reduction-rows, start-rows}
@@ -77,19 +81,31 @@ returns c frames k =
       reduced = λ five. c .no-frame .ensures .1;
     }
 
+-- where the step is an extension
+extends : (c : tie.At-match2-keys1) → let a = begun (c .before) .args in IsExtension (now (a .s)) (a .step)
+extends c = record { read = begun (c .before) .pre .1 .1; kind = c .match2 .keys1 }
+
+used-column-requires : tie.Need-used-column-requires
+used-column-requires c κs = let p = begun (c .before) .pre in (p .0, (p .1 .0, extends c))
+
+-- row 18 told that the column has the position
 test-extension-requires : tie.Need-test-extension-requires
 test-extension-requires c κs =
-    let p = begun (c .before) .pre in
-    (p .0, (p .1 .0, record { read = p .1 .1; kind = c .match2 .keys1 }))
+    let b = begun (c .before .before) in
+    let e = b .args .step .entry in
+    let x = read-extends _ _ _ _ (b .pre .0) (b .args .step) (extends (c .before)) in
+    rw (c .used-column .ensures, length-map (columnAt (now (b .args .v)) (queryOf (now (b .args .s))) (e .w1) (e .w2)) _)
+    (x .position)
 
 returns-2 : tie.Need-returns-2
 returns-2 c frames k =
-    let o = c .before .before in
+    let o = c .before .before .before in
     let b = begun o in
     let a = b .args in
     let e = a .step .entry in
-    let x = c .test-extension .ensures in
-    let four = c .before .match2 .keys1 in
+    let x = subst (λ (l : List ℕ). ExtensionTested l (a .step) (a .aim) (c .test-extension .result))
+    (c .before .used-column .ensures) (c .test-extension .ensures) in
+    let four = c .before .before .match2 .keys1 in
     let read = b .pre .1 .1 .read in
     let step = step-extending (now (a .s)) (a .step .number) e read four in
     record {
@@ -143,5 +159,5 @@ pub test-step-spec : {M : Type 1} → statement M
 test-step-spec =
     tie.close
     (tie.spec (λ c κs. search needs) (λ c. search needs) (λ c. search needs) (λ c κs. search needs) returns
-    test-extension-requires (λ c κs. search needs) (λ c κs. search needs) (λ c κs. search needs) (λ c κs. search needs) returns-2
-    returns-3 returns-4)
+    used-column-requires test-extension-requires (λ c κs. search needs) (λ c κs. search needs) (λ c κs. search needs)
+    (λ c κs. search needs) returns-2 returns-3 returns-4)
