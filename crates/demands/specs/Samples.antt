@@ -96,16 +96,17 @@ pub data Answer : Type 0 where
   tables : Outcome Counts → List ℕ → Answer
   buffers : Outcome ℕ → List ℕ → Answer
 
--- n bytes that are lent
-abbrev pub lent : ℕ → List ℕ
-lent n = replicate n 99
+-- n bytes that are lent, before the call
+abbrev pub untouched : ℕ → List ℕ
+untouched n = replicate n 99
 
 abbrev pub answer : Question → Answer
 answer (reads v) = judgments (vocabularyCheck v)
 answer (finds v number) = judgments (recordCall v number)
-answer (compares v a b n) = verdicts (comparison v a b n) (take 2 (written (comparison v a b n) v (lent n)))
+answer (compares v a b n) = verdicts (comparison v a b n) (take 2 (written (comparison v a b n) v (untouched n)))
 answer (checks v s) = judgments (scriptCheck v s)
-answer (classifies v n m) = tables (classification v n m) (take (nameCount v * nameCount v) (secondAfter v (lent n) (lent m)))
+answer (classifies v n m) =
+    tables (classification v n m) (take (nameCount v * nameCount v) (secondAfter v (untouched n) (untouched m)))
 answer (makes lent roles) =
     buffers (newLength (making (length lent) roles)) (bufferAfter (making (length lent) roles) lent)
 answer (adds buffer used x) = buffers (newLength (adding buffer used x)) (bufferAfter (adding buffer used x) buffer)
@@ -360,10 +361,10 @@ answered =
     ∷ judgments (refused 6 2)
     ∷ judgments (accepted 40)
     ∷ judgments (refused 9 6)
-    ∷ verdicts (refused 10 5) (lent 2)
-    ∷ verdicts (refused 11 13) (lent 2)
-    ∷ verdicts (refused 12 0) (lent 2)
-    ∷ tables (refused 26 0) (lent 9)
+    ∷ verdicts (refused 10 5) (untouched 2)
+    ∷ verdicts (refused 11 13) (untouched 2)
+    ∷ verdicts (refused 12 0) (untouched 2)
+    ∷ tables (refused 26 0) (untouched 9)
     ∷ judgments (refused 13 0)
     ∷ judgments (refused 14 0)
     ∷ judgments (refused 15 2)
