@@ -132,32 +132,32 @@ module _ (buffer : List ℕ) (used : ℕ) (x : Addition) (n : ℕ) (done : Succe
 
 -- Where there is room, the reader's rows decide.
 module _ (buffer : List ℕ) (used : ℕ) (x : Addition) (room : Roomy buffer used) (is : is_addable x ≡ true) where
-  abbrev in_use_lem : List ℕ
-  in_use_lem = take used buffer
+  abbrev in_use : List ℕ
+  in_use = take used buffer
 
-  passed : vocabulary_rows in_use_lem ≡ pass
-  passed = accepted-rows in_use_lem (count in_use_lem) ((vocabulary_follows in_use_lem).accepted_always room.accepts)
+  passed : vocabulary_rows in_use ≡ pass
+  passed = accepted-rows in_use (count in_use) ((vocabulary_follows in_use).accepted_always room.accepts)
 
-  fits : room_check in_use_lem (length buffer) ≡ pass
+  fits : room_check in_use (length buffer) ≡ pass
   fits =
       rw (
-        lt-ltb (count in_use_lem) record_limit room.few,
-        le-leb (length in_use_lem + record_size) (length buffer)
+        lt-ltb (count in_use) record_limit room.few,
+        le-leb (length in_use + record_size) (length buffer)
             (omega (arith, room.free, length-take-le used buffer room.within)),
       )
 
-  own : (n p : ℕ) → Refuses (vocabulary_table (grown in_use_lem x)) n p → p ≡ count in_use_lem
+  own : (n p : ℕ) → Refuses (vocabulary_table (grown in_use x)) n p → p ≡ count in_use
   own n p r =
-      let adds : require (is_addable x) 3 (count in_use_lem) ≡ pass = rw is in
-      fields_at in_use_lem (count in_use_lem) (new_record x) n p
-      (sym (rows-own in_use_lem (length buffer) x passed fits adds)
-      ∙ sym (tries_vocabulary (grown in_use_lem x)).same
-      ∙ refuses_first (vocabulary_table (grown in_use_lem x)) n p r)
+      let adds : require (is_addable x) 3 (count in_use) ≡ pass = rw is in
+      fields_at in_use (count in_use) (new_record x) n p
+      (sym (rows-own in_use (length buffer) x passed fits adds)
+      ∙ sym (tries_vocabulary (grown in_use x)).same
+      ∙ refuses_first (vocabulary_table (grown in_use x)) n p r)
 
   pub as_reader : AsReader buffer used x
   as_reader =
       record {
-        same = follows (tries_vocabulary (grown in_use_lem x)) (adding-reader buffer used x room.within passed fits is);
+        same = follows (tries_vocabulary (grown in_use x)) (adding-reader buffer used x room.within passed fits is);
         own = own;
       }
 

@@ -24,7 +24,7 @@ use Rattle.records.specs.Format.{record_size, record_limit, record_at, count, fi
 use Rattle.records.specs.Kinds.{Sorts, kind_of, is_atom, is_statement, sorts_of}
 use Rattle.records.specs.Atoms.{rank, atoms}
 use Rattle.records.specs.Chain.{next_statement, follow, chain, chain_end}
-use Rattle.records.specs.Check.{length_check, header_fits, header_check, named, labelled, term_fits, link_fits_lem}
+use Rattle.records.specs.Check.{length_check, header_fits, header_check, named, labelled, term_fits, link_fits}
 use Rattle.records.specs.Check.{kind_fits, kind_check, row, clear, row_fits, row_check, field_rows, rows_check, fields_check}
 use Rattle.records.specs.Check.{record_check, first_statement_check, link_check, links_check, records_check, IsWellFormed}
 use Rattle.records.specs.Check.{held_fits, held_check, vocabulary_rows, vocabulary_check}
@@ -234,7 +234,7 @@ module _ (v w : List ℕ) (r : Record) (well : IsWellFormed v) (few : count v < 
       at (inl q) = subst (Linked w j) (sym (e ∙ q)) (linked_on j x l)
       at (inr q) = subst (Linked w j) (sym (e ∙ q.2)) (linked-new j h q.0)
 
-  link_fits_lem : (j x : ℕ) → Linked w j x → link_fits_lem w j x ≡ true
+  link_fits_lem : (j x : ℕ) → Linked w j x → link_fits w j x ≡ true
   link_fits_lem j x (inl e) = rw (eq-eqb x 0 e)
   link_fits_lem j x (inr s) =
       rw (
@@ -265,7 +265,7 @@ module _ (v w : List ℕ) (r : Record) (well : IsWellFormed v) (few : count v < 
     link_grown : (j : ℕ) → 0 < j → j < count w → link_check w j ≡ pass
     unfolding link_check
     link_grown j p h =
-        rw (implies_true (is_statement (record_at w j).kind) (link_fits_lem w j (record_at w j).next)
+        rw (implies_true (is_statement (record_at w j).kind) (link_fits w j (record_at w j).next)
         (λ k. link_fits_lem j (record_at w j).next (next-linked j p h (statement-kind (record_at w j).kind k))))
 
     links_grown : links_check w ≡ pass

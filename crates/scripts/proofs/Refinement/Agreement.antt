@@ -14,7 +14,7 @@ use Rattle.records.proofs.Laws.Lists.{All}
 use Rattle.columns.specs.Literals.{constant}
 use Rattle.scripts.specs.Steps.{Step, start, extension, reduction}
 use Rattle.scripts.specs.Format.{entries, query_of, term_at, record_step, chain}
-use Rattle.scripts.specs.Form.{step_fits_lem}
+use Rattle.scripts.specs.Form.{step_fits}
 use Rattle.scripts.specs.Run.{chain_check, written_out, step_at}
 use Rattle.scripts.specs.Code.Numbered.{numbered}
 use Rattle.scripts.proofs.Theorems.Form.{KeepsForm, OnChain, chain_ahead, step_fits_lem}
@@ -34,7 +34,7 @@ module _ (v s : List ℕ) (good : AcceptedFacts v) (f : KeepsForm v s) where
   abbrev Matches : Step ℕ → Type 0
   Matches t = Corresponds (numbered v s) (written_out v (query_of s)) (term_at s) (Denotes s) t
 
-  step_corresponds : (i : ℕ) (t : Step ℕ) → i ≤ entries s → step_fits_lem v s i t ≡ true → Matches t
+  step_corresponds : (i : ℕ) (t : Step ℕ) → i ≤ entries s → step_fits v s i t ≡ true → Matches t
   step_corresponds i (start n) h e = query-means v s good f n 0 0 0 constant constant
   step_corresponds i (extension x) h e = used_denotes v s good f i x h e
   step_corresponds i (reduction k) h e = tt

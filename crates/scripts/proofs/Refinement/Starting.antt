@@ -20,7 +20,7 @@ use Rattle.records.specs.declared.answers.Checked.TheVariants.{Refused}
 use Rattle.records.proofs.Laws.Tests.{clash}
 use Rattle.columns.specs.Columns.{Query, query_columns, columns_at}
 use Rattle.columns.specs.Code.Packed.{packed_at, until_zero}
-use Rattle.scripts.specs.Format.{entry_at, query_in, first_step_lem, record_step, chain_from, chain}
+use Rattle.scripts.specs.Format.{entry_at, query_in, first_step, record_step, chain_from, chain}
 use Rattle.scripts.specs.Run.{stepped, chain_check}
 use Rattle.scripts.specs.Code.Numbered.{start_numbers, numbered}
 use Rattle.scripts.specs.Code.Tested.{steps_after, start_outcome, chain_outcome}
@@ -63,11 +63,11 @@ module _ (v s : List ℕ) (f : KeepsForm v s) where
   pub start-listed : (i : ℕ) (e : Entry) → e ≡ entry_at s i → IsStep s i → e.w0 ≡ 3 → e.w1 ≤ 1
   start-listed i e q t h = leb-true e.w1 1 (step_start v s i e h ∙ (rw q (f.steps i t.positive t.within)))
 
-  pub first_step_lem : (first : ℕ) → first ≡ first_step_lem s → not (eqb first 0) ≡ true → IsStep s first
+  pub first_step_lem : (first : ℕ) → first ≡ first_step s → not (eqb first 0) ≡ true → IsStep s first
   first_step_lem first e n =
-      standing s first (rw e (reached s 0 (first_step_lem s) f.first)) (eqb-false first 0 (not-true (eqb first 0) n))
+      standing s first (rw e (reached s 0 (first_step s) f.first)) (eqb-false first 0 (not-true (eqb first 0) n))
 
-  pub chain-none : (answer : Outcome ℕ) (k : Checked) (first n p : ℕ) → first ≡ first_step_lem s → k ≡ Refused n p
+  pub chain-none : (answer : Outcome ℕ) (k : Checked) (first n p : ℕ) → first ≡ first_step s → k ≡ Refused n p
       → checked k ≡ require (not (eqb first 0)) 20 0 → answer ≡ (checked k then accepted 0) → answer ≡ chain_outcome v s
   unfolding chain_check
   chain-none answer k first n p e r h a =
@@ -75,7 +75,7 @@ module _ (v s : List ℕ) (f : KeepsForm v s) where
       let none : chain s ≡ [] = ap (chain_from s) (sym e ∙ zero') ∙ chain_end_lem s in
       a ∙ rw (h, zero', none)
 
-  module _ (first : ℕ) (same : first ≡ first_step_lem s) (t : IsStep s first) (e : Entry) (read : e ≡ entry_at s first) where
+  module _ (first : ℕ) (same : first ≡ first_step s) (t : IsStep s first) (e : Entry) (read : e ≡ entry_at s first) where
     begun : chain s ≡ first ∷ steps_after s first
     begun = ap (chain_from s) (sym same) ∙ chain_at v s f first t
 

@@ -36,7 +36,7 @@ use Rattle.scripts.specs.Format.{entry_size, entry_limit, part_at, entry_at, ent
 use Rattle.scripts.specs.Format.{theConstant, applied, step, line_of, line_at, is_step, step_of, record_step, next_step}
 use Rattle.scripts.specs.Format.{chain_from, chain, term_at}
 use Rattle.scripts.specs.Form.{length_fits, length_check, header_fits, header_check, query_terms_check, kind_fits, unused_fits}
-use Rattle.scripts.specs.Form.{term_fits, step_fits_lem, line_fits, x_fits, y_fits, rows_check, entry_check, entries_check, link_fits}
+use Rattle.scripts.specs.Form.{term_fits, step_fits, line_fits, x_fits, y_fits, rows_check, entry_check, entries_check, link_fits}
 use Rattle.scripts.specs.Form.{next_fits, link_check, links_check, form_check}
 use Rattle.records.specs.Finite.{all_zero}
 use Rattle.scripts.specs.Run.{step_at}
@@ -186,7 +186,7 @@ abbrev pub OnChain : List ℕ → ℕ → Type 0
 OnChain s i = Ahead (IsStepAt s) (entries s) 0 i
 
 module _ (v s : List ℕ) where
-  step-listed : (i : ℕ) (t : Step ℕ) → step_fits_lem v s i t ≡ true → StepListed v (query_of s) (step_by (term_at s) t)
+  step-listed : (i : ℕ) (t : Step ℕ) → step_fits v s i t ≡ true → StepListed v (query_of s) (step_by (term_at s) t)
   step-listed i (start n) e = leb-true n 1 e
   step-listed i (extension x) e =
       let c = column_at v (query_of s) x.owner x.column in
@@ -195,7 +195,7 @@ module _ (v s : List ℕ) where
   step-listed i (reduction f) e = tt
 
   -- what a record says that is no step counts as start 0
-  pub line_step : (i : ℕ) (l : Line) → line_fits v s i l ≡ true → step_fits_lem v s i (step_of l) ≡ true
+  pub line_step : (i : ℕ) (l : Line) → line_fits v s i l ≡ true → step_fits v s i (step_of l) ≡ true
   line_step i blank e = refl
   line_step i theConstant e = refl
   line_step i (applied f t) e = refl
@@ -210,7 +210,7 @@ module _ (v s : List ℕ) where
     pub chain-ends : (n : ℕ) → entries s ≤ n → follow (next_step s) n (first_step s) ≡ chain s
     chain-ends n h = follow-ends (next_step s) (IsStepAt s) (entries s) f.links n (first_step s) f.first h
 
-    pub step_fits_lem : (i : ℕ) → OnChain s i → step_fits_lem v s i (record_step s i) ≡ true
+    pub step_fits_lem : (i : ℕ) → OnChain s i → step_fits v s i (record_step s i) ≡ true
     step_fits_lem i a = line_step i (line_at s i) (f.steps i a.later a.within)
 
     steps-listed : (is : List ℕ) → All (OnChain s) is → AllListed v (query_of s) (map (step_at s) is)

@@ -5,7 +5,7 @@ use mathlib.Core.Path.{◌≡◌, sym, ap, subst, ◌∙◌}
 use borrow.Author.Rules.{rules}
 use borrow.Author.Tests.{eqb-true}
 use Rattle.records.proofs.Laws.Checks.{require_passed, checked_fine}
-use Rattle.scripts.specs.Format.{entry_at, entry_limit, first_step_lem}
+use Rattle.scripts.specs.Format.{entry_at, entry_limit, first_step}
 use Rattle.scripts.specs.Answers.{judged}
 use Rattle.scripts.specs.Code.Tested.{start_outcome, chain_outcome}
 use Rattle.scripts.specs.Code.Ready.{Ready, IsStep, IsStart}
@@ -38,7 +38,7 @@ form : (c : tie.Start) → KeepsForm c.args.v.now c.args.s.now
 form c = keeps_form _ _ c.requires.form
 
 -- the number of the first step, in the header
-first_at : (c : tie.Start) → c.args.header.w3 ≡ first_step_lem c.args.s.now
+first_at : (c : tie.Start) → c.args.header.w3 ≡ first_step c.args.s.now
 first_at c = ap (λ (x : Entry). x.w3) c.requires.begun.read
 
 -- there is one
