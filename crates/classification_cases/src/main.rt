@@ -3,6 +3,8 @@
 // A case is the length of its vocabulary, the number of bytes lent for the survivors and the number lent for the taxonomy
 // (two bytes each, low byte first), the seed of what both hold (a byte), and the vocabulary. Where the bytes for the survivors
 // begin with the seed, those for the taxonomy begin with 255 less it, so that bytes taken from the wrong buffer show.
+#![tactic(auto)]
+
 use lent::{fill, pair, print_number, print_sums, print_written};
 use libc::{STDIN_FILENO, STDOUT_FILENO};
 use taxonomy::answers::Classified;

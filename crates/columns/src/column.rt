@@ -3,7 +3,7 @@ ghost use Rattle.std.specs.Prelude.{◌≡◌, []};
 ghost use Rattle.columns.specs.Code.Packed.{literals};
 
 // Up to three literals; 0 stands for none.
-#[derive(Drop)]
+#[derive(Clone, Copy)]
 pub struct Column {
     pub first: u64,
     pub second: u64,
@@ -11,7 +11,7 @@ pub struct Column {
 }
 
 // What x, y and fi(x) are.
-#[derive(Drop)]
+#[derive(Clone, Copy)]
 pub struct Terms {
     pub x: u32,
     pub y: u32,
@@ -19,7 +19,7 @@ pub struct Terms {
 }
 
 // How many literals a column has, and whether y stands in it.
-#[derive(Drop)]
+#[derive(Clone, Copy)]
 pub struct Shape {
     pub size: usize,
     pub y: bool,

@@ -1,4 +1,6 @@
 // Columns: the columns of each owner, at given terms.
+#![tactic(auto)]
+
 pub mod column;
 mod group;
 mod literal;

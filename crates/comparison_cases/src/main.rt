@@ -3,6 +3,8 @@
 // A case is the length of its vocabulary (two bytes), the two term numbers (four bytes each), the
 // number of bytes lent (two bytes), all low byte first, the seed of what they hold (a byte), and the
 // vocabulary.
+#![tactic(auto)]
+
 use lent::{fill, pair, print_number, print_sums, print_written};
 use libc::{STDIN_FILENO, STDOUT_FILENO};
 use types::answers::Compared;

@@ -2,6 +2,8 @@
 // answer is the definition's, what that tells a caller (specs/Returns.antt), and what the lent bytes are after the call. Only
 // the comparison, the classification and the writer are lent bytes that they may write. That a call ends on every input is part
 // of what the prover checks of every function.
+#![tactic(auto)]
+
 ghost use Rattle.std.specs.Prelude.{◌≡◌, length};
 ghost use Rattle.records.specs.Answers.{counted, located};
 ghost use Rattle.records.specs.Check.{vocabulary_check};

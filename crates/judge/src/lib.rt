@@ -1,6 +1,8 @@
 // The boundary to C. Every call answers one number, so that nothing but a lent buffer is ever written;
 // include/judge.h declares the calls, specs/Packed.antt says which number stands for which outcome, and specs/Unpacked.antt
 // what its bits say.
+#![tactic(auto)]
+
 ghost use Rattle.std.specs.Prelude.{◌≡◌, ◌+◌, ◌*◌, ◌<◌, ◌^◌, length};
 ghost use Rattle.records.specs.Check.{vocabulary_check};
 ghost use Rattle.records.specs.Call.{record_call};

@@ -1,5 +1,7 @@
 // What the programs over cases with lent buffers share: what lent bytes hold before a call, how they are told after it, and
 // numbers. No other crate uses it.
+#![tactic(auto)]
+
 use libc::STDOUT_FILENO;
 
 // Writes a number and the byte that follows it.

@@ -4,21 +4,21 @@ ghost use Rattle.records.specs.Outcome.{◌then◌, accepted, pass, require};
 ghost use Rattle.records.specs.Answers.{checked, counted, located};
 
 // A check that has nothing to answer but that it passed.
-#[derive(Drop)]
+#[derive(Clone, Copy)]
 pub enum Checked {
     Fine,
     Refused { number: u8, place: usize },
 }
 
 // The vocabulary check: the number of records, header included.
-#[derive(Drop)]
+#[derive(Clone, Copy)]
 pub enum Counted {
     Records(usize),
     Refused { number: u8, place: usize },
 }
 
 // The record call: the offset of the record's first byte.
-#[derive(Drop)]
+#[derive(Clone, Copy)]
 pub enum Located {
     At(usize),
     Refused { number: u8, place: usize },

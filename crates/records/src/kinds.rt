@@ -3,7 +3,7 @@ ghost use Rattle.std.specs.Prelude.{◌≡◌};
 ghost use Rattle.records.specs.Kinds.{sorts_of, is_term, is_atom, is_name, is_restriction, is_statement};
 
 // What a field holds: nothing, a term number, a role number, a name's label, or the number of the chain's next statement.
-#[derive(Drop)]
+#[derive(Clone, Copy)]
 pub enum Sort {
     Spare,
     Term,

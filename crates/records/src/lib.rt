@@ -1,4 +1,6 @@
 // Vocabulary records: the vocabulary check, the record call, and what the crates above read of a vocabulary.
+#![tactic(auto)]
+
 pub mod answers;
 pub mod atoms;
 mod call;

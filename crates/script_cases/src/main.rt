@@ -2,6 +2,8 @@
 // the answer.
 // A case is the length of its vocabulary and the length of its script (two bytes each, low byte
 // first), the vocabulary, and the script.
+#![tactic(auto)]
+
 use libc::{STDIN_FILENO, STDOUT_FILENO};
 use scripts::answers::Judged;
 

@@ -7,7 +7,7 @@ ghost use Rattle.scripts.specs.Answers.{judged};
 use records::answers::{Checked, Counted};
 
 // Accepted with the number of steps.
-#[derive(Drop)]
+#[derive(Clone, Copy)]
 pub enum Judged {
     Accepted(usize),
     Refused { number: u8, place: usize },

@@ -5,7 +5,7 @@ ghost use Rattle.scripts.specs.Code.Ready.{HasEntry};
 
 use records::fields::word;
 
-#[derive(Drop)]
+#[derive(Clone, Copy)]
 pub struct Entry {
     pub w0: u16,
     pub w1: u16,
@@ -42,7 +42,7 @@ impl Entry {
 }
 
 // A step of a script, and the number of its record.
-#[derive(Drop)]
+#[derive(Clone, Copy)]
 pub struct StepRecord {
     pub number: usize,
     pub entry: Entry,

@@ -9,7 +9,7 @@ ghost use Rattle.scripts.specs.Code.Ready.{HasEntry, Formed};
 
 use crate::entry::{Entry, is_term_entry, read_entry};
 
-#[derive(Drop)]
+#[derive(Clone, Copy)]
 pub struct Index {}
 
 impl Index {

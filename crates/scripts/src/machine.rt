@@ -11,7 +11,7 @@ ghost use Rattle.scripts.specs.Code.Tested.{Aims};
 use columns::column::Column;
 
 // The literals of a column but one, which become the next frame: its goal and the literal after it; 0 stands for none.
-#[derive(Drop)]
+#[derive(Clone, Copy)]
 pub struct Remainder {
     pub goal: u64,
     pub other: u64,
@@ -22,7 +22,7 @@ pub struct Remainder {
 // open literal. At f an array has what frame f was opened with: the goal under it, its other literal, `back` as it was then.
 // So closing a goal writes to no array and opening a frame of one literal to one only, and handing the machine on copies little
 // else than what was written.
-#[derive(Drop)]
+#[derive(Clone, Copy)]
 pub struct Machine {
     pub depth: usize,
     pub goal: u64,
@@ -34,7 +34,7 @@ pub struct Machine {
 
 // What a step is tested against: how many frames are open, the goal, and the goal of the frame that a reduction names. Where
 // that is no frame below the last, `lower` is the goal itself: no literal is its own complement, so that row 22 refuses.
-#[derive(Drop)]
+#[derive(Clone, Copy)]
 pub struct Aim {
     pub depth: usize,
     pub goal: u64,

@@ -23,7 +23,7 @@ use records::fields::Record;
 
 // A step's answer and, if it passed, the literals of the frame that it opens: the other literals of an extension's column.
 // A step that closes the goal has none.
-#[derive(Drop)]
+#[derive(Clone, Copy)]
 pub struct Tested {
     pub answer: Checked,
     pub remainder: Remainder,

@@ -7,7 +7,7 @@ ghost use Rattle.taxonomy.specs.Answers.{classified};
 
 use records::answers::{Checked, Counted};
 
-#[derive(Drop)]
+#[derive(Clone, Copy)]
 pub enum Classified {
     Counts { survivors: usize, rounds: usize },
     Refused { number: u8, place: usize },

@@ -12,7 +12,7 @@ use crate::names::Names;
 use types::TypeData;
 
 // The meets of a set of types, for each value of the low half of their bits and of the high half.
-#[derive(Drop)]
+#[derive(Clone, Copy)]
 pub struct Halves {
     pub low: [u16; Halves::COUNT],
     pub high: [u16; Halves::COUNT],

@@ -12,7 +12,7 @@ use records::kinds::{is_atom, is_name};
 use types::TypeData;
 
 // How many, and each one's number among the atoms.
-#[derive(Drop)]
+#[derive(Clone, Copy)]
 pub struct Names {
     pub count: usize,
     pub atoms: [u16; TypeData::ATOMS],

@@ -8,13 +8,13 @@ ghost use Rattle.types.specs.Answers.{compared};
 use records::answers::{Checked, Counted};
 
 // With either answer go the number of survivors and of rounds that removed something.
-#[derive(Drop)]
+#[derive(Clone, Copy)]
 pub struct Counts {
     pub survivors: usize,
     pub rounds: usize,
 }
 
-#[derive(Drop)]
+#[derive(Clone, Copy)]
 pub enum Compared {
     Equal {
         survivors: usize,

@@ -1,4 +1,6 @@
 // Types: truth at a type, type elimination, and the comparison of two terms.
+#![tactic(auto)]
+
 pub mod answers;
 mod bitmap;
 mod call;

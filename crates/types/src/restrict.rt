@@ -14,7 +14,7 @@ use records::fields::{Record, read_at};
 use records::kinds::is_restriction;
 
 // The restrictions in record order: how many, and each one's place, filler, role, and whether it is of kind 8.
-#[derive(Drop)]
+#[derive(Clone, Copy)]
 pub struct Restrictions {
     pub count: usize,
     pub places: [u16; TypeData::ATOMS],
@@ -64,7 +64,7 @@ fn apply_sign(sign: bool, x: bool) -> bool
 
 // Which restrictions hold at a type with these truths, and which fillers: in both words bit m is that of restriction m,
 // negated for kind 8.
-#[derive(Drop)]
+#[derive(Clone, Copy)]
 pub struct Words {
     pub held: u16,
     pub filling: u16,

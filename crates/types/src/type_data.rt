@@ -9,7 +9,7 @@ use records::fields::Record;
 
 // At one type: whether every statement in force holds, whether the two terms differ, and the words of its
 // restrictions and their fillers.
-#[derive(Drop)]
+#[derive(Clone, Copy)]
 pub struct TypeData {
     pub satisfies: bool,
     pub differs: bool,
@@ -31,7 +31,7 @@ impl TypeData {
 
 // What the data of a type is taken from, beside the lent tables: the terms a and b, the k atoms and their places, how many
 // statements are listed, and the restrictions.
-#[derive(Drop)]
+#[derive(Clone, Copy)]
 pub struct Plan {
     pub a: usize,
     pub b: usize,

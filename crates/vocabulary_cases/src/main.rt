@@ -2,6 +2,8 @@
 // case: the answer of the vocabulary check, the answer of the record call, and the record's bytes.
 // A case is the length of its vocabulary (two bytes), a record number (four bytes), both low byte
 // first, and the vocabulary.
+#![tactic(auto)]
+
 use libc::{STDIN_FILENO, STDOUT_FILENO};
 use records::answers::{Counted, Located};
 

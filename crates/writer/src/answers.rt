@@ -7,7 +7,7 @@ ghost use Rattle.writer.specs.Answers.{lengthened};
 use records::answers::Checked;
 
 // The bytes in use after the call, or the refusal.
-#[derive(Drop)]
+#[derive(Clone, Copy)]
 pub enum Lengthened {
     Length(usize),
     Refused { number: u8, place: usize },

@@ -4,6 +4,8 @@
 // what these hold (a byte), the call (a byte: 0 makes a vocabulary, 1 adds a term, 2 a statement), the kind (a byte), A and B
 // (two bytes each; one number, the role count, where a vocabulary is made), the length in use (eight bytes), all low byte
 // first, and what the buffer begins with.
+#![tactic(auto)]
+
 use lent::{fill, pair, print_number, print_sums};
 use libc::{STDIN_FILENO, STDOUT_FILENO};
 use writer::answers::Lengthened;
