@@ -52,7 +52,7 @@ pub fn hold()
 pub fn check_vocabulary(v: &[u8]) -> Counted
     ensures result_value { counted result ≡ vocabulary_check v.now }
     ensures vocabulary_returns { VocabularyReturns v.now result }
-    ensures v_value { v.now ≡ v.now }
+    ensures v_value { v.exit.now ≡ v.entry.now }
 {
     records::check_vocabulary(v)
 }
@@ -61,7 +61,7 @@ pub fn check_vocabulary(v: &[u8]) -> Counted
 pub fn find_record(v: &[u8], number: u32) -> Located
     ensures result_value { located result ≡ record_call v.now number }
     ensures offset_returns { OffsetReturns v.now number result }
-    ensures v_value { v.now ≡ v.now }
+    ensures v_value { v.exit.now ≡ v.entry.now }
 {
     records::find_record(v, number)
 }
@@ -71,7 +71,7 @@ pub fn record(v: &[u8], number: u32) -> &[u8]
     ensures result_value { result.now ≡ record_part v.now number }
     ensures ref_ptr_value { result.ref_ptr ≡ record_place v.now number v.entry.ref_ptr }
     ensures record_returns { RecordReturns v.now number result.now }
-    ensures v_value { v.now ≡ v.now }
+    ensures v_value { v.exit.now ≡ v.entry.now }
 {
     records::record(v, number)
 }
@@ -82,7 +82,7 @@ pub fn compare(v: &[u8], a: u32, b: u32, lent: &mut [u8]) -> Compared
     ensures lent_after { lent.new
         ≡ written (comparison v.now a b (length lent.old)) v.now lent.old }
     ensures comparison_returns { ComparisonReturns v.now a b lent.old lent.new result }
-    ensures v_value { v.now ≡ v.now }
+    ensures v_value { v.exit.now ≡ v.entry.now }
 {
     types::compare(v, a, b, lent)
 }
@@ -95,7 +95,7 @@ pub fn classify(v: &[u8], lent: &mut [u8], room: &mut [u8]) -> Classified
     ensures room_after { room.new ≡ second_after v.now lent.old room.old }
     ensures classification_returns { ClassificationReturns v.now lent.old lent.new room.old
         room.new result }
-    ensures v_value { v.now ≡ v.now }
+    ensures v_value { v.exit.now ≡ v.entry.now }
 {
     taxonomy::classify(v, lent, room)
 }
@@ -104,8 +104,8 @@ pub fn classify(v: &[u8], lent: &mut [u8], room: &mut [u8]) -> Classified
 pub fn check_script(v: &[u8], s: &[u8]) -> Judged
     ensures result_value { judged result ≡ script_check v.now s.now }
     ensures script_returns { ScriptReturns v.now s.now result }
-    ensures v_value { v.now ≡ v.now }
-    ensures s_value { s.now ≡ s.now }
+    ensures v_value { v.exit.now ≡ v.entry.now }
+    ensures s_value { s.exit.now ≡ s.entry.now }
 {
     scripts::check_script(v, s)
 }

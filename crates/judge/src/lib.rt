@@ -54,7 +54,7 @@ pub fn judge_version() -> u64
 #[unsafe(no_mangle)]
 pub extern "C" fn judge_check_vocabulary(vocabulary: &[u8]) -> u64
     ensures value { result ≡ packed (vocabulary_check vocabulary.now) }
-    ensures vocabulary_value { vocabulary.now ≡ vocabulary.now }
+    ensures vocabulary_value { vocabulary.exit.now ≡ vocabulary.entry.now }
 {
     let answer = demands::check_vocabulary(vocabulary);
     match answer {
@@ -66,7 +66,7 @@ pub extern "C" fn judge_check_vocabulary(vocabulary: &[u8]) -> u64
 #[unsafe(no_mangle)]
 pub extern "C" fn judge_record(vocabulary: &[u8], number: u32) -> u64
     ensures value { result ≡ packed (record_call vocabulary.now number) }
-    ensures vocabulary_value { vocabulary.now ≡ vocabulary.now }
+    ensures vocabulary_value { vocabulary.exit.now ≡ vocabulary.entry.now }
 {
     let answer = demands::find_record(vocabulary, number);
     match answer {
@@ -100,7 +100,7 @@ pub extern "C" fn judge_compare(vocabulary: &[u8], a: u32, b: u32, buffer: &mut 
     ensures buffer_after { buffer.new
         ≡ written (comparison vocabulary.now a b (length buffer.old))
         vocabulary.now buffer.old }
-    ensures vocabulary_value { vocabulary.now ≡ vocabulary.now }
+    ensures vocabulary_value { vocabulary.exit.now ≡ vocabulary.entry.now }
 {
     let answer = demands::compare(vocabulary, a, b, buffer);
     match answer {
@@ -126,7 +126,7 @@ pub extern "C" fn judge_classify(
         ≡ first_after vocabulary.now survivors.old taxonomy.old }
     ensures taxonomy_after { taxonomy.new
         ≡ second_after vocabulary.now survivors.old taxonomy.old }
-    ensures vocabulary_value { vocabulary.now ≡ vocabulary.now }
+    ensures vocabulary_value { vocabulary.exit.now ≡ vocabulary.entry.now }
 {
     let answer = demands::classify(vocabulary, survivors, taxonomy);
     match answer {
@@ -141,8 +141,8 @@ pub extern "C" fn judge_classify(
 #[unsafe(no_mangle)]
 pub extern "C" fn judge_check_script(vocabulary: &[u8], script: &[u8]) -> u64
     ensures value { result ≡ packed (script_check vocabulary.now script.now) }
-    ensures vocabulary_value { vocabulary.now ≡ vocabulary.now }
-    ensures script_value { script.now ≡ script.now }
+    ensures vocabulary_value { vocabulary.exit.now ≡ vocabulary.entry.now }
+    ensures script_value { script.exit.now ≡ script.entry.now }
 {
     let answer = demands::check_script(vocabulary, script);
     match answer {

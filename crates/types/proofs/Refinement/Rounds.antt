@@ -138,12 +138,12 @@ module _ {v : List ℕ} {bits : ℕ} {masks held remaining : List ℕ} {left : �
 
   pub reached_in : (r t : ℕ) → r < role_count v → has alive t ≡ true → bit_or (get_or held t 0) (get_or masks r 0) < type_limit
   reached_in r t h m =
-      rw (s.masked r h, s.held-words t (member_below t m)) (word_in (reached v t r) (reached-small v t r))
+      rw (s.masked r h, s.held_words t (member_below t m)) (word_in (reached v t r) (reached-small v t r))
 
   pub met-role : (table : List ℕ) → Joins v alive table → (r t : ℕ) → r < role_count v → has alive t ≡ true
       → met_at table (get_or masks r 0) held t ≡ role_served v alive t r
   met-role table c r t h m =
-      rw (s.masked r h, s.held-words t (member_below t m), c (reached v t r) (reached-small v t r))
+      rw (s.masked r h, s.held_words t (member_below t m), c (reached v t r) (reached-small v t r))
 
   pub role_skipped : (r t : ℕ) → r < role_count v → get_or masks r 0 ≡ 2 ^ bits - 1 → role_served v alive t r ≡ true
   role_skipped r t h e = role-unused v alive t r (sym (s.masked r h) ∙ e ∙ ap (λ (n : ℕ). 2 ^ n - 1) s.wide)
@@ -171,7 +171,7 @@ module _ {v : List ℕ} {bits : ℕ} {masks held remaining : List ℕ} {left : �
           few = s.few;
           wide = s.wide;
           masked = s.masked;
-          held_words = s.held-words;
+          held_words = s.held_words;
           listed = l;
           ends = λ t h. round_done t ∙ round-ends v alive t h;
           size = roles.size ∙ s.size;
