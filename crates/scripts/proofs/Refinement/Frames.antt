@@ -117,7 +117,8 @@ module _ (below others backs : List ℕ) where
   pub frames-length : (goal back n : ℕ) → length (frames_from below others backs goal back n) ≡ n
   unfolding frames_from
   frames-length goal back zero = refl
-  frames-length goal back (suc n) = ap suc (frames-length _ _ n)
+  frames-length goal back (suc n) =
+      ap suc (frames-length (get_or below n 0) (cond (eqb back (suc n)) (get_or backs n 0) back) n)
 
   pub goal_last : (goal back n d : ℕ) → 0 < n → get_or (get_or (frames_from below others backs goal back n) 0 []) 0 d ≡ goal
   unfolding frames_from
