@@ -16,7 +16,7 @@ use mathlib.Core.Logic.{◌⊎◌, inl, inr}
 use lib.Dec.{eqb}
 use borrow.Author.Tests.{eq-eqb, ne_eqb, eqb-true}
 use Rattle.records.specs.Finite.{occurs}
-use Rattle.records.specs.Outcome.{Check, refused, pass, ◌then◌, require, in_rows}
+use Rattle.records.specs.Outcome.{Check, refused, pass, require, in_rows}
 use Rattle.records.specs.Format.{record_at}
 use Rattle.records.specs.Kinds.{sorts_of, Sorts, sorts}
 use Rattle.records.specs.Check.{sort_fits, row, clear, row_check, field_rows, rows_check, link_fits, first_statement_check}

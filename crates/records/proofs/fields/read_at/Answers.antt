@@ -1,0 +1,10 @@
+-- `records::fields::read_at` meets its contract. The part of the vocabulary is the record's eight bytes.
+-- Assumes nothing.
+use native.Mathlib.Nat.{add-sub_cancel_left}
+use Rattle.records.specs.Format.{record_at}
+use Rattle.records.proofs.fields.read_at.Goals as goal
+
+pub returns : goal.returns
+unfolding record_at
+returns c =
+    rw add-sub_cancel_left at c.read.ensures
