@@ -2,7 +2,8 @@
 -- Rows 26 to 28 are paper 02's.
 -- "Every refusal gives number and place and leaves all lent memory untouched. The first that applies in table order is given
 -- and never otherwise."
-use Rattle.std.specs.Prelude.{ℕ, zero, suc, ◌+◌, ◌-◌, ◌%◌, ◌≡◌, Bool, true, false, not, ◌&&◌, ◌||◌, List, [], ◌∷◌, ◌++◌, length, take, ltb, leb, eqb}
+use Rattle.std.specs.Prelude.{ℕ, zero, suc, ◌+◌, ◌-◌, ◌%◌, ◌≡◌, Bool, true, false, not, ◌&&◌, ◌||◌, List, [], ◌∷◌, ◌++◌, length}
+use Rattle.std.specs.Prelude.{take, ltb, leb, eqb}
 use Rattle.records.specs.Outcome.{Outcome, accepted, refused}
 use Rattle.records.specs.Format.{record_at, count, first_statement}
 use Rattle.records.specs.Kinds.{sorts_of, is_term}

@@ -5,7 +5,8 @@
 --   occurs, without, is_nil, all_zero        lists
 --   last_or, put                            the last of a list; a list with others over a part of it
 --   in_record_order                          a value for each record, from those before it
-use Rattle.std.specs.Prelude.{ℕ, zero, suc, ◌+◌, ◌*◌, ◌/◌, ◌%◌, ◌^◌, Bool, true, false, cond, ◌&&◌, ◌||◌, List, [], ◌∷◌, ◌++◌, length, get_or, take, drop, eqb}
+use Rattle.std.specs.Prelude.{ℕ, zero, suc, ◌+◌, ◌*◌, ◌/◌, ◌%◌, ◌^◌, Bool, true, false, cond, ◌&&◌, ◌||◌, List, [], ◌∷◌, ◌++◌}
+use Rattle.std.specs.Prelude.{length, get_or, take, drop, eqb}
 
 -- 1 for true, 0 for false.
 abbrev pub digit : Bool → ℕ

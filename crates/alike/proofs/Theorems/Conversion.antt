@@ -16,10 +16,12 @@ use lib.Dec.{leb, eqb}
 use borrow.Author.Tests.{le-leb, eq-eqb}
 use Rattle.records.specs.Outcome.{accepted, pass, in_turn}
 use Rattle.records.specs.Finite.{put}
-use Rattle.records.specs.Format.{record_size, role_limit, place_of_next, word_bytes, record_at, count, first_statement, role_count}
+use Rattle.records.specs.Format.{record_size, role_limit, place_of_next, word_bytes, record_at, count, first_statement}
+use Rattle.records.specs.Format.{role_count}
 use Rattle.records.specs.Format.{edition, atoms_held}
 use Rattle.records.specs.Atoms.{atoms}
-use Rattle.records.specs.Check.{named, labelled, sort_fits, row_fits, row_check, field_rows, fields_check, record_check, link_check}
+use Rattle.records.specs.Check.{named, labelled, sort_fits, row_fits, row_check, field_rows, fields_check, record_check}
+use Rattle.records.specs.Check.{link_check}
 use Rattle.records.specs.Check.{length_check, first_statement_check, header_fits, records_check, held_fits, vocabulary_rows}
 use Rattle.records.specs.Check.{vocabulary_check, IsWellFormed}
 use Rattle.records.specs.Kinds.{Sorts, sorts_of}

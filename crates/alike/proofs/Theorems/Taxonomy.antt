@@ -22,7 +22,8 @@ use Rattle.records.proofs.Theorems.Accepted.{AcceptedFacts, accepted-vocabulary}
 use Rattle.types.specs.declared.answers.Counts.{Counts}
 use Rattle.types.specs.Bitmap.{written}
 use Rattle.columns.specs.Columns.{states}
-use Rattle.taxonomy.specs.Taxonomy.{names, name_count, name_at, broader, strictly_broader, between, entry, taxonomy_bytes, entry_byte}
+use Rattle.taxonomy.specs.Taxonomy.{names, name_count, name_at, broader, strictly_broader, between, entry, taxonomy_bytes}
+use Rattle.taxonomy.specs.Taxonomy.{entry_byte}
 use Rattle.taxonomy.specs.Taxonomy.{taxonomy, classification, tabulated, first_after, second_after}
 use Rattle.taxonomy.proofs.Theorems.Names.{name-is}
 use Rattle.alike.specs.Alike.{Alike}

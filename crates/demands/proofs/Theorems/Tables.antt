@@ -30,7 +30,8 @@ use Rattle.scripts.specs.Form as script
 use Rattle.scripts.specs.Steps.{Step, start, extension, reduction}
 use Rattle.scripts.specs.Calculus.{remainder}
 use Rattle.records.specs.Finite.{is_nil}
-use Rattle.scripts.specs.Run.{is_start, connects, reduces, has_room, step_check, run, chain_check, written_out, step_at, script_check}
+use Rattle.scripts.specs.Run.{is_start, connects, reduces, has_room, step_check, run, chain_check, written_out, step_at}
+use Rattle.scripts.specs.Run.{script_check}
 use Rattle.records.proofs.Laws.Checks.{then_pass, then_assoc}
 use Rattle.records.proofs.Theorems.Accepted.{vocabulary_then}
 use Rattle.demands.specs.Table.{Row, row, Follows, record_rows, next_rows, records_table, vocabulary_table, record_table}

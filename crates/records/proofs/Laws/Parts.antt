@@ -16,7 +16,8 @@ use mathlib.Core.Path.{◌≡◌, refl, sym, ap, ◌∙◌}
 use mathlib.Core.List.{List, ◌++◌, append_assoc}
 use mathlib.Core.Logic.{◌⊎◌, inl, inr}
 use lib.ListN.{length, get_or, take, drop, length-append, length-drop, get_or-append}
-use lib.Seq.{length-take-le, get_or-take, get_or-drop, get_or-append-add, drop_at, drop-drop, take-take, take-add, take-append-add}
+use lib.Seq.{length-take-le, get_or-take, get_or-drop, get_or-append-add, drop_at, drop-drop, take-take, take-add}
+use lib.Seq.{take-append-add}
 use lib.Seq.{drop-append-add, take-append-le, drop-append-le}
 use Rattle.records.specs.Finite.{put}
 use Rattle.records.specs.Format.{record_size, place_of_next, word_at, word_bytes, record_of, part_at, record_at, record_bytes}
@@ -140,7 +141,8 @@ record_behind l i r e =
 
 -- A record goes by its bytes.
 pub record_same : (v w : List ℕ) (i : ℕ)
-    → ((n : ℕ) → record_size * i ≤ n → n < record_size * i + record_size → get_or v n 0 ≡ get_or w n 0) → record_at v i ≡ record_at w i
+    → ((n : ℕ) → record_size * i ≤ n → n < record_size * i + record_size → get_or v n 0 ≡ get_or w n 0)
+        → record_at v i ≡ record_at w i
 record_same v w i same =
     let at = record_size * i in
     rw (record_bytes_lem v i, record_bytes_lem w i)

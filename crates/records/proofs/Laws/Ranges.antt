@@ -76,7 +76,8 @@ module _ (are : Class → Bool) (is : ℕ → Bool) (silent : are Silent ≡ fal
       (kind_tested (λ n k. beq (are k.class) (is n)) each (λ k h. rw (silent, past k h)) k)
 
 pub term_range : (k : ℕ) → is_term k ≡ (leb 1 k && leb k 8)
-term_range = class_range are_terms (λ k. leb 1 k && leb k 8) refl refl (λ k h. rw (lt-leb k 8 (omega arith)) (and-false (leb 1 k)))
+term_range = class_range are_terms (λ k. leb 1 k && leb k 8) refl refl (λ k h. rw (lt-leb k 8 (omega arith))
+    (and-false (leb 1 k)))
 
 pub restriction_range : (k : ℕ) → is_restriction k ≡ (leb 7 k && leb k 8)
 restriction_range =

@@ -32,7 +32,8 @@ module _ (test : ℕ → Bool) where
   any_elim zero e = absurd (clash (cc))
   any_elim (suc n) e = at (any_below test n) refl e (any_elim n)
     where
-      at : (b : Bool) → any_below test n ≡ b → (b || test n) ≡ true → (any_below test n ≡ true → Found test n) → Found test (suc n)
+      at : (b : Bool) → any_below test n ≡ b → (b || test n) ≡ true → (any_below test n ≡ true → Found test n)
+          → Found test (suc n)
       at true q h r = let f = r q in (f.0, omega (arith, f.1), f.2)
       at false q h r = (n, omega arith, h)
 

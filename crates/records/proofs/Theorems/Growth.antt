@@ -60,7 +60,8 @@ pub record Grows (v w : List ℕ) (r : Record) : Type 0 where
   pub held : atoms_held w ≡ cond (eqb (edition v) 2 && is_atom r.kind) (atoms w) (atoms_held v)
 
 -- A header alone is a vocabulary.
-pub header_alone : (v : List ℕ) → length v ≡ record_size → header_fits (record_at v 0) ≡ true → first_statement v ≡ 0 → IsWellFormed v
+pub header_alone : (v : List ℕ) → length v ≡ record_size → header_fits (record_at v 0) ≡ true → first_statement v ≡ 0
+    → IsWellFormed v
 unfolding records_check in_turn
 header_alone v one fits first = rw (one, fits, first)
 

@@ -52,7 +52,8 @@ unfolding kind_of
 kind_past k h = get_or-eq_default kinds no_kind h
 
 -- What holds of the kinds of the table, and of a kind that is not in it.
-pub by_kind : (P : ℕ → Kind → Type 0) → Run (λ k. P k (kind_of k)) 0 6 → ((k : ℕ) → 6 ≤ k → P k no_kind) → (k : ℕ) → P k (kind_of k)
+pub by_kind : (P : ℕ → Kind → Type 0) → Run (λ k. P k (kind_of k)) 0 6 → ((k : ℕ) → 6 ≤ k → P k no_kind) → (k : ℕ)
+    → P k (kind_of k)
 by_kind P table past k = at (dec_lt k 6)
   where
     at : Dec (k < 6) → P k (kind_of k)

@@ -55,5 +55,6 @@ module _ (v : List ℕ) where
           subst (λ (k : ℕ). test k ≡ true) p.2 (each p.0 p.1)
       at i l false q = other i q
 
-  pub restrictions_at : (test : ℕ → Bool) → all_below test (count v) ≡ true → (m : ℕ) → m < width v → test (restriction v m) ≡ true
+  pub restrictions_at : (test : ℕ → Bool) → all_below test (count v) ≡ true → (m : ℕ) → m < width v
+      → test (restriction v m) ≡ true
   restrictions_at test e m h = all_at test (count v) e (restriction v m) (restriction-sound (count v) m h).before

@@ -1,6 +1,7 @@
 -- The words of the served test, bit by bit.
 --   restriction_word-bit, filler_word-bit, other_role_word-bit, reached-bit           the bits of a word
---   restriction_word-small, filler_word-small, other_role_word-small, reached-small   it has no more bits than there are restrictions
+--   restriction_word-small, filler_word-small, other_role_word-small, reached-small   it has no more bits than there are
+--   restrictions
 --   Fills, joins_intro, joins_elim                                                the bits of a join
 --   joins-small                                                                   it has no more
 -- Assumes nothing.
@@ -63,7 +64,8 @@ module _ (v : List ℕ) where
   other_role_word-small r = number_small (width v) (λ m. apart v r (restriction v m))
 
   pub reached-small : (t r : ℕ) → reached v t r < 2 ^ width v
-  reached-small t r = or_lt (width v) (restriction_word v t) (other_role_word v r) (restriction_word-small t) (other_role_word-small r)
+  reached-small t r = or_lt (width v) (restriction_word v t) (other_role_word v r) (restriction_word-small t)
+      (other_role_word-small r)
 
   -- a word within x has x's bits past the width: none
   filler_word_under : (s x : ℕ) → x < 2 ^ width v → Inside (filler_word v s) x → Under (width v) (filler_word v s) x
@@ -77,7 +79,8 @@ module _ (v : List ℕ) where
   abbrev filling : List Bool → ℕ → ℕ → Bool
   filling S y s = has S s && eqb (filler_word v s) y
 
-  present_word_intro : (S : List Bool) (s : ℕ) → s < types v → has S s ≡ true → present_word v S (filler_word v s) ≡ filler_word v s
+  present_word_intro : (S : List Bool) (s : ℕ) → s < types v → has S s ≡ true
+      → present_word v S (filler_word v s) ≡ filler_word v s
   present_word_intro S s l e =
       let hit : filling S (filler_word v s) s ≡ true = rw (e, eq-eqb (filler_word v s) (filler_word v s) refl) in
       let found : any_below (filling S (filler_word v s)) (types v) ≡ true = any_intro (filling S (filler_word v s))

@@ -83,7 +83,8 @@ answered v a b lent x e =
     }
 
 -- Where no row refuses, the comparison answers.
-pub answers_always : (v : List ℕ) (a b lent m : ℕ) → vocabulary_check v ≡ accepted m → term_check v a ≡ pass → term_check v b ≡ pass
+pub answers_always : (v : List ℕ) (a b lent m : ℕ) → vocabulary_check v ≡ accepted m → term_check v a ≡ pass
+    → term_check v b ≡ pass
     → atoms v ≤ atom_limit → bitmap_bytes ≤ lent → comparison v a b lent ≡ accepted (verdict v a b)
 unfolding comparison
 answers_always v a b lent m e s t few room = rw (e, s, t, le-leb (atoms v) atom_limit few, le-leb bitmap_bytes lent room)

@@ -54,7 +54,8 @@ code_length = 3 * record_limit
 
 pub record Decoded (v code : List ℕ) : Type 0 where
   pub rule_at : (i : ℕ) → i < count v → get_or code i 0 ≡ rule_of (record_at v i).kind
-  pub first_at : (i : ℕ) → i < count v → get_or code (record_limit + i) 0 ≡ first_operand_of (record_at v i).kind (record_at v i).a i
+  pub first_at : (i : ℕ) → i < count v → get_or code (record_limit + i) 0 ≡ first_operand_of (record_at v i).kind
+      (record_at v i).a i
   pub second_at : (i : ℕ) → i < count v → get_or code (2 * record_limit + i) 0 ≡ second_operand_of (record_at v i).kind
       (record_at v i).b
 

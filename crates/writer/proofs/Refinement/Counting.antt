@@ -13,7 +13,8 @@ use lib.Dec.{eqb}
 use borrow.Author.Tests.{eqb-true}
 use Rattle.records.specs.Outcome.{accepted}
 use Rattle.records.specs.Finite.{put}
-use Rattle.records.specs.Format.{record_size, record_limit, place_of_next, word_bytes, record_bytes, record_at, edition, atoms_held}
+use Rattle.records.specs.Format.{record_size, record_limit, place_of_next, word_bytes, record_bytes, record_at, edition}
+use Rattle.records.specs.Format.{atoms_held}
 use Rattle.records.specs.Kinds.{is_atom}
 use Rattle.records.specs.Atoms.{atoms}
 use Rattle.records.specs.declared.fields.Record.{Record}

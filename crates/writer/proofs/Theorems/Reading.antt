@@ -46,7 +46,8 @@ unfolding kind_of
 shown-new (term kind a b) is = rw (term_no_statement kind is)
 shown-new (statement a b) is = refl
 
-module _ (v : List ℕ) (x : Addition) (accepts : vocabulary_rows v ≡ pass) (few : count v < record_limit) (is : is_addable x ≡ true)
+module _ (v : List ℕ) (x : Addition) (accepts : vocabulary_rows v ≡ pass) (few : count v < record_limit)
+    (is : is_addable x ≡ true)
     (own : fields_check v (count v) (new_record x) ≡ pass) where
   abbrev w : List ℕ
   w = grown v x
