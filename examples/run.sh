@@ -95,7 +95,7 @@ examples() {
 }
 
 say 'proving and building the library (some 3 minutes from nothing)'
-quietly rt staticlib judge
+quietly tools/archive.sh
 say 'building desk and the examples in C'
 quietly cargo build --release
 for program in settle write; do
