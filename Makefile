@@ -70,7 +70,7 @@ $(DESK): $(ARCHIVE) $(RUST)
 	touch $@
 
 check: check-c check-rust check-install check-python check-editors
-	@echo 'passed: the tests that need no prover; the whole gate, which proves everything from nothing, is: bash .ci/run'
+	@echo 'passed: the tests that need no prover; the whole gate, which proves everything, is: bash .ci/run'
 
 # The calls from C over the stored cases.
 check-c: $(SUBJECTS:%=target/check/%)

@@ -37,7 +37,7 @@ FNR == 1 { contract = 0 }
 /^ *(requires|ensures) / { contract = 1; open = 0 }
 contract {
     line = " " $0 " "
-    open += gsub(/{/, "{", line) - gsub(/}/, "}", line)
+    open += gsub(/[{]/, "{", line) - gsub(/[}]/, "}", line)
     gsub(/\^ [0-9]+/, "", line)
     if (match(line, /[^0-9](12|64|144|512|2048|4096|32768)[^0-9]/))
         printf "%s:%d: the number %s in a contract, where a name says it\n", FILENAME, FNR, substr(line, RSTART + 1, RLENGTH - 2)
