@@ -27,6 +27,8 @@ PYTHONDIR ?= $(shell $(PYTHON) packaging/pythondir.py "$(PREFIX)")
 CARGO ?= cargo
 PYTHON ?= python3
 RT ?= rt
+# What proves the library and builds its archive.
+PROVE ?= RT='$(RT)' tools/archive.sh
 INSTALL ?= install
 INSTALL_PROGRAM ?= $(INSTALL) -m 755
 INSTALL_DATA ?= $(INSTALL) -m 644
@@ -42,8 +44,9 @@ SUBJECTS := vocabulary comparison classification script writer
 VIM := compiler/desk.vim ftdetect/judge.vim ftplugin/judge.vim syntax/judge.vim
 PACKAGE := $(wildcard python/judge/*.py) python/judge/py.typed
 
-CRATES := $(addprefix crates/,judge $(shell sed -n 's/^judge: //p' crates.txt))
-PROVED := crates.txt $(shell find $(CRATES) -type f)
+CRATES := $(addprefix crates/,judge $(shell sed -n 's/^judge staticlib: //p' crates.txt))
+# What `rt` keeps in a crate's out/ is made of these.
+PROVED := crates.txt $(shell find $(CRATES) -name out -prune -o -type f -print)
 RUST := Cargo.toml Cargo.lock $(shell find rust/*/src rust/*/build.rs rust/*/Cargo.toml -type f)
 
 all: $(ARCHIVE) $(SHARED) $(DESK)
@@ -51,9 +54,9 @@ all: $(ARCHIVE) $(SHARED) $(DESK)
 help:
 	@sed -n '/^#/!q; s/^# \{0,1\}//p' Makefile
 
-# `rt` proves it first. It may leave an archive that is as it should be untouched, and cargo desk: hence the touches.
+# `rt` proves it first. The script leaves an archive that is as it should be untouched, and cargo desk: hence the touches.
 $(ARCHIVE): $(PROVED)
-	$(RT) staticlib judge
+	$(PROVE)
 	touch $@
 
 # The archive's objects are position independent. Nothing but the eight calls can be seen from outside.
@@ -67,7 +70,7 @@ $(DESK): $(ARCHIVE) $(RUST)
 	touch $@
 
 check: check-c check-rust check-install check-python check-editors
-	@echo 'passed: the tests that need no prover; the whole gate, which proves everything from nothing, is: bash .ci/run'
+	@echo 'passed: the tests that need no prover; the whole gate, which proves everything, is: bash .ci/run'
 
 # The calls from C over the stored cases.
 check-c: $(SUBJECTS:%=target/check/%)

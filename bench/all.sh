@@ -3,7 +3,7 @@
 # and the classification beside FaCT++ and Konclude; `desk recheck` on long tables and `desk classify` on many
 # vocabularies. A quarter of an hour on an idle machine.
 #
-# usage: all.sh [ARCHIVE]      (after `rt staticlib judge`)
+# usage: all.sh [ARCHIVE]      (after tools/archive.sh)
 # Exit status: 0 done; else that of the first part that failed.
 set -eu
 bench=$(CDPATH='' cd -- "$(dirname -- "$0")" && pwd)

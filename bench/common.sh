@@ -22,7 +22,7 @@ for word in "$@"; do
     *) archive=$word ;;
     esac
 done
-[ -f "$archive" ] || fail "no archive $archive; 'rt staticlib judge' in $root makes it"
+[ -f "$archive" ] || fail "no archive $archive; $root/tools/archive.sh makes it"
 [ "$mode" != instructions ] || command -v valgrind >/dev/null || fail '--instructions needs valgrind'
 
 build=$(mktemp -d)

@@ -94,8 +94,8 @@ examples() {
     cmp written.vocabulary "$root/examples/v2.vocabulary"
 }
 
-say 'proving and building the library (some 3 minutes from nothing)'
-quietly rt staticlib judge
+say 'proving and building the library (TIME from nothing)'
+quietly tools/archive.sh
 say 'building desk and the examples in C'
 quietly cargo build --release
 for program in settle write; do

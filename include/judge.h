@@ -1,6 +1,6 @@
 /* The duty vocabulary judge: settles whether terms of a customs vocabulary, in the description logic ALC, are equal or
  * lie one within the other in every finite interpretation that satisfies the vocabulary's statements. Link
- * target/staticlib/libjudge.a (`rt staticlib judge` builds it; it needs nothing but memcpy and memset), or, after `make
+ * target/staticlib/libjudge.a (tools/archive.sh builds it; it needs nothing but memcpy and memset), or, after `make
  * install`, what `pkg-config --cflags --libs judge` says. examples/settle.c and examples/write.c are programs that use
  * all of this.
  *

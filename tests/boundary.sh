@@ -24,9 +24,9 @@ joined() {
 declared() {
     local answer
     case $1 in
-    *.rt) # a slice is a pointer and a length
-        joined < "$1" | grep -oE '#\[no_mangle\][^(]* \w+\([^)]*\)( -> \w+)?' | sed -E '
-            s/^[^(]* (\w+\()/\1/
+    *.rt) # other attributes may follow; a slice is a pointer and a length
+        joined < "$1" | grep -oE '#\[unsafe\(no_mangle\)\]( #\[[^]]*\])* [^(]* \w+\([^)]*\)( -> \w+)?' | sed -E '
+            s/^#\[unsafe\(no_mangle\)\]( #\[[^]]*\])* [^(]* (\w+\()/\2/
             s/(\w+): &\[u8\]/\1: *const u8, \1_len: usize/g
             s/(\w+): &mut \[u8\]/\1: *mut u8, \1_len: usize/g' ;;
     *.h) # declarations begin at the margin; the heads of inline functions do not end with a semicolon
@@ -116,7 +116,7 @@ self_test() {
     wrong $python "$at" 's/restype = c_uint64/restype = c_uint32/'
 
     at='judge_record, parameter 1' # a call is missing
-    wrong $rattle "$at" 's/#\[no_mangle\]\n(pub extern "C" fn judge_record)/\1/'
+    wrong $rattle "$at" 's/#\[unsafe\(no_mangle\)\]\n((#\[[^]]*\]\n)*pub extern "C" fn judge_record)/\1/'
     wrong $c "$at" 's/uint64_t judge_record\([^)]*\);//'
     wrong $rust "$at" 's/pub fn judge_record\([^;]*;//'
     wrong $python "$at" 's/"judge_record": \{[^}]*\},//'

@@ -32,15 +32,17 @@ tell_long "$@"
 
 awk '
 function tell(what) { printf "%s:%d: %s: %s\n", FILENAME, at, name, what }
-# The limits of docs/FORMATS.md, by number. An exponent is no limit: 2 ^ 64 is a width.
-/^ *(requires|ensures) / { contract = 1 }
+# The limits of docs/FORMATS.md, by number. An exponent is no limit: 2 ^ 64 is a width. A clause ends with the brace that closes it.
+FNR == 1 { contract = 0 }
+/^ *(requires|ensures) / { contract = 1; open = 0 }
 contract {
-    line = $0
+    line = " " $0 " "
+    open += gsub(/[{]/, "{", line) - gsub(/[}]/, "}", line)
     gsub(/\^ [0-9]+/, "", line)
     if (match(line, /[^0-9](12|64|144|512|2048|4096|32768)[^0-9]/))
         printf "%s:%d: the number %s in a contract, where a name says it\n", FILENAME, FNR, substr(line, RSTART + 1, RLENGTH - 2)
+    if (open == 0) contract = 0
 }
-/⌝ }/ { contract = 0 }
 /^ *(pub )?(extern "C" )?fn / {
     at = FNR; name = $0
     sub(/.*fn /, "", name); sub(/\(.*/, "", name)

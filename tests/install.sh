@@ -40,7 +40,7 @@ quietly() {
 
 # judge_make TARGET VARIABLE=VALUE..: no prover is called for a library that is there.
 judge_make() {
-    quietly make RT=true "$@"
+    quietly make PROVE=true "$@"
 }
 
 # The files that are there, each with its mode.

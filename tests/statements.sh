@@ -14,6 +14,9 @@ trap 'rm -rf -- "$work"' EXIT
 # No statement, but data: Row is a line of the table of refusals.
 data='Row'
 
+# A clause of hold: `ensures NAME { STATEMENT }`; where it is the only one, it may go without a name.
+clause='^ *ensures( [a-z0-9_]+)? \{ ([^ ]+) \}$'
+
 # compare CRATE STATEMENT..: reports where statements and contracts differ. Named are the statements that have landed, so
 # that none goes away together with its contract; each request adds its own.
 compare() {
@@ -23,13 +26,13 @@ compare() {
         sed 's/ : Type.*//; s/.* //' | grep -vxF "$data" | sort > "$work/statements"
     # The head of hold, without comments.
     sed 's|//.*||' "$code" | awk '/^pub fn hold\(\) *$/ { head = 1; next } /^\{/ { head = 0 } head && NF' > "$work/head"
-    sed -nE 's/^ *ensures \{ λ _\. ⌜ ([^ ]+) ⌝ \}$/\1/p' "$work/head" | sort > "$work/contracts"
+    sed -nE "s/$clause/\2/p" "$work/head" | sort > "$work/contracts"
 
     comm -23 "$work/statements" "$work/contracts" | sed "s|.*|$specs: & is not among the contracts of hold|"
     comm -13 "$work/statements" "$work/contracts" | sed "s|.*|$code: hold promises &, which is no statement of $specs|"
     comm -13 "$work/statements" "$work/landed" | sed "s|.*|$specs: & is gone|"
     # a contract of another form, or a condition
-    sed -nE "/^ *ensures \{ λ _\. ⌜ [^ ]+ ⌝ \}$/! s|^ *(.*)|$code: hold says more than a statement: \1|p" "$work/head"
+    sed -nE "/$clause/! s|^ *(.*)|$code: hold says more than a statement: \1|p" "$work/head"
 }
 
 {

@@ -1,4 +1,4 @@
-//! Links libjudge.a, which `rt staticlib judge` leaves in target/staticlib; JUDGE_LIB names another directory.
+//! Links libjudge.a, which `tools/archive.sh` leaves in target/staticlib; JUDGE_LIB names another directory.
 
 use std::path::PathBuf;
 use std::process::ExitCode;
@@ -10,7 +10,7 @@ fn main() -> ExitCode {
     let archive = directory.join("libjudge.a");
     println!("cargo:rerun-if-changed={}", archive.display());
     if !archive.is_file() {
-        eprintln!("there is no {}; `rt staticlib judge` makes it", archive.display());
+        eprintln!("there is no {}; `tools/archive.sh` makes it", archive.display());
         return ExitCode::FAILURE;
     }
     println!("cargo:rustc-link-search=native={}", directory.display());
