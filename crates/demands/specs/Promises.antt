@@ -144,8 +144,8 @@ pub record AsReader (buffer : List ℕ) (used : ℕ) (x : Addition) : Type 0 whe
 abbrev pub Succeed : List ℕ → ℕ → List Addition → List ℕ → ℕ → Type 0
 Succeed buffer used [] after end = (after ≡ buffer) × (end ≡ used)
 Succeed buffer used (x ∷ l) after end =
-    (n : ℕ) × (new_length (adding buffer used x) ≡ accepted n) × Succeed (buffer_after (adding buffer used x) buffer) n l after
-        end
+    (n : ℕ) × (new_length (adding buffer used x) ≡ accepted n)
+    × Succeed (buffer_after (adding buffer used x) buffer) n l after end
 
 -- "from an empty vocabulary", made in the same buffer.
 pub record Built (lent : List ℕ) (roles : ℕ) (l : List Addition) (after : List ℕ) (used : ℕ) : Type 0 where

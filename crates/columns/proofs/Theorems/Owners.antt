@@ -55,6 +55,6 @@ module _ (v : List ℕ) (q : Query) (n : ℕ) (s : Shape) where
 
   pub record_shape : (i : ℕ) (r : Record) → columns_at v q i ≡ columns_of i (construct_of r)
       → s.size ≡ length (get_or (columns_of i (construct_of r)) n [])
-          → s.y ≡ takes_y (get_or (columns_of i (construct_of r)) n [])
+      → s.y ≡ takes_y (get_or (columns_of i (construct_of r)) n [])
       → HasShape s (column_at v q i n)
   record_shape i r e z t = rw e record { size = z; takes = t }

@@ -142,7 +142,7 @@ record_behind l i r e =
 -- A record goes by its bytes.
 pub record_same : (v w : List ℕ) (i : ℕ)
     → ((n : ℕ) → record_size * i ≤ n → n < record_size * i + record_size → get_or v n 0 ≡ get_or w n 0)
-        → record_at v i ≡ record_at w i
+    → record_at v i ≡ record_at w i
 record_same v w i same =
     let at = record_size * i in
     rw (record_bytes_lem v i, record_bytes_lem w i)

@@ -207,8 +207,8 @@ module _ (v s : List ℕ) (good : AcceptedFacts v) (f : KeepsForm v s) where
           at n k o (no d) h = x.entered n (omega arith) k o
 
       -- the search ended at no record
-      module _ (kind : (entry_at s i).w0 ≡ 2) (slot : ℕ) (found : Found links terms code slot) (empty : linked links slot ≡ 0)
-          where
+      module _ (kind : (entry_at s i).w0 ≡ 2) (slot : ℕ) (found : Found links terms code slot)
+          (empty : linked links slot ≡ 0) where
         applied : Applied v s i
         applied = applied_record v s good f i t kind
 

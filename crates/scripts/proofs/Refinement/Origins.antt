@@ -45,7 +45,7 @@ module _ (s : List ℕ) where
     origin-term =
         let j = origin s n in
         same_term-true (term_at s j) (term_at s n) (both_right (is_term (entry_at s j).w0)
-            (same_term (term_at s j) (term_at s n)) found)
+        (same_term (term_at s j) (term_at s n)) found)
 
     pub origin-is : IsOrigin s (origin s n)
     origin-is =

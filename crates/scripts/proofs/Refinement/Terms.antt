@@ -141,7 +141,7 @@ module _ (v s : List ℕ) (good : AcceptedFacts v) (f : KeepsForm v s) where
   unfolding term_at
   term_eq i =
       in_order constant (λ earlier j. term_of (line_at s j) earlier) (λ j g h e. inner_local j (line_at s j) (line_inner j) g h
-          e) i
+      e) i
 
   pub header-term : term_at s 0 ≡ constant
   header-term = term_eq 0 ∙ ap (λ (l : Line). term_of l (term_at s)) header_line

@@ -120,7 +120,7 @@ module _ (v : List ℕ) where
       role_by_bits S t r
       (λ j h. agree (bit (joins v S (reached v t r)) j) (bit (other_role_word v r) j) (bit (restriction_word v t) j)
       (λ c. sym (bit-or (restriction_word v t) (other_role_word v r) j) ∙ joined-reached S t r j c) (restriction-joined S t r j e
-          h))
+      h))
 
   -- a restriction of a role that passes the test is met
   restriction-met : (S : List Bool) (t m : ℕ) → m < width v → role_served v S t (role m) ≡ true

@@ -142,7 +142,7 @@ module _ (v : List ℕ) (good : AcceptedFacts v) where
     unfolding served
     type_served S h d =
         all_intro (λ i. met v S (type_of I v d) i (restriction_at v i)) (count v) (λ i l. type_met S h d i (restriction_at v i)
-            refl)
+        refl)
 
     pub type_survives : Model I v → (d : ℕ) → Element I d → has (survivors v) (type_of I v d) ≡ true
     unfolding stage survivors

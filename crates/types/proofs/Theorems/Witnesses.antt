@@ -146,7 +146,7 @@ module _ (v : List ℕ) (good : AcceptedFacts v) where
   some-met S t i r b m h w =
       let wanted : ℕ → Bool = λ s. truth v s b in
       witness_gives v S t r wanted (implies_rest (truth v t i) (witnessed v S t r wanted) (met_at_lem S t i (some r b) m refl h)
-          w)
+      w)
 
   pub all-met : (S : List Bool) (t i r b : ℕ) → restriction_at v i ≡ all r b → served v S t ≡ true → truth v t i ≡ false
       → (s : ℕ) × Witness v S t r (λ s. not (truth v s b)) s

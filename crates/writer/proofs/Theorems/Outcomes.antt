@@ -192,7 +192,7 @@ module _ (buffer : List ℕ) (used : ℕ) (x : Addition) where
   -- Where the bytes in use pass, there is room and the record may be added, the reader's rows of the grown bytes decide.
   pub adding-reader : used ≤ length buffer → vocabulary_rows in_use ≡ pass → room_check in_use (length buffer) ≡ pass
       → is_addable x ≡ true
-          → new_length (adding buffer used x) ≡ (vocabulary_rows (grown in_use x) then accepted (used + record_size))
+      → new_length (adding buffer used x) ≡ (vocabulary_rows (grown in_use x) then accepted (used + record_size))
   adding-reader within accepts fits is =
       let adds : require (is_addable x) 3 (count in_use) ≡ pass = rw is in
       adding-rows
