@@ -14,7 +14,7 @@ use lib.ListN.{get_or}
 use borrow.Author.Tests.{eq-eqb, eqb-true, lt-ltb, le-ltb}
 use Rattle.records.specs.Format.{record_at, count}
 use Rattle.records.specs.Kinds.{is_atom}
-use Rattle.records.specs.Atoms.{rank, atoms}
+use Rattle.records.specs.Atoms.{rank}
 use Rattle.records.specs.Finite.{all_below, has, bit}
 use Rattle.records.proofs.Laws.Below.{all_intro, all_at, all_cong}
 use Rattle.records.proofs.Laws.Tests.{both_left, both_right, both_true, implies_true, implies_rest, same_truth}

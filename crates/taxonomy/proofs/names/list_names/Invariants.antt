@@ -1,0 +1,26 @@
+-- `taxonomy::names::list_names` meets its contract. The loop's invariant: the names below `i` are listed, each with its number
+-- among the atoms, which are counted. There is room, since each name is an atom.
+-- Assumes nothing.
+use Prim.Native.Nat.{◌-◌, ◌≤◌}
+use mathlib.Core.Path.{◌≡◌}
+use Rattle.records.proofs.Laws.Filling.{Filled}
+use Rattle.records.proofs.Laws.Listing.{entries, entry}
+use Rattle.records.specs.Atoms.{rank}
+use Rattle.records.specs.Format.{count}
+use Rattle.types.specs.Comparison.{atom_limit}
+use Rattle.taxonomy.specs.Code.Meets.{AtomNumbers}
+use Rattle.taxonomy.proofs.Theorems.Names.{named}
+use Rattle.taxonomy.proofs.names.list_names.Given as goal
+
+abbrev pub invariant-loop-i : goal.invariant-loop-i
+invariant-loop-i l =
+    record {
+      within : l.i ≤ count l.v;
+      total : l.count ≡ entries (named l.v) l.i;
+      ranked : l.atom ≡ rank l.v l.i;
+      filled : Filled 0 atom_limit l.numbers (λ m. rank l.v (entry (named l.v) l.i m)) l.count;
+      small : AtomNumbers l.numbers;
+    }
+
+abbrev pub decreases-loop-i : goal.decreases-loop-i
+decreases-loop-i l = count l.v - l.i

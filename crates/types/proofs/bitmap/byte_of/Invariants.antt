@@ -1,0 +1,25 @@
+-- `types::bitmap::byte_of` meets its contract. The loop's invariant: `byte` is the number of the bits from `j` on.
+-- Assumes nothing.
+use Prim.Native.Nat.{ℕ, ◌+◌, ◌*◌, ◌-◌, ◌≤◌}
+use native.Mathlib.Omega.{arith}
+use mathlib.Core.Bool.{Bool}
+use mathlib.Core.List.{List}
+use mathlib.Core.Path.{◌≡◌, refl, ◌∙◌}
+use Rattle.records.specs.Finite.{has}
+use Rattle.types.specs.Bitmap.{byte_of}
+use Rattle.records.proofs.Laws.Bits.{number_small}
+use Rattle.records.proofs.Laws.Filling.{word_from, word_start, word_turn, word_end, word_bound}
+use Rattle.types.specs.Comparison.{atom_limit}
+use Rattle.types.proofs.bitmap.byte_of.Given as goal
+
+-- bit j of byte n
+abbrev pub bits : List Bool → ℕ → ℕ → Bool
+bits alive n j = has alive (8 * n + j)
+
+abbrev pub invariant-loop-j : goal.invariant-loop-j
+invariant-loop-j l =
+    (l.j ≤ 8) × (l.byte ≡ word_from 8 (bits l.alive l.n) l.j)
+
+abbrev pub decreases-loop-j : goal.decreases-loop-j
+decreases-loop-j l =
+    l.j

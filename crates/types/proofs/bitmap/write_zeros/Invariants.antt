@@ -1,0 +1,18 @@
+-- `types::bitmap::write_zeros` meets its contract. The loop's invariant: there are zeros from `start` to `n`.
+-- Assumes nothing.
+use Prim.Native.Nat.{ℕ, ◌-◌, ◌≤◌}
+use native.Mathlib.Omega.{arith}
+use mathlib.Core.Path.{◌≡◌, ◌∙◌, ap}
+use lib.ListN.{length}
+use Rattle.types.specs.Comparison.{bitmap_bytes}
+use Rattle.types.specs.Code.Settling.{cleared}
+use Rattle.types.proofs.Invariants.Answers.{cleared-start, cleared-length, cleared_turn}
+use Rattle.types.proofs.bitmap.write_zeros.Given as goal
+
+abbrev pub invariant-loop-n : goal.invariant-loop-n
+invariant-loop-n l =
+    (l.start ≤ l.n) × (l.n ≤ bitmap_bytes) × (l.lent ≡ cleared l.initial.lent l.start (l.n - l.start))
+
+abbrev pub decreases-loop-n : goal.decreases-loop-n
+decreases-loop-n l =
+    bitmap_bytes - l.n

@@ -1,0 +1,39 @@
+-- `types::type_data::describe_types` meets its contract. The loop's invariant: the four tables are right below `t`, and no
+-- type from there on is alive.
+-- Assumes nothing.
+use Prim.Native.Nat.{ℕ, ◌-◌, ◌≤◌, ◌<◌}
+use native.Mathlib.Decide.{dec_lt}
+use native.Mathlib.Omega.{arith}
+use mathlib.Core.Bool.{Bool, false}
+use mathlib.Core.List.{List}
+use mathlib.Core.Path.{◌≡◌, sym, ap, ◌∙◌, subst}
+use lib.ListN.{length}
+use Rattle.records.specs.Finite.{has, table}
+use Rattle.types.specs.Survivors.{satisfies, stage}
+use Rattle.types.specs.Types.{types}
+use Rattle.types.specs.Code.Words.{restriction_word, filler_word}
+use Rattle.types.specs.Code.Settling.{differ}
+use Rattle.types.specs.declared.type_data.TypeData.{TypeData}
+use Rattle.records.proofs.Laws.Sets.{table_at, table_past}
+use Rattle.records.proofs.Laws.Filling.{Filled, fill_start, fill_turn, Ends, ends_turn}
+use Rattle.types.proofs.Theorems.Survivors.{types-bound, size_word}
+use Rattle.records.specs.Format.{record_limit}
+use Rattle.types.specs.Comparison.{type_limit}
+use Rattle.types.proofs.type_data.describe_types.Given as goal
+
+pub record Profiling (v : List ℕ) (a b : ℕ) (values alive differs : List Bool) (held filling : List ℕ) (t : ℕ) : Type 0 where
+  pub within : t ≤ types v
+  pub values_size : length values ≡ record_limit
+  pub alive_filled : Filled false type_limit alive (satisfies v) t
+  pub ends : Ends alive t
+  pub differs_filled : Filled false type_limit differs (differ v a b) t
+  pub held_filled : Filled 0 type_limit held (restriction_word v) t
+  pub filling_filled : Filled 0 type_limit filling (filler_word v) t
+
+abbrev pub invariant-loop-t : goal.invariant-loop-t
+invariant-loop-t l =
+    Profiling l.v l.plan.a l.plan.b l.values l.alive l.differs l.held l.filling l.t
+
+abbrev pub decreases-loop-t : goal.decreases-loop-t
+decreases-loop-t l =
+    l.size - l.t
