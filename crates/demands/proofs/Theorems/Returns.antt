@@ -30,7 +30,6 @@ use Rattle.types.specs.Answers as types
 use Rattle.types.specs.declared.answers.Compared.{Compared}
 use Rattle.types.specs.declared.answers.Compared.TheVariants as compared
 use Rattle.types.proofs.Theorems.Comparison.{Tally, tally, verdict_tally, different-first}
-use Rattle.types.specs.Types.{types}
 use Rattle.taxonomy.specs.Taxonomy.{taxonomy_bytes, taxonomy, classification, tabulated}
 use Rattle.taxonomy.specs.Answers as answers
 use Rattle.taxonomy.specs.declared.answers.Classified.{Classified}
