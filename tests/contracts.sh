@@ -25,8 +25,8 @@ tell_paths() {
 
 if [ $# -eq 0 ]; then
     set -- crates/*/src/*.rt
-    tell_long -r --include='*.antt' crates
-    tell_paths -r --include='*.antt' crates/*/proofs
+    tell_long -r --exclude-dir=out --include='*.antt' crates
+    tell_paths -r --exclude-dir=out --include='*.antt' crates/*/proofs
 fi
 tell_long "$@"
 

@@ -1,6 +1,5 @@
 -- `scripts::call::check_script` meets its contract. Each check that passed hands on to the next; the chain decides last.
 -- Assumes nothing.
-use native.Mathlib.Omega.{arith}
 use mathlib.Core.Path.{◌≡◌}
 use Rattle.records.specs.Outcome.{pass}
 use Rattle.records.specs.Format.{record_limit}
@@ -10,7 +9,6 @@ use Rattle.records.proofs.Theorems.Accepted.{accepted_well_formed}
 use Rattle.records.proofs.Laws.Filling.{none-marked}
 use Rattle.records.proofs.Laws.Checks.{require_test, checked_fine}
 use Rattle.scripts.specs.Form.{length_check, form_check}
-use Rattle.scripts.proofs.Theorems.Form.{length-sized}
 use Rattle.scripts.proofs.Refinement.Outcomes.{vocabulary_at, refused-vocabulary, refused-length, refused-form, decided}
 use Rattle.scripts.proofs.call.check_script.Goals as goal
 
@@ -29,23 +27,12 @@ returns-in_default-length c =
     refused-length a.v.now a.s.now _ _ _ _ accepts measured c.in_default-length.is
     c.judge_after.ensures
 
-pub mark_chain-requires : goal.mark_chain-requires
-mark_chain-requires c =
-    let accepts : IsAccepted c.args.v.now
-    = vocabulary_at c.args.v.now _ _ c.check_vocabulary-vocabulary.ensures c.in-Records.is in
-    record {
-      well_formed = accepted_well_formed _ _ accepts;
-      marks_len = (none-marked record_limit).0;
-      by_index = (none-marked record_limit).1;
-    }
+pub mark_chain-requires-clause-well_formed : goal.mark_chain-requires-clause-well_formed
+mark_chain-requires-clause-well_formed c =
+    accepted_well_formed _ _ (vocabulary_at c.args.v.now _ _ c.check_vocabulary-vocabulary.ensures c.in-Records.is)
 
-pub read_entry-header-requires : goal.read_entry-header-requires
-read_entry-header-requires c =
-    let s = c.args.s.now in
-    let measured : checked c.pass_if-length.result ≡ length_check s
-    = require_test _ _ _ _ _ c.pass_if-length.ensures c.length_fits.ensures in
-    let sized : length_check s ≡ pass = checked_fine _ _ measured c.in-Fine.is in
-    omega (arith, (length-sized s sized).least)
+pub mark_chain-requires-clause-by_index : goal.mark_chain-requires-clause-by_index
+mark_chain-requires-clause-by_index c = (none-marked record_limit).1
 
 pub check_form-form-requires : goal.check_form-form-requires
 check_form-form-requires c =

@@ -2,7 +2,7 @@
 -- Assumes nothing.
 use Prim.Native.Nat.{ℕ}
 use native.Mathlib.Omega.{arith}
-use mathlib.Core.Path.{◌≡◌, sym, ap, subst, ◌∙◌}
+use mathlib.Core.Path.{◌≡◌, sym, ap, ◌∙◌}
 use mathlib.Core.Bool.{Bool, not}
 use mathlib.Core.List.{List}
 use lib.Dec.{eqb}
@@ -28,10 +28,6 @@ module _ (v s : List ℕ) (marks : List Bool) (header : Entry) (r : Ready v s ma
   -- the number of the first step, in the header
   first_at : header.w3 ≡ first_step s
   first_at = ap (λ (x : Entry). x.w3) r.begun.read
-
-  -- what the run relies on
-  ready : Ready v s marks (entry_at s 0)
-  ready = subst (Ready v s marks) r.begun.read r
 
   -- there is a first step
   module _ (present : Checked) (tried : checked present ≡ require (not (eqb header.w3 0)) 20 0) (fine : present ≡ Fine) where
@@ -68,17 +64,10 @@ returns-in_default-begun c =
     (first _ _ _ _ p _ c.pass_if-present.ensures c.in-Fine.is) _ c.read_entry.ensures
     _ _ _ _ c.in_default-begun.is c.pass_if-begun.ensures c.judge_after-in_default-begun.ensures
 
-pub run_few-requires : goal.run_few-requires
-run_few-requires c =
-    let e = c.find_end-end.ensures in
-    record {
-      ready = ready _ _ _ _ c.requires;
-      start = is-start _ _ _ _ c.requires _ c.pass_if-present.ensures c.in-Fine.is _ c.read_entry.ensures _
-          c.pass_if-begun.ensures c.in-Fine-begun.is;
-      terms_before = e.terms_before;
-      end_bound = e.upper_bound;
-      end_le_few_entries = c.if-end-le-FEW.true;
-    }
+pub run_few-requires-clause-start : goal.run_few-requires-clause-start
+run_few-requires-clause-start c =
+    is-start _ _ _ _ c.requires _ c.pass_if-present.ensures c.in-Fine.is _ c.read_entry.ensures _
+    c.pass_if-begun.ensures c.in-Fine-begun.is
 
 pub returns-then-end-le-FEW : goal.returns-then-end-le-FEW
 returns-then-end-le-FEW c =
@@ -86,18 +75,15 @@ returns-then-end-le-FEW c =
     ∙ answered _ _ _ _ c.requires _ c.pass_if-present.ensures c.in-Fine.is _ c.read_entry.ensures _
     c.pass_if-begun.ensures c.in-Fine-begun.is
 
-pub run_numbering-requires : goal.run_numbering-requires
-run_numbering-requires c =
+pub run_numbering-requires-clause-start : goal.run_numbering-requires-clause-start
+run_numbering-requires-clause-start c =
+    is-start _ _ _ _ c.requires _ c.pass_if-present.ensures c.in-Fine.is _ c.read_entry.ensures _
+    c.pass_if-begun.ensures c.in-Fine-begun.is
+
+pub run_numbering-requires-clause-blank : goal.run_numbering-requires-clause-blank
+run_numbering-requires-clause-blank c =
     let most = (form _ _ _ _ c.requires).sized.most in
-    let e = c.find_end-end.ensures in
-    record {
-      ready = ready _ _ _ _ c.requires;
-      start = is-start _ _ _ _ c.requires _ c.pass_if-present.ensures c.in-Fine.is _ c.read_entry.ensures _
-          c.pass_if-begun.ensures c.in-Fine-begun.is;
-      terms_before = e.terms_before;
-      end_bound = e.upper_bound;
-      blank = blank_tables c.args.s.now entry_limit (λ n r. omega (arith, r.within, most)) (omega arith);
-    }
+    blank_tables c.args.s.now entry_limit (λ n r. omega (arith, r.within, most)) (omega arith)
 
 pub returns : goal.returns
 returns c =

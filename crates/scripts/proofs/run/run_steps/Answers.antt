@@ -7,13 +7,13 @@ use mathlib.Core.Path.{◌≡◌, refl, sym, ap, subst, ◌∙◌}
 use mathlib.Core.List.{List, [], ◌∷◌}
 use lib.ListN.{length}
 use Rattle.records.specs.Answers.{checked}
-use Rattle.scripts.specs.Format.{entry_at, next_step}
+use Rattle.scripts.specs.Format.{entry_at}
 use Rattle.scripts.specs.Calculus.{frame_limit}
 use Rattle.scripts.specs.Run.{Frames, extend_by}
 use Rattle.scripts.specs.Code.Machine.{left, frames_of, Shows}
 use Rattle.scripts.specs.Code.Numbered.{start_numbers}
-use Rattle.scripts.specs.Code.Tested.{StepTested, run_after, start_outcome}
-use Rattle.scripts.specs.Code.Ready.{Ready, IsStep}
+use Rattle.scripts.specs.Code.Tested.{run_after, start_outcome}
+use Rattle.scripts.specs.Code.Ready.{IsStep}
 use Rattle.scripts.specs.declared.entry.Entry.{Entry}
 use Rattle.scripts.specs.declared.machine.Machine.{Machine}
 use Rattle.scripts.proofs.Theorems.Form.{keeps_form}
@@ -36,12 +36,6 @@ begins v s first e m read kind opened =
 room : (m : Machine) → length (frames_of m) < frame_limit → m.depth < frame_limit
 room m h = subst (λ (n : ℕ). n < frame_limit) (depth-length m) h
 
-pub read_entry-header-requires : goal.read_entry-header-requires
-read_entry-header-requires c = omega (arith, (keeps_form _ _ c.requires.ready.form).sized.least)
-
-pub read_entry-start-requires : goal.read_entry-start-requires
-read_entry-start-requires c = omega (arith, c.requires.start.step.within)
-
 pub begin-state-requires : goal.begin-state-requires
 begin-state-requires c =
     let a = c.args in
@@ -59,25 +53,6 @@ loop-at-init c =
       (c.begin-state.ensures a.v.now a.s.now c.read_entry-header.ensures).standing,
     )
 
-pub read_entry-e-requires : goal.read_entry-e-requires
-read_entry-e-requires c =
-    let here : IsStep c.args.s.now c.loop-at.at
-    = standing c.args.s.now _ c.loop-at.invariant.0.reached c.loop-at-test.true in
-    omega (arith, here.within)
-
-pub aim_at-aim-requires : goal.aim_at-aim-requires
-aim_at-aim-requires c = c.loop-at.invariant.1.deep
-
-pub test_step-tested-requires : goal.test_step-tested-requires
-test_step-tested-requires c =
-    let here : IsStep c.args.s.now c.loop-at.at
-    = standing c.args.s.now _ c.loop-at.invariant.0.reached c.loop-at-test.true in
-    record {
-      ready = subst (Ready _ _ _) (sym c.read_entry-header.ensures) c.requires.ready;
-      all_numbered = c.requires.all_numbered;
-      read = record { step = here; read = c.read_entry-e.ensures };
-    }
-
 pub returns-in_default : goal.returns-in_default
 returns-in_default c =
     let a = c.args in
@@ -90,32 +65,17 @@ returns-in_default c =
     ∙ begins _ _ _ _ _ c.read_entry-start.ensures c.requires.start.kind
     (c.begin-state.ensures a.v.now a.s.now c.read_entry-header.ensures)
 
-pub reduce-state-requires : goal.reduce-state-requires
-reduce-state-requires c = c.loop-at.invariant.1
-
-pub close-state-requires : goal.close-state-requires
-close-state-requires c = c.loop-at.invariant.1
-
-pub extend-state-requires : goal.extend-state-requires
-extend-state-requires c =
+pub extend-state-requires-clause-depth_lt_frame_limit : goal.extend-state-requires-clause-depth_lt_frame_limit
+extend-state-requires-clause-depth_lt_frame_limit c =
     let m = c.loop-at.state in
     let facts = c.test_step-tested.ensures (frames_of m) (c.aim_at-aim.ensures m.others m.backs m.back) in
-    record {
-      standing = c.loop-at.invariant.1;
-      depth_lt_frame_limit = room m (facts.room (ap checked c.in-Fine.is) (omega (arith, c.if-next-eq0.false)));
-    }
+    room m (facts.room (ap checked c.in-Fine.is) (omega (arith, c.if-next-eq0.false)))
 
-pub extend_pair-state-requires : goal.extend_pair-state-requires
-extend_pair-state-requires c =
+pub extend_pair-state-requires-clause-depth_lt_frame_limit : goal.extend_pair-state-requires-clause-depth_lt_frame_limit
+extend_pair-state-requires-clause-depth_lt_frame_limit c =
     let m = c.loop-at.state in
     let facts = c.test_step-tested.ensures (frames_of m) (c.aim_at-aim.ensures m.others m.backs m.back) in
-    record {
-      standing = c.loop-at.invariant.1;
-      depth_lt_frame_limit = room m (facts.room (ap checked c.in-Fine.is) (omega (arith, c.if-next-eq0.false)));
-    }
-
-pub overflow_add-steps : goal.overflow_add-steps
-overflow_add-steps c = omega (arith, c.loop-at.invariant.0.few)
+    room m (facts.room (ap checked c.in-Fine.is) (omega (arith, c.if-next-eq0.false)))
 
 pub loop-at-smaller : goal.loop-at-smaller
 loop-at-smaller c =
@@ -138,15 +98,15 @@ loop-at-preserved c =
     let kind = sym (ap (λ (x : Entry). x.w0) c.read_entry-e.ensures) in
     let advanced : Shows c.if-e-eq5.state (extend_by (left l) frames)
     = elim c.if-e-eq5.branch [
-        then-e-eq5 w ↦ shows-none _ _ w.state-is l.goal l.other frames w.reduce-state.ensures
-            (facts.reduced (kind ∙ w.if-e-eq5.true))
-        | else-e-eq5+then-next-eq0 w ↦ shows-none _ _ w.state-is l.goal l.other frames w.close-state.ensures
-            w.if-next-eq0.true
-        | else-e-eq5+else-next-eq0+then-next-eq0-2 w ↦ shows_single _ _ w.state-is l.goal l.other frames
-            w.extend-state.ensures w.if-next-eq0.false w.if-next-eq0-2.true
-        | else-e-eq5+else-next-eq0+else-next-eq0-2 w ↦ shows_pair _ _ w.state-is l.goal l.other frames
-            w.extend_pair-state.ensures w.if-next-eq0.false w.if-next-eq0-2.false
-      ] in
+      | then-e-eq5 w ↦ shows-none _ _ w.state-is l.goal l.other frames w.reduce-state.ensures
+          (facts.reduced (kind ∙ w.if-e-eq5.true))
+      | else-e-eq5+then-next-eq0 w ↦ shows-none _ _ w.state-is l.goal l.other frames w.close-state.ensures
+          w.if-next-eq0.true
+      | else-e-eq5+else-next-eq0+then-next-eq0-2 w ↦ shows_single _ _ w.state-is l.goal l.other frames
+          w.extend-state.ensures w.if-next-eq0.false w.if-next-eq0-2.true
+      | else-e-eq5+else-next-eq0+else-next-eq0-2 w ↦ shows_pair _ _ w.state-is l.goal l.other frames
+          w.extend_pair-state.ensures w.if-next-eq0.false w.if-next-eq0-2.false
+    ] in
     let fine = ap checked c.in-Fine.is in (
       walk_next a.v.now a.s.now (keeps_form _ _ c.requires.ready.form) _ _ _ _ _ c.loop-at.invariant.0 _ _ _ here
           facts.rows fine (advanced.shown ∙ facts.after fine) (ap (λ (x : Entry). x.w7) c.read_entry-e.ensures),

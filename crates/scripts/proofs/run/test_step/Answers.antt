@@ -5,7 +5,7 @@ use native.Mathlib.Omega.{arith}
 use mathlib.Core.Path.{◌≡◌, refl, sym, ap, subst, ◌∙◌}
 use mathlib.Core.Bool.{not}
 use mathlib.Core.List.{List}
-use lib.ListN.{length, length-map}
+use lib.ListN.{length-map}
 use lib.Dec.{eqb}
 use Rattle.records.specs.Outcome.{refused, pass, require}
 use Rattle.records.specs.Answers.{checked}
@@ -62,15 +62,6 @@ returns-in_default c frames k =
       after = λ q. absurd (no (sym same ∙ q));
       room = λ q. absurd (no (sym same ∙ q));
       reduced = λ five. c.no_frame.ensures.goal_value;
-    }
-
-pub used_column-requires : goal.used_column-requires
-used_column-requires c =
-    let p = c.requires in
-    record {
-      ready = p.ready;
-      all_numbered = p.all_numbered;
-      extension = record { read = p.read; kind = c.in-4.is };
     }
 
 -- row 18 told that the column has the position

@@ -34,7 +34,7 @@ loop-j-preserved c =
 pub overflow_cast-result : goal.overflow_cast-result
 overflow_cast-result c =
     let whole : c.loop-j.byte ≡ byte_of c.args.alive.now c.args.n =
-        let a = c.args in
+    let a = c.args in
     word_end 8 (bits a.alive.now a.n) c.loop-j.j _ (omega arith) c.loop-j.invariant.1 in
     let a = c.args in
     omega (arith, whole, number_small 8 (bits a.alive.now a.n))
@@ -42,6 +42,6 @@ overflow_cast-result c =
 pub returns : goal.returns
 returns c =
     let whole : c.loop-j.byte ≡ byte_of c.args.alive.now c.args.n =
-        let a = c.args in
+    let a = c.args in
     word_end 8 (bits a.alive.now a.n) c.loop-j.j _ (omega arith) c.loop-j.invariant.1 in
     whole

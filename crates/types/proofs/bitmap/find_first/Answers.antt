@@ -23,7 +23,7 @@ loop-t-preserved c =
     let a = c.args in (
       omega arith,
       elim c.if-alive-t.branch [
-        then-alive-t+else-differs-t w ↦ first_other a.alive.now a.differs.now c.loop-t.t c.loop-t.invariant.1 w.if-differs-t.false
+        | then-alive-t+else-differs-t w ↦ first_other a.alive.now a.differs.now c.loop-t.t c.loop-t.invariant.1 w.if-differs-t.false
         | else-alive-t w ↦ first_out a.alive.now a.differs.now c.loop-t.t c.loop-t.invariant.1 w.if-alive-t.false
       ],
     )

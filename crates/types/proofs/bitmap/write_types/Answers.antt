@@ -16,7 +16,7 @@ loop-n-init c =
 pub bounds-lent-n : goal.bounds-lent-n
 bounds-lent-n c =
     let long : length c.loop-n.lent ≡ length c.args.lent.now =
-        let a = c.args in
+    let a = c.args in
     over-length (byte_of a.alive.now) c.loop-n.n a.lent.now c.loop-n.lent (omega arith) c.loop-n.invariant.1 in
     omega (arith, long)
 
@@ -31,7 +31,7 @@ loop-n-preserved c =
 pub shape_of-lent : goal.shape_of-lent
 shape_of-lent c =
     let long : length c.loop-n.lent ≡ length c.args.lent.now =
-        let a = c.args in
+    let a = c.args in
     over-length (byte_of a.alive.now) c.loop-n.n a.lent.now c.loop-n.lent (omega arith) c.loop-n.invariant.1 in
     long
 

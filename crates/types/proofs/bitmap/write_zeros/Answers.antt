@@ -16,7 +16,7 @@ loop-n-init c =
 pub bounds-lent-n : goal.bounds-lent-n
 bounds-lent-n c =
     let long : length c.loop-n.lent ≡ length c.args.lent.now =
-        let a = c.args in
+    let a = c.args in
     ap length c.loop-n.invariant.2 ∙ cleared-length a.lent.now a.start (c.loop-n.n - a.start) in
     omega (arith, long)
 
@@ -31,7 +31,7 @@ loop-n-preserved c =
 pub shape_of-lent : goal.shape_of-lent
 shape_of-lent c =
     let long : length c.loop-n.lent ≡ length c.args.lent.now =
-        let a = c.args in
+    let a = c.args in
     ap length c.loop-n.invariant.2 ∙ cleared-length a.lent.now a.start (c.loop-n.n - a.start) in
     long
 

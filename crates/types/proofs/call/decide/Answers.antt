@@ -18,9 +18,9 @@ settle_query-counts-requires c =
     let p = c.requires in record {
       comparable = p.comparable;
       vacant = record {
-          empty = record { none = λ t. ends-empty type_limit 0 t (omega arith); size = refl };
-          differs_size = refl;
-        };
+        empty = record { none = λ t. ends-empty type_limit 0 t (omega arith); size = refl };
+        differs_size = refl;
+      };
       bitmap_bytes_in_bounds = p.bitmap_bytes_in_bounds;
     }
 
@@ -31,13 +31,13 @@ overflow_shl-size c =
 pub find_first-element-requires : goal.find_first-element-requires
 find_first-element-requires c =
     let size : (1 * 2 ^ c.args.k) % 18446744073709551616 ≡ types c.args.v.now =
-        let q = c.requires.comparable.settles in size_word c.args.v.now c.args.k q.few q.counts in
+    let q = c.requires.comparable.settles in size_word c.args.v.now c.args.k q.few q.counts in
     omega (arith, size, types-bound c.args.v.now c.requires.comparable.settles.few)
 
 pub returns : goal.returns
 returns c =
     let size : (1 * 2 ^ c.args.k) % 18446744073709551616 ≡ types c.args.v.now =
-        let q = c.requires.comparable.settles in size_word c.args.v.now c.args.k q.few q.counts in
+    let q = c.requires.comparable.settles in size_word c.args.v.now c.args.k q.few q.counts in
     let a = c.args in
     let v = a.v.now in
     let last = c.settle_query-counts.new in

@@ -62,67 +62,67 @@ loop-i-init c =
 pub overflow_mul-code : goal.overflow_mul-code
 overflow_mul-code c =
     let inside : c.loop-i.i < record_limit =
-        omega (arith, c.loop-i.invariant.within, (accepted-vocabulary c.args.v.now _ c.requires.accepted).sized.most) in
+    omega (arith, c.loop-i.invariant.within, (accepted-vocabulary c.args.v.now _ c.requires.accepted).sized.most) in
     omega (arith, inside)
 
 pub bounds-code-i : goal.bounds-code-i
 bounds-code-i c =
     let inside : c.loop-i.i < record_limit =
-        omega (arith, c.loop-i.invariant.within, (accepted-vocabulary c.args.v.now _ c.requires.accepted).sized.most) in
+    omega (arith, c.loop-i.invariant.within, (accepted-vocabulary c.args.v.now _ c.requires.accepted).sized.most) in
     omega (arith, inside)
 
 pub overflow_cast-i : goal.overflow_cast-i
 overflow_cast-i c =
     let inside : c.loop-i.i < record_limit =
-        omega (arith, c.loop-i.invariant.within, (accepted-vocabulary c.args.v.now _ c.requires.accepted).sized.most) in
+    omega (arith, c.loop-i.invariant.within, (accepted-vocabulary c.args.v.now _ c.requires.accepted).sized.most) in
     omega (arith, inside)
 
 pub overflow_add-code : goal.overflow_add-code
 overflow_add-code c =
     let inside : c.loop-i.i < record_limit =
-        omega (arith, c.loop-i.invariant.within, (accepted-vocabulary c.args.v.now _ c.requires.accepted).sized.most) in
+    omega (arith, c.loop-i.invariant.within, (accepted-vocabulary c.args.v.now _ c.requires.accepted).sized.most) in
     omega (arith, inside)
 
 pub offset_bounds-code-i-in-loop-i : goal.offset_bounds-code-i-in-loop-i
 offset_bounds-code-i-in-loop-i c =
     let inside : c.loop-i.i < record_limit =
-        omega (arith, c.loop-i.invariant.within, (accepted-vocabulary c.args.v.now _ c.requires.accepted).sized.most) in
+    omega (arith, c.loop-i.invariant.within, (accepted-vocabulary c.args.v.now _ c.requires.accepted).sized.most) in
     omega (arith, inside)
 
 pub bounds-code-i-in-loop-i : goal.bounds-code-i-in-loop-i
 bounds-code-i-in-loop-i c =
     let inside : c.loop-i.i < record_limit =
-        omega (arith, c.loop-i.invariant.within, (accepted-vocabulary c.args.v.now _ c.requires.accepted).sized.most) in
+    omega (arith, c.loop-i.invariant.within, (accepted-vocabulary c.args.v.now _ c.requires.accepted).sized.most) in
     omega (arith, inside)
 
 pub overflow_add-code-in-loop-i : goal.overflow_add-code-in-loop-i
 overflow_add-code-in-loop-i c =
     let inside : c.loop-i.i < record_limit =
-        omega (arith, c.loop-i.invariant.within, (accepted-vocabulary c.args.v.now _ c.requires.accepted).sized.most) in
+    omega (arith, c.loop-i.invariant.within, (accepted-vocabulary c.args.v.now _ c.requires.accepted).sized.most) in
     omega (arith, inside)
 
 pub offset_bounds-code-i-in-loop-i-2 : goal.offset_bounds-code-i-in-loop-i-2
 offset_bounds-code-i-in-loop-i-2 c =
     let inside : c.loop-i.i < record_limit =
-        omega (arith, c.loop-i.invariant.within, (accepted-vocabulary c.args.v.now _ c.requires.accepted).sized.most) in
+    omega (arith, c.loop-i.invariant.within, (accepted-vocabulary c.args.v.now _ c.requires.accepted).sized.most) in
     omega (arith, inside)
 
 pub bounds-code-i-in-loop-i-2 : goal.bounds-code-i-in-loop-i-2
 bounds-code-i-in-loop-i-2 c =
     let inside : c.loop-i.i < record_limit =
-        omega (arith, c.loop-i.invariant.within, (accepted-vocabulary c.args.v.now _ c.requires.accepted).sized.most) in
+    omega (arith, c.loop-i.invariant.within, (accepted-vocabulary c.args.v.now _ c.requires.accepted).sized.most) in
     omega (arith, inside)
 
 pub overflow_add-i : goal.overflow_add-i
 overflow_add-i c =
     let inside : c.loop-i.i < record_limit =
-        omega (arith, c.loop-i.invariant.within, (accepted-vocabulary c.args.v.now _ c.requires.accepted).sized.most) in
+    omega (arith, c.loop-i.invariant.within, (accepted-vocabulary c.args.v.now _ c.requires.accepted).sized.most) in
     omega (arith, inside)
 
 pub loop-i-preserved : goal.loop-i-preserved
 loop-i-preserved c =
     let inside : c.loop-i.i < record_limit =
-        omega (arith, c.loop-i.invariant.within, (accepted-vocabulary c.args.v.now _ c.requires.accepted).sized.most) in
+    omega (arith, c.loop-i.invariant.within, (accepted-vocabulary c.args.v.now _ c.requires.accepted).sized.most) in
     let l = c.loop-i in
     let read = c.read_at-fields.ensures in
     let v = c.args.v.now in

@@ -55,52 +55,52 @@ loop-i-init c =
 pub overflow_cast-places : goal.overflow_cast-places
 overflow_cast-places c =
     let inside : c.loop-i.i < record_limit =
-        omega (arith, c.loop-i.invariant.within, (accepted-vocabulary c.args.v.now _ c.requires.accepted).sized.most) in
+    omega (arith, c.loop-i.invariant.within, (accepted-vocabulary c.args.v.now _ c.requires.accepted).sized.most) in
     omega (arith, inside)
 
 pub offset_bounds-places-found : goal.offset_bounds-places-found
 offset_bounds-places-found c =
     let tested : c.is_atom.result ≡ atom c.args.v.now c.loop-i.i =
-        c.is_atom.ensures ∙ ap (λ (r : Record). is_atom r.kind) c.read_at.ensures in
+    c.is_atom.ensures ∙ ap (λ (r : Record). is_atom r.kind) c.read_at.ensures in
     let free : c.loop-i.found < atom_limit =
-        room _ _ _ c.loop-i.invariant.total c.requires.v_bound c.loop-i-test.true
+    room _ _ _ c.loop-i.invariant.total c.requires.v_bound c.loop-i-test.true
     (sym tested ∙ c.if-is_atom.true) in
     omega (arith, free)
 
 pub bounds-places-found : goal.bounds-places-found
 bounds-places-found c =
     let tested : c.is_atom.result ≡ atom c.args.v.now c.loop-i.i =
-        c.is_atom.ensures ∙ ap (λ (r : Record). is_atom r.kind) c.read_at.ensures in
+    c.is_atom.ensures ∙ ap (λ (r : Record). is_atom r.kind) c.read_at.ensures in
     let free : c.loop-i.found < atom_limit =
-        room _ _ _ c.loop-i.invariant.total c.requires.v_bound c.loop-i-test.true
+    room _ _ _ c.loop-i.invariant.total c.requires.v_bound c.loop-i-test.true
     (sym tested ∙ c.if-is_atom.true) in
     free
 
 pub overflow_add-found : goal.overflow_add-found
 overflow_add-found c =
     let tested : c.is_atom.result ≡ atom c.args.v.now c.loop-i.i =
-        c.is_atom.ensures ∙ ap (λ (r : Record). is_atom r.kind) c.read_at.ensures in
+    c.is_atom.ensures ∙ ap (λ (r : Record). is_atom r.kind) c.read_at.ensures in
     let free : c.loop-i.found < atom_limit =
-        room _ _ _ c.loop-i.invariant.total c.requires.v_bound c.loop-i-test.true
+    room _ _ _ c.loop-i.invariant.total c.requires.v_bound c.loop-i-test.true
     (sym tested ∙ c.if-is_atom.true) in
     omega (arith, free)
 
 pub overflow_add-i : goal.overflow_add-i
 overflow_add-i c =
     let inside : c.loop-i.i < record_limit =
-        omega (arith, c.loop-i.invariant.within, (accepted-vocabulary c.args.v.now _ c.requires.accepted).sized.most) in
+    omega (arith, c.loop-i.invariant.within, (accepted-vocabulary c.args.v.now _ c.requires.accepted).sized.most) in
     omega (arith, inside)
 
 pub loop-i-preserved : goal.loop-i-preserved
 loop-i-preserved c =
     let tested : c.is_atom.result ≡ atom c.args.v.now c.loop-i.i =
-        c.is_atom.ensures ∙ ap (λ (r : Record). is_atom r.kind) c.read_at.ensures in
+    c.is_atom.ensures ∙ ap (λ (r : Record). is_atom r.kind) c.read_at.ensures in
     let l = c.loop-i in
     let w = l.invariant in
     let v = c.args.v.now in
     let h : l.i + 1 ≤ count v = omega arith in
     elim c.if-is_atom.branch [
-      then-is_atom s ↦
+      | then-is_atom s ↦
           let e : atom v l.i ≡ true = sym tested ∙ s.if-is_atom.true in
           let r = room v l.found l.i w.total c.requires.v_bound (omega arith) e in
           rw (s.places-is, s.found-is) record {

@@ -28,55 +28,55 @@ loop-i-init c =
 pub bounds-marks-i : goal.bounds-marks-i
 bounds-marks-i c =
     let inside : c.loop-i.i < record_limit =
-        omega (arith, (accepted-vocabulary c.args.v.now _ c.requires.accepted).sized.most) in
+    omega (arith, (accepted-vocabulary c.args.v.now _ c.requires.accepted).sized.most) in
     inside
 
 pub overflow_cast-statements : goal.overflow_cast-statements
 overflow_cast-statements c =
     let inside : c.loop-i.i < record_limit =
-        omega (arith, (accepted-vocabulary c.args.v.now _ c.requires.accepted).sized.most) in
+    omega (arith, (accepted-vocabulary c.args.v.now _ c.requires.accepted).sized.most) in
     omega (arith, inside)
 
 pub offset_bounds-statements-found : goal.offset_bounds-statements-found
 offset_bounds-statements-found c =
     let inside : c.loop-i.i < record_limit =
-        omega (arith, (accepted-vocabulary c.args.v.now _ c.requires.accepted).sized.most) in
+    omega (arith, (accepted-vocabulary c.args.v.now _ c.requires.accepted).sized.most) in
     let free : c.loop-i.found < record_limit =
-        omega (arith, inside, listed-few _ _ _ _ _ c.loop-i.invariant.1) in
+    omega (arith, inside, listed-few _ _ _ _ _ c.loop-i.invariant.1) in
     omega (arith, free)
 
 pub bounds-statements-found : goal.bounds-statements-found
 bounds-statements-found c =
     let inside : c.loop-i.i < record_limit =
-        omega (arith, (accepted-vocabulary c.args.v.now _ c.requires.accepted).sized.most) in
+    omega (arith, (accepted-vocabulary c.args.v.now _ c.requires.accepted).sized.most) in
     let free : c.loop-i.found < record_limit =
-        omega (arith, inside, listed-few _ _ _ _ _ c.loop-i.invariant.1) in
+    omega (arith, inside, listed-few _ _ _ _ _ c.loop-i.invariant.1) in
     omega (arith, free)
 
 pub overflow_add-found : goal.overflow_add-found
 overflow_add-found c =
     let inside : c.loop-i.i < record_limit =
-        omega (arith, (accepted-vocabulary c.args.v.now _ c.requires.accepted).sized.most) in
+    omega (arith, (accepted-vocabulary c.args.v.now _ c.requires.accepted).sized.most) in
     let free : c.loop-i.found < record_limit =
-        omega (arith, inside, listed-few _ _ _ _ _ c.loop-i.invariant.1) in
+    omega (arith, inside, listed-few _ _ _ _ _ c.loop-i.invariant.1) in
     omega (arith, free)
 
 pub overflow_add-i : goal.overflow_add-i
 overflow_add-i c =
     let inside : c.loop-i.i < record_limit =
-        omega (arith, (accepted-vocabulary c.args.v.now _ c.requires.accepted).sized.most) in
+    omega (arith, (accepted-vocabulary c.args.v.now _ c.requires.accepted).sized.most) in
     omega (arith, inside)
 
 pub loop-i-preserved : goal.loop-i-preserved
 loop-i-preserved c =
     let inside : c.loop-i.i < record_limit =
-        omega (arith, (accepted-vocabulary c.args.v.now _ c.requires.accepted).sized.most) in
+    omega (arith, (accepted-vocabulary c.args.v.now _ c.requires.accepted).sized.most) in
     let free : c.loop-i.found < record_limit =
-        omega (arith, inside, listed-few _ _ _ _ _ c.loop-i.invariant.1) in
+    omega (arith, inside, listed-few _ _ _ _ _ c.loop-i.invariant.1) in
     let l = c.loop-i.invariant.1 in (
       omega arith,
       elim c.if-marks-i.branch [
-        then-marks-i w ↦ rw (w.statements-is, w.found-is) (list_more _ _ _ _ _ l free w.if-marks-i.true)
+        | then-marks-i w ↦ rw (w.statements-is, w.found-is) (list_more _ _ _ _ _ l free w.if-marks-i.true)
         | else-marks-i w ↦ rw (w.statements-is, w.found-is) (list_same _ _ _ _ _ l w.if-marks-i.false)
       ],
     )

@@ -46,21 +46,21 @@ loop-j-init c =
 pub offset_bounds-places-j : goal.offset_bounds-places-j
 offset_bounds-places-j c =
     let inside : c.loop-j.j < atoms c.args.v.now =
-        omega (arith, c.requires.k_value) in
+    omega (arith, c.requires.k_value) in
     omega (arith, inside, c.requires.v_bound)
 
 pub bounds-places-j : goal.bounds-places-j
 bounds-places-j c =
     let inside : c.loop-j.j < atoms c.args.v.now =
-        omega (arith, c.requires.k_value) in
+    omega (arith, c.requires.k_value) in
     omega (arith, inside, c.requires.v_bound)
 
 pub overflow_cast-at : goal.overflow_cast-at
 overflow_cast-at c =
     let inside : c.loop-j.j < atoms c.args.v.now =
-        omega (arith, c.requires.k_value) in
+    omega (arith, c.requires.k_value) in
     let placed : get_or c.args.places.now c.loop-j.j 0 < record_limit =
-        omega (
+    omega (
       arith,
       c.requires.atoms_listed.within c.loop-j.j inside,
       (accepted-vocabulary c.args.v.now _ c.requires.accepted).sized.most,
@@ -70,15 +70,15 @@ overflow_cast-at c =
 pub overflow_shr-values : goal.overflow_shr-values
 overflow_shr-values c =
     let inside : c.loop-j.j < atoms c.args.v.now =
-        omega (arith, c.requires.k_value) in
+    omega (arith, c.requires.k_value) in
     omega (arith, inside, c.requires.v_bound)
 
 pub bounds-values-at : goal.bounds-values-at
 bounds-values-at c =
     let inside : c.loop-j.j < atoms c.args.v.now =
-        omega (arith, c.requires.k_value) in
+    omega (arith, c.requires.k_value) in
     let placed : get_or c.args.places.now c.loop-j.j 0 < record_limit =
-        omega (
+    omega (
       arith,
       c.requires.atoms_listed.within c.loop-j.j inside,
       (accepted-vocabulary c.args.v.now _ c.requires.accepted).sized.most,
@@ -88,16 +88,16 @@ bounds-values-at c =
 pub overflow_add-j : goal.overflow_add-j
 overflow_add-j c =
     let inside : c.loop-j.j < atoms c.args.v.now =
-        omega (arith, c.requires.k_value) in
+    omega (arith, c.requires.k_value) in
     omega (arith, inside, c.requires.v_bound)
 
 pub loop-j-preserved : goal.loop-j-preserved
 unfolding bit
 loop-j-preserved c =
     let inside : c.loop-j.j < atoms c.args.v.now =
-        omega (arith, c.requires.k_value) in
+    omega (arith, c.requires.k_value) in
     let placed : get_or c.args.places.now c.loop-j.j 0 < record_limit =
-        omega (
+    omega (
       arith,
       c.requires.atoms_listed.within c.loop-j.j inside,
       (accepted-vocabulary c.args.v.now _ c.requires.accepted).sized.most,

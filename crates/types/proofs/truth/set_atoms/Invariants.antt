@@ -20,7 +20,8 @@ use Rattle.types.proofs.truth.set_atoms.Given as goal
 pub record Setting (v : List ℕ) (t : ℕ) (values : List Bool) (j : ℕ) : Type 0 where
   pub within : j ≤ atoms v
   pub size : length values ≡ record_limit
-  pub below : (i : ℕ) → i < count v → is_atom (record_at v i).kind ≡ true → rank v i < j → get_or values i false ≡ bit t (rank v i)
+  pub below : (i : ℕ) → i < count v → is_atom (record_at v i).kind ≡ true → rank v i < j
+      → get_or values i false ≡ bit t (rank v i)
 
 abbrev pub invariant-loop-j : goal.invariant-loop-j
 invariant-loop-j l =

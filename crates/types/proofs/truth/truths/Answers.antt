@@ -82,119 +82,119 @@ loop-i-init c =
 pub overflow_add-first : goal.overflow_add-first
 overflow_add-first c =
     let good : AcceptedFacts c.args.v.now =
-        accepted-vocabulary _ _ c.requires.accepted in
+    accepted-vocabulary _ _ c.requires.accepted in
     let inside : c.loop-i.i < record_limit =
-        omega (arith, c.loop-i.invariant.within, good.sized.most) in
+    omega (arith, c.loop-i.invariant.within, good.sized.most) in
     omega (arith, inside)
 
 pub offset_bounds-code-i : goal.offset_bounds-code-i
 offset_bounds-code-i c =
     let good : AcceptedFacts c.args.v.now =
-        accepted-vocabulary _ _ c.requires.accepted in
+    accepted-vocabulary _ _ c.requires.accepted in
     let inside : c.loop-i.i < record_limit =
-        omega (arith, c.loop-i.invariant.within, good.sized.most) in
+    omega (arith, c.loop-i.invariant.within, good.sized.most) in
     omega (arith, inside)
 
 pub bounds-code-i : goal.bounds-code-i
 bounds-code-i c =
     let good : AcceptedFacts c.args.v.now =
-        accepted-vocabulary _ _ c.requires.accepted in
+    accepted-vocabulary _ _ c.requires.accepted in
     let inside : c.loop-i.i < record_limit =
-        omega (arith, c.loop-i.invariant.within, good.sized.most) in
+    omega (arith, c.loop-i.invariant.within, good.sized.most) in
     omega (arith, inside)
 
 pub overflow_cast-first : goal.overflow_cast-first
 overflow_cast-first c =
     let good : AcceptedFacts c.args.v.now =
-        accepted-vocabulary _ _ c.requires.accepted in
+    accepted-vocabulary _ _ c.requires.accepted in
     let first-inside : first c.args.code.now c.loop-i.i < record_limit =
-        (operands _ _ good c.requires.decoded c.loop-i.i c.loop-i-test.true).0 in
+    (operands _ _ good c.requires.decoded c.loop-i.i c.loop-i-test.true).0 in
     omega (arith, first-inside)
 
 pub overflow_add-second : goal.overflow_add-second
 overflow_add-second c =
     let good : AcceptedFacts c.args.v.now =
-        accepted-vocabulary _ _ c.requires.accepted in
+    accepted-vocabulary _ _ c.requires.accepted in
     let inside : c.loop-i.i < record_limit =
-        omega (arith, c.loop-i.invariant.within, good.sized.most) in
+    omega (arith, c.loop-i.invariant.within, good.sized.most) in
     omega (arith, inside)
 
 pub offset_bounds-code-i-in-loop-i : goal.offset_bounds-code-i-in-loop-i
 offset_bounds-code-i-in-loop-i c =
     let good : AcceptedFacts c.args.v.now =
-        accepted-vocabulary _ _ c.requires.accepted in
+    accepted-vocabulary _ _ c.requires.accepted in
     let inside : c.loop-i.i < record_limit =
-        omega (arith, c.loop-i.invariant.within, good.sized.most) in
+    omega (arith, c.loop-i.invariant.within, good.sized.most) in
     omega (arith, inside)
 
 pub bounds-code-i-in-loop-i : goal.bounds-code-i-in-loop-i
 bounds-code-i-in-loop-i c =
     let good : AcceptedFacts c.args.v.now =
-        accepted-vocabulary _ _ c.requires.accepted in
+    accepted-vocabulary _ _ c.requires.accepted in
     let inside : c.loop-i.i < record_limit =
-        omega (arith, c.loop-i.invariant.within, good.sized.most) in
+    omega (arith, c.loop-i.invariant.within, good.sized.most) in
     omega (arith, inside)
 
 pub overflow_cast-second : goal.overflow_cast-second
 overflow_cast-second c =
     let good : AcceptedFacts c.args.v.now =
-        accepted-vocabulary _ _ c.requires.accepted in
+    accepted-vocabulary _ _ c.requires.accepted in
     let second-inside : second c.args.code.now c.loop-i.i < record_limit =
-        (operands _ _ good c.requires.decoded c.loop-i.i c.loop-i-test.true).1 in
+    (operands _ _ good c.requires.decoded c.loop-i.i c.loop-i-test.true).1 in
     omega (arith, second-inside)
 
 pub offset_bounds-code-i-in-loop-i-2 : goal.offset_bounds-code-i-in-loop-i-2
 offset_bounds-code-i-in-loop-i-2 c =
     let good : AcceptedFacts c.args.v.now =
-        accepted-vocabulary _ _ c.requires.accepted in
+    accepted-vocabulary _ _ c.requires.accepted in
     let inside : c.loop-i.i < record_limit =
-        omega (arith, c.loop-i.invariant.within, good.sized.most) in
+    omega (arith, c.loop-i.invariant.within, good.sized.most) in
     omega (arith, inside)
 
 pub bounds-code-i-in-loop-i-2 : goal.bounds-code-i-in-loop-i-2
 bounds-code-i-in-loop-i-2 c =
     let good : AcceptedFacts c.args.v.now =
-        accepted-vocabulary _ _ c.requires.accepted in
+    accepted-vocabulary _ _ c.requires.accepted in
     let inside : c.loop-i.i < record_limit =
-        omega (arith, c.loop-i.invariant.within, good.sized.most) in
+    omega (arith, c.loop-i.invariant.within, good.sized.most) in
     omega (arith, inside)
 
 pub bounds-values-first : goal.bounds-values-first
 bounds-values-first c =
     let good : AcceptedFacts c.args.v.now =
-        accepted-vocabulary _ _ c.requires.accepted in
+    accepted-vocabulary _ _ c.requires.accepted in
     let first-inside : first c.args.code.now c.loop-i.i < record_limit =
-        (operands _ _ good c.requires.decoded c.loop-i.i c.loop-i-test.true).0 in
+    (operands _ _ good c.requires.decoded c.loop-i.i c.loop-i-test.true).0 in
     first-inside
 
 pub bounds-values-second : goal.bounds-values-second
 bounds-values-second c =
     let good : AcceptedFacts c.args.v.now =
-        accepted-vocabulary _ _ c.requires.accepted in
+    accepted-vocabulary _ _ c.requires.accepted in
     let second-inside : second c.args.code.now c.loop-i.i < record_limit =
-        (operands _ _ good c.requires.decoded c.loop-i.i c.loop-i-test.true).1 in
+    (operands _ _ good c.requires.decoded c.loop-i.i c.loop-i-test.true).1 in
     second-inside
 
 pub bounds-values-i : goal.bounds-values-i
 bounds-values-i c =
     let good : AcceptedFacts c.args.v.now =
-        accepted-vocabulary _ _ c.requires.accepted in
+    accepted-vocabulary _ _ c.requires.accepted in
     let inside : c.loop-i.i < record_limit =
-        omega (arith, c.loop-i.invariant.within, good.sized.most) in
+    omega (arith, c.loop-i.invariant.within, good.sized.most) in
     inside
 
 pub overflow_add-i : goal.overflow_add-i
 overflow_add-i c =
     let good : AcceptedFacts c.args.v.now =
-        accepted-vocabulary _ _ c.requires.accepted in
+    accepted-vocabulary _ _ c.requires.accepted in
     let inside : c.loop-i.i < record_limit =
-        omega (arith, c.loop-i.invariant.within, good.sized.most) in
+    omega (arith, c.loop-i.invariant.within, good.sized.most) in
     omega (arith, inside)
 
 pub loop-i-preserved : goal.loop-i-preserved
 loop-i-preserved c =
     let good : AcceptedFacts c.args.v.now =
-        accepted-vocabulary _ _ c.requires.accepted in
+    accepted-vocabulary _ _ c.requires.accepted in
     let l = c.loop-i in
     let a = c.args in
     next a.v.now a.code.now good c.requires.decoded l.i c.loop-i-test.true

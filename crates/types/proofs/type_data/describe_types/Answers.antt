@@ -58,73 +58,73 @@ describe-data-requires c =
 pub bounds-alive-t : goal.bounds-alive-t
 bounds-alive-t c =
     let inside : c.loop-t.t < types c.args.v.now =
-        let q = c.requires.prepared.query.settles in
+    let q = c.requires.prepared.query.settles in
     omega (arith, size_word c.args.v.now c.args.plan.k q.few q.counts) in
     let in_tables : c.loop-t.t < type_limit =
-        omega (arith, inside, types-bound c.args.v.now c.requires.prepared.query.settles.few) in
+    omega (arith, inside, types-bound c.args.v.now c.requires.prepared.query.settles.few) in
     in_tables
 
 pub bounds-differs-t : goal.bounds-differs-t
 bounds-differs-t c =
     let inside : c.loop-t.t < types c.args.v.now =
-        let q = c.requires.prepared.query.settles in
+    let q = c.requires.prepared.query.settles in
     omega (arith, size_word c.args.v.now c.args.plan.k q.few q.counts) in
     let in_tables : c.loop-t.t < type_limit =
-        omega (arith, inside, types-bound c.args.v.now c.requires.prepared.query.settles.few) in
+    omega (arith, inside, types-bound c.args.v.now c.requires.prepared.query.settles.few) in
     in_tables
 
 pub offset_bounds-held-t : goal.offset_bounds-held-t
 offset_bounds-held-t c =
     let inside : c.loop-t.t < types c.args.v.now =
-        let q = c.requires.prepared.query.settles in
+    let q = c.requires.prepared.query.settles in
     omega (arith, size_word c.args.v.now c.args.plan.k q.few q.counts) in
     let in_tables : c.loop-t.t < type_limit =
-        omega (arith, inside, types-bound c.args.v.now c.requires.prepared.query.settles.few) in
+    omega (arith, inside, types-bound c.args.v.now c.requires.prepared.query.settles.few) in
     omega (arith, in_tables)
 
 pub bounds-held-t : goal.bounds-held-t
 bounds-held-t c =
     let inside : c.loop-t.t < types c.args.v.now =
-        let q = c.requires.prepared.query.settles in
+    let q = c.requires.prepared.query.settles in
     omega (arith, size_word c.args.v.now c.args.plan.k q.few q.counts) in
     let in_tables : c.loop-t.t < type_limit =
-        omega (arith, inside, types-bound c.args.v.now c.requires.prepared.query.settles.few) in
+    omega (arith, inside, types-bound c.args.v.now c.requires.prepared.query.settles.few) in
     in_tables
 
 pub offset_bounds-filling-t : goal.offset_bounds-filling-t
 offset_bounds-filling-t c =
     let inside : c.loop-t.t < types c.args.v.now =
-        let q = c.requires.prepared.query.settles in
+    let q = c.requires.prepared.query.settles in
     omega (arith, size_word c.args.v.now c.args.plan.k q.few q.counts) in
     let in_tables : c.loop-t.t < type_limit =
-        omega (arith, inside, types-bound c.args.v.now c.requires.prepared.query.settles.few) in
+    omega (arith, inside, types-bound c.args.v.now c.requires.prepared.query.settles.few) in
     omega (arith, in_tables)
 
 pub bounds-filling-t : goal.bounds-filling-t
 bounds-filling-t c =
     let inside : c.loop-t.t < types c.args.v.now =
-        let q = c.requires.prepared.query.settles in
+    let q = c.requires.prepared.query.settles in
     omega (arith, size_word c.args.v.now c.args.plan.k q.few q.counts) in
     let in_tables : c.loop-t.t < type_limit =
-        omega (arith, inside, types-bound c.args.v.now c.requires.prepared.query.settles.few) in
+    omega (arith, inside, types-bound c.args.v.now c.requires.prepared.query.settles.few) in
     in_tables
 
 pub overflow_add-t : goal.overflow_add-t
 overflow_add-t c =
     let inside : c.loop-t.t < types c.args.v.now =
-        let q = c.requires.prepared.query.settles in
+    let q = c.requires.prepared.query.settles in
     omega (arith, size_word c.args.v.now c.args.plan.k q.few q.counts) in
     let in_tables : c.loop-t.t < type_limit =
-        omega (arith, inside, types-bound c.args.v.now c.requires.prepared.query.settles.few) in
+    omega (arith, inside, types-bound c.args.v.now c.requires.prepared.query.settles.few) in
     omega (arith, in_tables)
 
 pub loop-t-preserved : goal.loop-t-preserved
 loop-t-preserved c =
     let inside : c.loop-t.t < types c.args.v.now =
-        let q = c.requires.prepared.query.settles in
+    let q = c.requires.prepared.query.settles in
     omega (arith, size_word c.args.v.now c.args.plan.k q.few q.counts) in
     let in_tables : c.loop-t.t < type_limit =
-        omega (arith, inside, types-bound c.args.v.now c.requires.prepared.query.settles.few) in
+    omega (arith, inside, types-bound c.args.v.now c.requires.prepared.query.settles.few) in
     let l = c.loop-t in
     let w = l.invariant in
     let at = in_tables in

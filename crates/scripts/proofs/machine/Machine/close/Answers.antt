@@ -3,7 +3,6 @@
 -- Assumes nothing.
 use Prim.Native.Nat.{◌-◌}
 use native.Mathlib.Omega.{arith}
-use borrow.Author.Rules.{rules}
 use Rattle.scripts.proofs.Refinement.Frames.{close-all, close-back}
 use Rattle.scripts.proofs.machine.Machine.close.Goals as goal
 
@@ -15,14 +14,6 @@ returns-then-depth-eq0 c =
       standing = record { deep = omega (arith, c.if-depth-eq0.true); back = omega arith; backs = p.backs };
       shown = close-all m.below m.others m.backs m.goal m.back m.depth 0 0 c.if-depth-eq0.true;
     }
-
-pub bounds-others-depth : goal.bounds-others-depth
-bounds-others-depth c =
-    let p = c.requires in omega (arith, p.deep, p.back)
-
-pub bounds-backs-depth : goal.bounds-backs-depth
-bounds-backs-depth c =
-    let p = c.requires in omega (arith, p.deep, p.back)
 
 pub returns : goal.returns
 returns c =

@@ -1,24 +1,21 @@
 -- `scripts::machine::Machine::extend_pair` meets its contract: a frame of two literals stands above those that are open. That
--- an array has an entry for each frame is what owning the machine tells.
+-- an array has an entry for each frame is told by its type.
 -- Assumes nothing.
 use native.Mathlib.Omega.{arith}
-use mathlib.Core.Path.{◌≡◌}
-use lib.ListN.{length}
-use borrow.Author.Rules.{rules}
-use Rattle.scripts.specs.Calculus.{frame_limit}
-use Rattle.scripts.proofs.Refinement.Frames.{entries-length, frames_pair, backs-set}
+use Rattle.scripts.proofs.Refinement.Frames.{frames_pair, backs-set}
 use Rattle.scripts.proofs.machine.Machine.extend_pair.Goals as goal
 
 pub returns : goal.returns
 returns c =
     let m = c.args.self in
-    let p = c.requires in
+    let p = c.requires.standing in
+    let l = c.requires.depth_lt_frame_limit in
     record {
       standing = record {
-        deep = omega (arith, p.depth_lt_frame_limit);
+        deep = omega (arith, l);
         back = omega arith;
-        backs = backs-set m.backs m.depth m.back p.standing.back p.standing.backs (omega (arith, p.depth_lt_frame_limit));
+        backs = backs-set m.backs m.depth m.back p.back p.backs (omega (arith, l));
       };
-      shown = frames_pair m.below m.others m.backs m.goal m.back m.depth _ c.args.goal (omega arith)
-          p.standing.back (omega (arith, p.depth_lt_frame_limit)) c.args.other (omega (arith, p.depth_lt_frame_limit)) (omega (arith, p.depth_lt_frame_limit));
+      shown = frames_pair m.below m.others m.backs m.goal m.back m.depth _ c.args.goal (omega arith) p.back (omega (arith, l))
+          c.args.other (omega (arith, l)) (omega (arith, l));
     }
