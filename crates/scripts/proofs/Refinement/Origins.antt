@@ -44,13 +44,8 @@ module _ (s : List ℕ) where
     pub origin-term : term_at s (origin s n) ≡ term_at s n
     origin-term =
         let j = origin s n in
-<<<<<<< ours
         same_term-true (term_at s j) (term_at s n) (both_right (is_term (entry_at s j).w0)
         (same_term (term_at s j) (term_at s n)) found)
-=======
-        same_term-true (term_at s j) (term_at s n)
-        (both_right (is_term (entry_at s j).w0) (same_term (term_at s j) (term_at s n)) found)
->>>>>>> theirs
 
     pub origin-is : IsOrigin s (origin s n)
     origin-is =

@@ -140,13 +140,8 @@ module _ (v s : List ℕ) (good : AcceptedFacts v) (f : KeepsForm v s) where
   pub term_eq : (i : ℕ) → term_at s i ≡ term_of (line_at s i) (term_at s)
   unfolding term_at
   term_eq i =
-<<<<<<< ours
       in_order constant (λ earlier j. term_of (line_at s j) earlier) (λ j g h e. inner_local j (line_at s j) (line_inner j) g h
       e) i
-=======
-      in_order constant (λ earlier j. term_of (line_at s j) earlier)
-      (λ j g h e. inner_local j (line_at s j) (line_inner j) g h e) i
->>>>>>> theirs
 
   pub header-term : term_at s 0 ≡ constant
   header-term = term_eq 0 ∙ ap (λ (l : Line). term_of l (term_at s)) header_line

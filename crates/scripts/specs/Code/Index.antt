@@ -1,12 +1,7 @@
 -- What the code computes with: the index of terms. It is a digital search tree for each inner term, whose nodes are origins:
 -- the way to a code begins at the root of its inner term's tree and branches by the code's bits, from the lowest on.
-<<<<<<< ours
 use Rattle.std.specs.Prelude.{ℕ, zero, suc, ◌+◌, ◌*◌, ◌/◌, ◌%◌, ◌^◌, ◌≤◌, ◌<◌, ◌≡◌, Bool, true, false, not, ◌&&◌, List, length}
 use Rattle.std.specs.Prelude.{get_or, set, eqb}
-=======
-use Rattle.std.specs.Prelude.{ℕ, zero, suc, ◌+◌, ◌*◌, ◌/◌, ◌%◌, ◌^◌, ◌≤◌, ◌<◌, ◌≡◌, Bool, true, false, not, ◌&&◌, List}
-use Rattle.std.specs.Prelude.{length, get_or, set, eqb}
->>>>>>> theirs
 use Rattle.columns.specs.Code.Packed.{term_limit}
 use Rattle.scripts.specs.Format.{entry_at, entries}
 use Rattle.scripts.specs.Code.Codes.{TermRecord, origin, IsOrigin, function_limit, code_at}
