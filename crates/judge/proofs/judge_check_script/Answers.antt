@@ -1,5 +1,5 @@
--- `judge::judge_check_script` meets its contract. The steps are at most 2,048, and a place that or a number of the query,
--- which has 16 bits, so that it fits its bits.
+-- `judge::judge_check_script` meets its contract. The steps are at most 2,048, and a place that or a number of the query, which
+-- has 16 bits, so that it fits its bits.
 -- Assumes nothing.
 use native.Mathlib.Omega.{arith}
 use mathlib.Core.Path.{sym, subst}
