@@ -1,14 +1,10 @@
 -- `types::bitmap::byte_of` meets its contract. The loop's invariant: `byte` is the number of the bits from `j` on.
 -- Assumes nothing.
-use Prim.Native.Nat.{ℕ, ◌+◌, ◌*◌, ◌-◌, ◌≤◌}
 use native.Mathlib.Omega.{arith}
-use mathlib.Core.Bool.{Bool}
-use mathlib.Core.List.{List}
 use mathlib.Core.Path.{◌≡◌, refl, ◌∙◌}
-use Rattle.records.specs.Finite.{has}
 use Rattle.types.specs.Bitmap.{byte_of}
 use Rattle.records.proofs.Laws.Bits.{number_small}
-use Rattle.records.proofs.Laws.Filling.{word_from, word_start, word_turn, word_end, word_bound}
+use Rattle.records.proofs.Laws.Filling.{word_start, word_turn, word_end, word_bound}
 use Rattle.types.specs.Comparison.{atom_limit}
 use Rattle.types.proofs.bitmap.byte_of.Invariants.{bits}
 use Rattle.types.proofs.bitmap.byte_of.Goals as goal
@@ -33,15 +29,7 @@ loop-j-preserved c =
 
 pub overflow_cast-result : goal.overflow_cast-result
 overflow_cast-result c =
-    let whole : c.loop-j.byte ≡ byte_of c.args.alive.now c.args.n =
     let a = c.args in
+    let whole : c.loop-j.byte ≡ byte_of a.alive.now a.n =
     word_end 8 (bits a.alive.now a.n) c.loop-j.j _ (omega arith) c.loop-j.invariant.1 in
-    let a = c.args in
     omega (arith, whole, number_small 8 (bits a.alive.now a.n))
-
-pub returns : goal.returns
-returns c =
-    let whole : c.loop-j.byte ≡ byte_of c.args.alive.now c.args.n =
-    let a = c.args in
-    word_end 8 (bits a.alive.now a.n) c.loop-j.j _ (omega arith) c.loop-j.invariant.1 in
-    whole

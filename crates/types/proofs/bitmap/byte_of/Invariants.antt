@@ -1,15 +1,11 @@
 -- `types::bitmap::byte_of` meets its contract. The loop's invariant: `byte` is the number of the bits from `j` on.
 -- Assumes nothing.
-use Prim.Native.Nat.{ℕ, ◌+◌, ◌*◌, ◌-◌, ◌≤◌}
-use native.Mathlib.Omega.{arith}
+use Prim.Native.Nat.{ℕ, ◌+◌, ◌*◌, ◌≤◌}
 use mathlib.Core.Bool.{Bool}
 use mathlib.Core.List.{List}
-use mathlib.Core.Path.{◌≡◌, refl, ◌∙◌}
+use mathlib.Core.Path.{◌≡◌}
 use Rattle.records.specs.Finite.{has}
-use Rattle.types.specs.Bitmap.{byte_of}
-use Rattle.records.proofs.Laws.Bits.{number_small}
-use Rattle.records.proofs.Laws.Filling.{word_from, word_start, word_turn, word_end, word_bound}
-use Rattle.types.specs.Comparison.{atom_limit}
+use Rattle.records.proofs.Laws.Filling.{word_from}
 use Rattle.types.proofs.bitmap.byte_of.Given as goal
 
 -- bit j of byte n

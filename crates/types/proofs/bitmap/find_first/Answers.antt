@@ -1,16 +1,9 @@
 -- `types::bitmap::find_first` meets its contract. The loop's invariant: no number below `t` is in both tables.
 -- Assumes nothing.
-use Prim.Native.Nat.{◌-◌, ◌≤◌}
 use native.Mathlib.Omega.{arith}
-use mathlib.Core.Logic.{⊎_elim}
-use Rattle.records.proofs.Laws.Below.{None, none-start}
-use Rattle.types.proofs.Invariants.Answers.{in_both, first_out, first_other, first_found, first-none}
+use Rattle.types.proofs.Invariants.Answers.{first_out, first_other, first_found, first-none}
 use Rattle.types.proofs.bitmap.find_first.Goals as goal
 use Rattle.types.proofs.bitmap.find_first.Goals.{then-alive-t+else-differs-t, else-alive-t}
-
-pub loop-t-init : goal.loop-t-init
-loop-t-init c =
-    (omega arith, none-start (in_both c.args.alive.now c.args.differs.now))
 
 pub returns-then-differs-t : goal.returns-then-differs-t
 returns-then-differs-t c =
@@ -23,8 +16,10 @@ loop-t-preserved c =
     let a = c.args in (
       omega arith,
       elim c.if-alive-t.branch [
-        | then-alive-t+else-differs-t w ↦ first_other a.alive.now a.differs.now c.loop-t.t c.loop-t.invariant.1 w.if-differs-t.false
-        | else-alive-t w ↦ first_out a.alive.now a.differs.now c.loop-t.t c.loop-t.invariant.1 w.if-alive-t.false
+        | then-alive-t+else-differs-t w ↦
+            first_other a.alive.now a.differs.now c.loop-t.t c.loop-t.invariant.1 w.if-differs-t.false
+        | else-alive-t w ↦
+            first_out a.alive.now a.differs.now c.loop-t.t c.loop-t.invariant.1 w.if-alive-t.false
       ],
     )
 

@@ -1,10 +1,8 @@
 -- `types::bitmap::find_first` meets its contract. The loop's invariant: no number below `t` is in both tables.
 -- Assumes nothing.
 use Prim.Native.Nat.{◌-◌, ◌≤◌}
-use native.Mathlib.Omega.{arith}
-use mathlib.Core.Logic.{⊎_elim}
-use Rattle.records.proofs.Laws.Below.{None, none-start}
-use Rattle.types.proofs.Invariants.Answers.{in_both, first_out, first_other, first_found, first-none}
+use Rattle.records.proofs.Laws.Below.{None}
+use Rattle.types.proofs.Invariants.Answers.{in_both}
 use Rattle.types.proofs.bitmap.find_first.Given as goal
 
 abbrev pub invariant-loop-t : goal.invariant-loop-t

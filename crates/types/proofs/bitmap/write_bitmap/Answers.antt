@@ -4,20 +4,12 @@ use Prim.Native.Nat.{ℕ, ◌+◌, ◌-◌, ◌/◌}
 use native.Mathlib.Omega.{arith}
 use mathlib.Core.List.{List}
 use mathlib.Core.Path.{◌∙◌, ap}
-use borrow.Author.Rules.{rules}
 use Rattle.types.specs.Comparison.{bitmap_bytes}
 use Rattle.types.specs.Bitmap.{byte_of}
 use Rattle.types.specs.Code.Settling.{cleared}
 use Rattle.records.proofs.Laws.Filling.{table_over}
 use Rattle.types.proofs.Invariants.Answers.{byte_none, cleared-over}
 use Rattle.types.proofs.bitmap.write_bitmap.Goals as goal
-
-pub write_types-requires : goal.write_types-requires
-write_types-requires c =
-    record {
-      end_le_bitmap_bytes = omega arith;
-      bitmap_bytes_in_bounds = omega arith;
-    }
 
 pub returns : goal.returns
 returns c =

@@ -1,12 +1,10 @@
 -- `types::bitmap::write_types` meets its contract. The loop's invariant: the first `n` bytes of the bitmap stand over what
 -- was lent.
 -- Assumes nothing.
-use Prim.Native.Nat.{ℕ, ◌-◌, ◌≤◌}
-use native.Mathlib.Omega.{arith}
-use mathlib.Core.Path.{◌≡◌, ◌∙◌, ap}
-use lib.ListN.{length}
+use Prim.Native.Nat.{◌-◌, ◌≤◌}
+use mathlib.Core.Path.{◌≡◌}
 use Rattle.types.specs.Bitmap.{byte_of}
-use Rattle.records.proofs.Laws.Filling.{table_over, over-start, over_turn, over-length}
+use Rattle.records.proofs.Laws.Filling.{table_over}
 use Rattle.types.proofs.bitmap.write_types.Given as goal
 
 abbrev pub invariant-loop-n : goal.invariant-loop-n

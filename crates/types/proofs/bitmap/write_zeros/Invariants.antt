@@ -1,12 +1,9 @@
 -- `types::bitmap::write_zeros` meets its contract. The loop's invariant: there are zeros from `start` to `n`.
 -- Assumes nothing.
-use Prim.Native.Nat.{ℕ, ◌-◌, ◌≤◌}
-use native.Mathlib.Omega.{arith}
-use mathlib.Core.Path.{◌≡◌, ◌∙◌, ap}
-use lib.ListN.{length}
+use Prim.Native.Nat.{◌-◌, ◌≤◌}
+use mathlib.Core.Path.{◌≡◌}
 use Rattle.types.specs.Comparison.{bitmap_bytes}
 use Rattle.types.specs.Code.Settling.{cleared}
-use Rattle.types.proofs.Invariants.Answers.{cleared-start, cleared-length, cleared_turn}
 use Rattle.types.proofs.bitmap.write_zeros.Given as goal
 
 abbrev pub invariant-loop-n : goal.invariant-loop-n

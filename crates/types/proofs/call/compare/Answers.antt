@@ -1,7 +1,6 @@
 -- `types::call::compare` meets its contract. Each check that passed hands on to the next; one that refused leaves the
 -- lent bytes as they were.
 -- Assumes nothing.
-use borrow.Author.Rules.{rules}
 use Rattle.types.proofs.Refinement.Outcomes.{refused-vocabulary, refused-query, query_passed, query_comparable}
 use Rattle.types.proofs.Refinement.Outcomes.{decided_call}
 use Rattle.types.proofs.call.compare.Goals as goal
@@ -12,10 +11,6 @@ returns-in_default c =
     let r = refused-vocabulary a.v.now a.a a.b a.lent.now c.compare_after_count.result _ _ _ _
     c.check_vocabulary-vocabulary.ensures c.in_default.is c.compare_after_count.ensures in
     record { result_value = r.0; lent_after = r.1 }
-
-pub check_query-query-requires : goal.check_query-query-requires
-check_query-query-requires c =
-    c.count_atoms-k.ensures
 
 pub returns-in_default-query : goal.returns-in_default-query
 returns-in_default-query c =

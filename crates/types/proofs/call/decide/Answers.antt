@@ -3,7 +3,6 @@
 use Prim.Native.Nat.{◌^◌, ◌%◌, ◌*◌}
 use native.Mathlib.Omega.{arith}
 use mathlib.Core.Path.{◌≡◌, refl, ap, ◌∙◌}
-use borrow.Author.Rules.{rules}
 use Rattle.records.specs.Finite.{least}
 use Rattle.types.specs.Comparison.{type_limit}
 use Rattle.types.specs.declared.answers.Counts.{Counts}
@@ -23,10 +22,6 @@ settle_query-counts-requires c =
       };
       bitmap_bytes_in_bounds = p.bitmap_bytes_in_bounds;
     }
-
-pub overflow_shl-size : goal.overflow_shl-size
-overflow_shl-size c =
-    let q = c.requires.comparable.settles in omega (arith, q.few, q.counts)
 
 pub find_first-element-requires : goal.find_first-element-requires
 find_first-element-requires c =

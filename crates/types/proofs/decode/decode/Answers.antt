@@ -1,16 +1,15 @@
 -- `types::decode::decode` meets its contract. The loop's invariant: the three parts of the table are right below `i`.
 -- Assumes nothing.
-use Prim.Native.Nat.{ℕ, ◌+◌, ◌-◌, ◌*◌, ◌≤◌, ◌<◌}
+use Prim.Native.Nat.{ℕ, ◌+◌, ◌<◌}
 use native.Mathlib.Omega.{arith}
 use mathlib.Core.List.{List}
 use mathlib.Core.Path.{◌≡◌, ap, ◌∙◌}
 use lib.ListN.{length, set, length-set}
-use borrow.Author.Rules.{rules}
 use Rattle.records.proofs.Theorems.Accepted.{accepted-vocabulary}
-use Rattle.records.specs.Format.{count, record_at, record_limit}
+use Rattle.records.specs.Format.{count, record_limit}
 use Rattle.records.specs.declared.fields.Record.{Record}
 use Rattle.types.specs.Code.Rules.{rule_of, first_operand_of, second_operand_of, code_length}
-use Rattle.records.proofs.Laws.Filling.{RightAt, right_turn, right_kept}
+use Rattle.records.proofs.Laws.Filling.{right_turn, right_kept}
 use Rattle.types.proofs.decode.decode.Invariants.{second-place, third_place, rule_of_lem, first_of, second_of, Decoding}
 use Rattle.types.proofs.decode.decode.Goals as goal
 
@@ -49,75 +48,21 @@ module _ (v code : List ℕ) (i : ℕ) (d : Decoding v code i) (h : i < record_l
       long : length with_first ≡ code_length
       long = length-set with_rule (second-place i) y ∙ long_rule
 
-pub loop-i-init : goal.loop-i-init
-loop-i-init c =
-    record {
-      within = omega arith;
-      size = c.requires.code_len;
-      rules = λ j k. absurd (omega arith);
-      first_operands = λ j k. absurd (omega arith);
-      second_operands = λ j k. absurd (omega arith);
-    }
-
-pub overflow_mul-code : goal.overflow_mul-code
-overflow_mul-code c =
-    let inside : c.loop-i.i < record_limit =
-    omega (arith, c.loop-i.invariant.within, (accepted-vocabulary c.args.v.now _ c.requires.accepted).sized.most) in
-    omega (arith, inside)
-
 pub bounds-code-i : goal.bounds-code-i
 bounds-code-i c =
-    let inside : c.loop-i.i < record_limit =
-    omega (arith, c.loop-i.invariant.within, (accepted-vocabulary c.args.v.now _ c.requires.accepted).sized.most) in
-    omega (arith, inside)
+    omega (arith, c.loop-i.invariant.within, (accepted-vocabulary c.args.v.now _ c.requires.accepted).sized.most)
 
 pub overflow_cast-i : goal.overflow_cast-i
 overflow_cast-i c =
-    let inside : c.loop-i.i < record_limit =
-    omega (arith, c.loop-i.invariant.within, (accepted-vocabulary c.args.v.now _ c.requires.accepted).sized.most) in
-    omega (arith, inside)
-
-pub overflow_add-code : goal.overflow_add-code
-overflow_add-code c =
-    let inside : c.loop-i.i < record_limit =
-    omega (arith, c.loop-i.invariant.within, (accepted-vocabulary c.args.v.now _ c.requires.accepted).sized.most) in
-    omega (arith, inside)
-
-pub offset_bounds-code-i-in-loop-i : goal.offset_bounds-code-i-in-loop-i
-offset_bounds-code-i-in-loop-i c =
-    let inside : c.loop-i.i < record_limit =
-    omega (arith, c.loop-i.invariant.within, (accepted-vocabulary c.args.v.now _ c.requires.accepted).sized.most) in
-    omega (arith, inside)
+    omega (arith, c.loop-i.invariant.within, (accepted-vocabulary c.args.v.now _ c.requires.accepted).sized.most)
 
 pub bounds-code-i-in-loop-i : goal.bounds-code-i-in-loop-i
 bounds-code-i-in-loop-i c =
-    let inside : c.loop-i.i < record_limit =
-    omega (arith, c.loop-i.invariant.within, (accepted-vocabulary c.args.v.now _ c.requires.accepted).sized.most) in
-    omega (arith, inside)
-
-pub overflow_add-code-in-loop-i : goal.overflow_add-code-in-loop-i
-overflow_add-code-in-loop-i c =
-    let inside : c.loop-i.i < record_limit =
-    omega (arith, c.loop-i.invariant.within, (accepted-vocabulary c.args.v.now _ c.requires.accepted).sized.most) in
-    omega (arith, inside)
-
-pub offset_bounds-code-i-in-loop-i-2 : goal.offset_bounds-code-i-in-loop-i-2
-offset_bounds-code-i-in-loop-i-2 c =
-    let inside : c.loop-i.i < record_limit =
-    omega (arith, c.loop-i.invariant.within, (accepted-vocabulary c.args.v.now _ c.requires.accepted).sized.most) in
-    omega (arith, inside)
+    omega (arith, c.loop-i.invariant.within, (accepted-vocabulary c.args.v.now _ c.requires.accepted).sized.most)
 
 pub bounds-code-i-in-loop-i-2 : goal.bounds-code-i-in-loop-i-2
 bounds-code-i-in-loop-i-2 c =
-    let inside : c.loop-i.i < record_limit =
-    omega (arith, c.loop-i.invariant.within, (accepted-vocabulary c.args.v.now _ c.requires.accepted).sized.most) in
-    omega (arith, inside)
-
-pub overflow_add-i : goal.overflow_add-i
-overflow_add-i c =
-    let inside : c.loop-i.i < record_limit =
-    omega (arith, c.loop-i.invariant.within, (accepted-vocabulary c.args.v.now _ c.requires.accepted).sized.most) in
-    omega (arith, inside)
+    omega (arith, c.loop-i.invariant.within, (accepted-vocabulary c.args.v.now _ c.requires.accepted).sized.most)
 
 pub loop-i-preserved : goal.loop-i-preserved
 loop-i-preserved c =
@@ -130,12 +75,3 @@ loop-i-preserved c =
     (c.rule.ensures ∙ ap (λ (r : Record). rule_of r.kind) read)
     (c.first_operand.ensures ∙ ap (λ (r : Record). first_operand_of r.kind r.a l.i) read)
     (c.second_operand.ensures ∙ ap (λ (r : Record). second_operand_of r.kind r.b) read)
-
-pub returns : goal.returns
-returns c =
-    let w = c.loop-i.invariant in
-    let e : c.loop-i.i ≡ count c.args.v.now = omega (arith, w.within) in record {
-      rule_at = λ j h. w.rules j (omega arith);
-      first_at = λ j h. w.first_operands j (omega arith);
-      second_at = λ j h. w.second_operands j (omega arith);
-    }

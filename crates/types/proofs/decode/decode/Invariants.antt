@@ -1,16 +1,12 @@
 -- `types::decode::decode` meets its contract. The loop's invariant: the three parts of the table are right below `i`.
 -- Assumes nothing.
-use Prim.Native.Nat.{ℕ, ◌+◌, ◌-◌, ◌*◌, ◌≤◌, ◌<◌}
-use native.Mathlib.Omega.{arith}
+use Prim.Native.Nat.{ℕ, ◌+◌, ◌-◌, ◌*◌, ◌≤◌}
 use mathlib.Core.List.{List}
-use mathlib.Core.Path.{◌≡◌, ap, ◌∙◌}
-use lib.ListN.{length, set, length-set}
-use borrow.Author.Rules.{rules}
-use Rattle.records.proofs.Theorems.Accepted.{accepted-vocabulary}
+use mathlib.Core.Path.{◌≡◌}
+use lib.ListN.{length}
 use Rattle.records.specs.Format.{count, record_at, record_limit}
-use Rattle.records.specs.declared.fields.Record.{Record}
 use Rattle.types.specs.Code.Rules.{rule_of, first_operand_of, second_operand_of, code_length}
-use Rattle.records.proofs.Laws.Filling.{RightAt, right_turn, right_kept}
+use Rattle.records.proofs.Laws.Filling.{RightAt}
 use Rattle.types.proofs.decode.decode.Given as goal
 
 -- where each part of a record's code stands, and what it is

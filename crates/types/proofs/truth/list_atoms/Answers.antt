@@ -1,26 +1,24 @@
 -- `types::truth::list_atoms` meets its contract. The loop's invariant: the atoms below `i` are listed by their numbers.
 -- Assumes nothing.
-use Prim.Native.Nat.{ℕ, zero, suc, ◌+◌, ◌-◌, ◌≤◌, ◌<◌}
+use Prim.Native.Nat.{ℕ, zero, suc, ◌+◌, ◌≤◌, ◌<◌}
 use native.Mathlib.Omega.{arith}
-use mathlib.Core.Bool.{Bool, true, false}
+use mathlib.Core.Bool.{true, false}
 use mathlib.Core.List.{List}
-use mathlib.Core.Logic.{⊎_elim}
 use mathlib.Core.Path.{◌≡◌, refl, sym, ap, ◌∙◌}
 use lib.ListN.{get_or}
-use borrow.Author.Rules.{rules}
 use Rattle.records.proofs.Theorems.Accepted.{accepted-vocabulary}
 use Rattle.records.proofs.Theorems.Ranks.{rank_mono, rank-next, rank_below}
 use Rattle.records.specs.Atoms.{atoms, rank}
 use Rattle.records.specs.Finite.{digit}
-use Rattle.records.specs.Format.{count, record_at, record_limit}
+use Rattle.records.specs.Format.{count}
 use Rattle.records.specs.Kinds.{is_atom}
 use Rattle.records.specs.declared.fields.Record.{Record}
 use Rattle.types.specs.Comparison.{atom_limit}
 use Rattle.types.specs.Code.Rules.{AtomsListed}
 use Rattle.records.proofs.Laws.Listing.{entries, entry, entries_none, entries-length, entry-sound, entry-number, entry_at}
 use Rattle.records.proofs.Laws.Listing.{total_turn, fill_entry-kept, fill_entry_more}
-use Rattle.records.proofs.Laws.Filling.{Filled, fill_start}
-use Rattle.types.proofs.truth.list_atoms.Invariants.{atom, Listing}
+use Rattle.records.proofs.Laws.Filling.{fill_start}
+use Rattle.types.proofs.truth.list_atoms.Invariants.{atom}
 use Rattle.types.proofs.truth.list_atoms.Goals as goal
 use Rattle.types.proofs.truth.list_atoms.Goals.{then-is_atom, else-is_atom}
 
@@ -54,42 +52,25 @@ loop-i-init c =
 
 pub overflow_cast-places : goal.overflow_cast-places
 overflow_cast-places c =
-    let inside : c.loop-i.i < record_limit =
-    omega (arith, c.loop-i.invariant.within, (accepted-vocabulary c.args.v.now _ c.requires.accepted).sized.most) in
-    omega (arith, inside)
+    omega (arith, c.loop-i.invariant.within, (accepted-vocabulary c.args.v.now _ c.requires.accepted).sized.most)
 
 pub offset_bounds-places-found : goal.offset_bounds-places-found
 offset_bounds-places-found c =
-    let tested : c.is_atom.result ≡ atom c.args.v.now c.loop-i.i =
-    c.is_atom.ensures ∙ ap (λ (r : Record). is_atom r.kind) c.read_at.ensures in
-    let free : c.loop-i.found < atom_limit =
-    room _ _ _ c.loop-i.invariant.total c.requires.v_bound c.loop-i-test.true
-    (sym tested ∙ c.if-is_atom.true) in
-    omega (arith, free)
+    let tested : atom c.args.v.now c.loop-i.i ≡ c.is_atom.result =
+    sym (c.is_atom.ensures ∙ ap (λ (r : Record). is_atom r.kind) c.read_at.ensures) in
+    omega (arith, room _ _ _ c.loop-i.invariant.total c.requires.v_bound c.loop-i-test.true (tested ∙ c.if-is_atom.true))
 
 pub bounds-places-found : goal.bounds-places-found
 bounds-places-found c =
-    let tested : c.is_atom.result ≡ atom c.args.v.now c.loop-i.i =
-    c.is_atom.ensures ∙ ap (λ (r : Record). is_atom r.kind) c.read_at.ensures in
-    let free : c.loop-i.found < atom_limit =
-    room _ _ _ c.loop-i.invariant.total c.requires.v_bound c.loop-i-test.true
-    (sym tested ∙ c.if-is_atom.true) in
-    free
+    let tested : atom c.args.v.now c.loop-i.i ≡ c.is_atom.result =
+    sym (c.is_atom.ensures ∙ ap (λ (r : Record). is_atom r.kind) c.read_at.ensures) in
+    room _ _ _ c.loop-i.invariant.total c.requires.v_bound c.loop-i-test.true (tested ∙ c.if-is_atom.true)
 
 pub overflow_add-found : goal.overflow_add-found
 overflow_add-found c =
-    let tested : c.is_atom.result ≡ atom c.args.v.now c.loop-i.i =
-    c.is_atom.ensures ∙ ap (λ (r : Record). is_atom r.kind) c.read_at.ensures in
-    let free : c.loop-i.found < atom_limit =
-    room _ _ _ c.loop-i.invariant.total c.requires.v_bound c.loop-i-test.true
-    (sym tested ∙ c.if-is_atom.true) in
-    omega (arith, free)
-
-pub overflow_add-i : goal.overflow_add-i
-overflow_add-i c =
-    let inside : c.loop-i.i < record_limit =
-    omega (arith, c.loop-i.invariant.within, (accepted-vocabulary c.args.v.now _ c.requires.accepted).sized.most) in
-    omega (arith, inside)
+    let tested : atom c.args.v.now c.loop-i.i ≡ c.is_atom.result =
+    sym (c.is_atom.ensures ∙ ap (λ (r : Record). is_atom r.kind) c.read_at.ensures) in
+    omega (arith, room _ _ _ c.loop-i.invariant.total c.requires.v_bound c.loop-i-test.true (tested ∙ c.if-is_atom.true))
 
 pub loop-i-preserved : goal.loop-i-preserved
 loop-i-preserved c =

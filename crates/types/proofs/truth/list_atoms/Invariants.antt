@@ -1,25 +1,14 @@
 -- `types::truth::list_atoms` meets its contract. The loop's invariant: the atoms below `i` are listed by their numbers.
 -- Assumes nothing.
-use Prim.Native.Nat.{ℕ, zero, suc, ◌+◌, ◌-◌, ◌≤◌, ◌<◌}
-use native.Mathlib.Omega.{arith}
-use mathlib.Core.Bool.{Bool, true, false}
+use Prim.Native.Nat.{ℕ, ◌-◌, ◌≤◌}
+use mathlib.Core.Bool.{Bool}
 use mathlib.Core.List.{List}
-use mathlib.Core.Logic.{⊎_elim}
-use mathlib.Core.Path.{◌≡◌, refl, sym, ap, ◌∙◌}
-use lib.ListN.{get_or}
-use borrow.Author.Rules.{rules}
-use Rattle.records.proofs.Theorems.Accepted.{accepted-vocabulary}
-use Rattle.records.proofs.Theorems.Ranks.{rank_mono, rank-next, rank_below}
-use Rattle.records.specs.Atoms.{atoms, rank}
-use Rattle.records.specs.Finite.{digit}
-use Rattle.records.specs.Format.{count, record_at, record_limit}
+use mathlib.Core.Path.{◌≡◌}
+use Rattle.records.specs.Format.{count, record_at}
 use Rattle.records.specs.Kinds.{is_atom}
-use Rattle.records.specs.declared.fields.Record.{Record}
 use Rattle.types.specs.Comparison.{atom_limit}
-use Rattle.types.specs.Code.Rules.{AtomsListed}
-use Rattle.records.proofs.Laws.Listing.{entries, entry, entries_none, entries-length, entry-sound, entry-number, entry_at}
-use Rattle.records.proofs.Laws.Listing.{total_turn, fill_entry-kept, fill_entry_more}
-use Rattle.records.proofs.Laws.Filling.{Filled, fill_start}
+use Rattle.records.proofs.Laws.Listing.{entries, entry}
+use Rattle.records.proofs.Laws.Filling.{Filled}
 use Rattle.types.proofs.truth.list_atoms.Given as goal
 
 abbrev pub atom : List ℕ → ℕ → Bool

@@ -1,11 +1,9 @@
 -- `types::truth::list_statements` meets its contract. The loop's invariant: the marked records below `i` are listed.
 -- Assumes nothing.
-use Prim.Native.Nat.{◌-◌, ◌≤◌, ◌<◌}
+use Prim.Native.Nat.{◌<◌}
 use native.Mathlib.Omega.{arith}
-use mathlib.Core.Logic.{⊎_elim}
 use mathlib.Core.Path.{◌≡◌, subst}
 use Rattle.records.proofs.Theorems.Accepted.{accepted_well_formed, accepted-vocabulary}
-use Rattle.records.specs.Finite.{has}
 use Rattle.records.specs.Format.{count, record_limit}
 use Rattle.records.proofs.Laws.Filling.{none-marked}
 use Rattle.records.proofs.Laws.Listing.{ListedBelow, list-start, list_more, list_same, listed-few}
@@ -27,53 +25,28 @@ loop-i-init c =
 
 pub bounds-marks-i : goal.bounds-marks-i
 bounds-marks-i c =
-    let inside : c.loop-i.i < record_limit =
-    omega (arith, (accepted-vocabulary c.args.v.now _ c.requires.accepted).sized.most) in
-    inside
-
-pub overflow_cast-statements : goal.overflow_cast-statements
-overflow_cast-statements c =
-    let inside : c.loop-i.i < record_limit =
-    omega (arith, (accepted-vocabulary c.args.v.now _ c.requires.accepted).sized.most) in
-    omega (arith, inside)
+    omega (arith, (accepted-vocabulary c.args.v.now _ c.requires.accepted).sized.most)
 
 pub offset_bounds-statements-found : goal.offset_bounds-statements-found
 offset_bounds-statements-found c =
-    let inside : c.loop-i.i < record_limit =
-    omega (arith, (accepted-vocabulary c.args.v.now _ c.requires.accepted).sized.most) in
-    let free : c.loop-i.found < record_limit =
-    omega (arith, inside, listed-few _ _ _ _ _ c.loop-i.invariant.1) in
-    omega (arith, free)
+    omega
+    (arith, (accepted-vocabulary c.args.v.now _ c.requires.accepted).sized.most, listed-few _ _ _ _ _ c.loop-i.invariant.1)
 
 pub bounds-statements-found : goal.bounds-statements-found
 bounds-statements-found c =
-    let inside : c.loop-i.i < record_limit =
-    omega (arith, (accepted-vocabulary c.args.v.now _ c.requires.accepted).sized.most) in
-    let free : c.loop-i.found < record_limit =
-    omega (arith, inside, listed-few _ _ _ _ _ c.loop-i.invariant.1) in
-    omega (arith, free)
+    omega
+    (arith, (accepted-vocabulary c.args.v.now _ c.requires.accepted).sized.most, listed-few _ _ _ _ _ c.loop-i.invariant.1)
 
 pub overflow_add-found : goal.overflow_add-found
 overflow_add-found c =
-    let inside : c.loop-i.i < record_limit =
-    omega (arith, (accepted-vocabulary c.args.v.now _ c.requires.accepted).sized.most) in
-    let free : c.loop-i.found < record_limit =
-    omega (arith, inside, listed-few _ _ _ _ _ c.loop-i.invariant.1) in
-    omega (arith, free)
-
-pub overflow_add-i : goal.overflow_add-i
-overflow_add-i c =
-    let inside : c.loop-i.i < record_limit =
-    omega (arith, (accepted-vocabulary c.args.v.now _ c.requires.accepted).sized.most) in
-    omega (arith, inside)
+    omega
+    (arith, (accepted-vocabulary c.args.v.now _ c.requires.accepted).sized.most, listed-few _ _ _ _ _ c.loop-i.invariant.1)
 
 pub loop-i-preserved : goal.loop-i-preserved
 loop-i-preserved c =
-    let inside : c.loop-i.i < record_limit =
-    omega (arith, (accepted-vocabulary c.args.v.now _ c.requires.accepted).sized.most) in
+    let l = c.loop-i.invariant.1 in
     let free : c.loop-i.found < record_limit =
-    omega (arith, inside, listed-few _ _ _ _ _ c.loop-i.invariant.1) in
-    let l = c.loop-i.invariant.1 in (
+    omega (arith, (accepted-vocabulary c.args.v.now _ c.requires.accepted).sized.most, listed-few _ _ _ _ _ l) in (
       omega arith,
       elim c.if-marks-i.branch [
         | then-marks-i w ↦ rw (w.statements-is, w.found-is) (list_more _ _ _ _ _ l free w.if-marks-i.true)

@@ -1,15 +1,9 @@
 -- `types::truth::list_statements` meets its contract. The loop's invariant: the marked records below `i` are listed.
 -- Assumes nothing.
-use Prim.Native.Nat.{◌-◌, ◌≤◌, ◌<◌}
-use native.Mathlib.Omega.{arith}
-use mathlib.Core.Logic.{⊎_elim}
-use mathlib.Core.Path.{◌≡◌, subst}
-use Rattle.records.proofs.Theorems.Accepted.{accepted_well_formed, accepted-vocabulary}
+use Prim.Native.Nat.{◌-◌, ◌≤◌}
 use Rattle.records.specs.Finite.{has}
 use Rattle.records.specs.Format.{count, record_limit}
-use Rattle.records.proofs.Laws.Filling.{none-marked}
-use Rattle.records.proofs.Laws.Listing.{ListedBelow, list-start, list_more, list_same, listed-few}
-use Rattle.types.proofs.Refinement.TypeData.{stating}
+use Rattle.records.proofs.Laws.Listing.{ListedBelow}
 use Rattle.types.proofs.truth.list_statements.Given as goal
 
 abbrev pub invariant-loop-i : goal.invariant-loop-i

@@ -1,12 +1,12 @@
 -- `types::truth::set_atoms` meets its contract. The loop's invariant: the first `j` atoms have their truths.
 -- Assumes nothing.
-use Prim.Native.Nat.{ℕ, ◌+◌, ◌-◌, ◌≤◌, ◌<◌}
+use Prim.Native.Nat.{ℕ, ◌+◌, ◌<◌}
 use native.Mathlib.Decide.{ℕ_discrete}
 use native.Mathlib.Omega.{arith}
 use mathlib.Core.Bool.{Bool, true, false}
 use mathlib.Core.List.{List}
 use mathlib.Core.Path.{◌≡◌, refl, sym, ap, ◌∙◌}
-use lib.ListN.{length, get_or, set, length-set}
+use lib.ListN.{get_or, set, length-set}
 use lib.Seq.{get_or-set_same, get_or-set_other}
 use Rattle.records.proofs.Theorems.Accepted.{accepted-vocabulary}
 use Rattle.records.proofs.Theorems.Ranks.{rank_below}
@@ -39,63 +39,19 @@ module _ (v places : List ℕ) (p : AtomsListed v places) (t : ℕ) (values : Li
       at i k a r (no q) (yes d) = absurd (q (sym (p.finds i k a) ∙ ap (λ (n : ℕ). get_or places n 0) d))
       at i k a r (no q) (no d) = get_or-set_other values place i x false q ∙ s.below i k a (omega arith)
 
-pub loop-j-init : goal.loop-j-init
-loop-j-init c =
-    record { within = omega arith; size = c.requires.values_len; below = λ i k a r. absurd (omega arith) }
-
-pub offset_bounds-places-j : goal.offset_bounds-places-j
-offset_bounds-places-j c =
-    let inside : c.loop-j.j < atoms c.args.v.now =
-    omega (arith, c.requires.k_value) in
-    omega (arith, inside, c.requires.v_bound)
-
-pub bounds-places-j : goal.bounds-places-j
-bounds-places-j c =
-    let inside : c.loop-j.j < atoms c.args.v.now =
-    omega (arith, c.requires.k_value) in
-    omega (arith, inside, c.requires.v_bound)
-
-pub overflow_cast-at : goal.overflow_cast-at
-overflow_cast-at c =
-    let inside : c.loop-j.j < atoms c.args.v.now =
-    omega (arith, c.requires.k_value) in
-    let placed : get_or c.args.places.now c.loop-j.j 0 < record_limit =
-    omega (
-      arith,
-      c.requires.atoms_listed.within c.loop-j.j inside,
-      (accepted-vocabulary c.args.v.now _ c.requires.accepted).sized.most,
-    ) in
-    omega (arith, placed)
-
-pub overflow_shr-values : goal.overflow_shr-values
-overflow_shr-values c =
-    let inside : c.loop-j.j < atoms c.args.v.now =
-    omega (arith, c.requires.k_value) in
-    omega (arith, inside, c.requires.v_bound)
-
 pub bounds-values-at : goal.bounds-values-at
 bounds-values-at c =
-    let inside : c.loop-j.j < atoms c.args.v.now =
-    omega (arith, c.requires.k_value) in
-    let placed : get_or c.args.places.now c.loop-j.j 0 < record_limit =
+    let inside : c.loop-j.j < atoms c.args.v.now = omega (arith, c.requires.k_value) in
     omega (
       arith,
       c.requires.atoms_listed.within c.loop-j.j inside,
       (accepted-vocabulary c.args.v.now _ c.requires.accepted).sized.most,
-    ) in
-    placed
-
-pub overflow_add-j : goal.overflow_add-j
-overflow_add-j c =
-    let inside : c.loop-j.j < atoms c.args.v.now =
-    omega (arith, c.requires.k_value) in
-    omega (arith, inside, c.requires.v_bound)
+    )
 
 pub loop-j-preserved : goal.loop-j-preserved
 unfolding bit
 loop-j-preserved c =
-    let inside : c.loop-j.j < atoms c.args.v.now =
-    omega (arith, c.requires.k_value) in
+    let inside : c.loop-j.j < atoms c.args.v.now = omega (arith, c.requires.k_value) in
     let placed : get_or c.args.places.now c.loop-j.j 0 < record_limit =
     omega (
       arith,

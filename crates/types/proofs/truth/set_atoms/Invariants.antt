@@ -1,20 +1,14 @@
 -- `types::truth::set_atoms` meets its contract. The loop's invariant: the first `j` atoms have their truths.
 -- Assumes nothing.
-use Prim.Native.Nat.{ℕ, ◌+◌, ◌-◌, ◌≤◌, ◌<◌}
-use native.Mathlib.Decide.{ℕ_discrete}
-use native.Mathlib.Omega.{arith}
+use Prim.Native.Nat.{ℕ, ◌-◌, ◌≤◌, ◌<◌}
 use mathlib.Core.Bool.{Bool, true, false}
 use mathlib.Core.List.{List}
-use mathlib.Core.Path.{◌≡◌, refl, sym, ap, ◌∙◌}
-use lib.ListN.{length, get_or, set, length-set}
-use lib.Seq.{get_or-set_same, get_or-set_other}
-use Rattle.records.proofs.Theorems.Accepted.{accepted-vocabulary}
-use Rattle.records.proofs.Theorems.Ranks.{rank_below}
+use mathlib.Core.Path.{◌≡◌}
+use lib.ListN.{length, get_or}
 use Rattle.records.specs.Atoms.{atoms, rank}
 use Rattle.records.specs.Format.{count, record_at, record_limit}
 use Rattle.records.specs.Kinds.{is_atom}
 use Rattle.records.specs.Finite.{bit}
-use Rattle.types.specs.Code.Rules.{AtomsListed}
 use Rattle.types.proofs.truth.set_atoms.Given as goal
 
 pub record Setting (v : List ℕ) (t : ℕ) (values : List Bool) (j : ℕ) : Type 0 where

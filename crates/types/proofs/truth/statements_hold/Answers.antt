@@ -1,9 +1,8 @@
 -- `types::truth::statements_hold` meets its contract. The loop's invariant: the first `j` statements hold.
 -- Assumes nothing.
-use Prim.Native.Nat.{◌-◌, ◌≤◌}
 use native.Mathlib.Omega.{arith}
 use mathlib.Core.Bool.{true, false}
-use mathlib.Core.Path.{◌≡◌, refl, sym, ap, ◌∙◌}
+use mathlib.Core.Path.{refl, sym}
 use lib.ListN.{get_or}
 use Rattle.records.specs.Finite.{all_below}
 use Rattle.types.specs.Code.Rules.{all_true}
@@ -16,22 +15,6 @@ unfolding all_true all_below
 loop-j-init c =
     (omega arith, refl)
 
-pub offset_bounds-statements-j : goal.offset_bounds-statements-j
-offset_bounds-statements-j c =
-    omega (arith, c.requires.found_le_record_limit)
-
-pub bounds-statements-j : goal.bounds-statements-j
-bounds-statements-j c =
-    omega (arith, c.requires.found_le_record_limit)
-
-pub overflow_cast-at : goal.overflow_cast-at
-overflow_cast-at c =
-    omega (arith, c.requires.by_index c.loop-j.j c.loop-j-test.true)
-
-pub bounds-values-at : goal.bounds-values-at
-bounds-values-at c =
-    c.requires.by_index c.loop-j.j c.loop-j-test.true
-
 pub returns-then-not-values-at : goal.returns-then-not-values-at
 unfolding all_true
 returns-then-not-values-at c =
@@ -39,10 +22,6 @@ returns-then-not-values-at c =
     (all_miss (λ j. get_or a.values.now (get_or a.statements.now j 0) false) a.found
     c.loop-j.j c.loop-j-test.true
     c.if-not-values-at.true)
-
-pub overflow_add-j : goal.overflow_add-j
-overflow_add-j c =
-    omega (arith, c.requires.found_le_record_limit)
 
 pub loop-j-preserved : goal.loop-j-preserved
 unfolding all_true
@@ -53,10 +32,3 @@ loop-j-preserved c =
       all-holds_turn (λ j. get_or a.values.now (get_or a.statements.now j 0) false) l.j true
           l.invariant.1 c.if-not-values-at.false,
     )
-
-pub returns : goal.returns
-unfolding all_true
-returns c =
-    let a = c.args in
-    let e : c.loop-j.j ≡ a.found = omega arith in c.loop-j.invariant.1 ∙ ap
-    (all_below (λ j. get_or a.values.now (get_or a.statements.now j 0) false)) e

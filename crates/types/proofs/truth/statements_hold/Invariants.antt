@@ -1,14 +1,9 @@
 -- `types::truth::statements_hold` meets its contract. The loop's invariant: the first `j` statements hold.
 -- Assumes nothing.
 use Prim.Native.Nat.{◌-◌, ◌≤◌}
-use native.Mathlib.Omega.{arith}
-use mathlib.Core.Bool.{true, false}
-use mathlib.Core.Path.{◌≡◌, refl, sym, ap, ◌∙◌}
-use lib.ListN.{get_or}
-use Rattle.records.specs.Finite.{all_below}
+use mathlib.Core.Bool.{true}
+use mathlib.Core.Path.{◌≡◌}
 use Rattle.types.specs.Code.Rules.{all_true}
-use Rattle.records.proofs.Laws.Below.{all_miss}
-use Rattle.records.proofs.Laws.Filling.{all-holds_turn}
 use Rattle.types.proofs.truth.statements_hold.Given as goal
 
 abbrev pub invariant-loop-j : goal.invariant-loop-j

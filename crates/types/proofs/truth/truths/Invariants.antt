@@ -1,25 +1,17 @@
 -- `types::truth::truths` meets its contract. The loop's invariant: the truths are right below `i`, and those of the atoms
 -- from there on.
 -- Assumes nothing.
-use Prim.Native.Nat.{ℕ, ◌+◌, ◌-◌, ◌*◌, ◌≤◌, ◌<◌}
-use native.Mathlib.Omega.{arith}
+use Prim.Native.Nat.{ℕ, ◌-◌, ◌≤◌, ◌<◌}
 use mathlib.Core.Bool.{Bool, true, false}
 use mathlib.Core.List.{List}
-use mathlib.Core.Path.{◌≡◌, sym, ap, ap₂, ◌∙◌}
-use lib.ListN.{get_or, set}
-use lib.Seq.{get_or-set_other}
-use borrow.Author.Rules.{rules}
-use Rattle.records.proofs.Theorems.Accepted.{AcceptedFacts, accepted-vocabulary}
-use Rattle.records.proofs.Theorems.Constructs.{construct_earlier, construct_atom}
+use mathlib.Core.Path.{◌≡◌}
+use lib.ListN.{get_or}
 use Rattle.records.specs.Atoms.{rank}
 use Rattle.records.specs.Format.{count, record_at, record_limit}
-use Rattle.records.specs.Kinds.{construct_of, is_atom}
+use Rattle.records.specs.Kinds.{is_atom}
 use Rattle.records.specs.Finite.{bit}
-use Rattle.types.specs.Code.Rules.{Decoded, select, rule_of}
 use Rattle.types.specs.Types.{truth}
-use Rattle.types.proofs.Refinement.TruthRules.{rule_evaluates, operands_earlier}
-use Rattle.types.proofs.Theorems.Truth.{truth_eq, evaluate_cong}
-use Rattle.records.proofs.Laws.Filling.{Filled, fill_start, fill_turn}
+use Rattle.records.proofs.Laws.Filling.{Filled}
 use Rattle.types.proofs.truth.truths.Given as goal
 
 pub record Filling (v : List ℕ) (t : ℕ) (values : List Bool) (i : ℕ) : Type 0 where

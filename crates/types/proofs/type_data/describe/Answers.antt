@@ -1,22 +1,9 @@
 -- `types::type_data::describe` meets its contract. Each part is taken from the table of truths.
 -- Assumes nothing.
-use Prim.Native.Nat.{◌-◌}
 use native.Mathlib.Omega.{arith}
 use mathlib.Core.Path.{refl}
 use Rattle.types.proofs.Refinement.TypeData.{few-records, listing_bounded, describe_done}
 use Rattle.types.proofs.type_data.describe.Goals as goal
-
-pub truths-requires : goal.truths-requires
-truths-requires c =
-    let p = c.requires.prepared in
-    let q = p.query.settles in record {
-      accepted = q.accepts;
-      v_bound = q.few;
-      k_value = q.counts;
-      decoded = p.decoded;
-      atoms_listed = p.placed;
-      values_len = c.requires.values_len;
-    }
 
 pub words_of-words-requires : goal.words_of-words-requires
 words_of-words-requires c =

@@ -1,22 +1,16 @@
 -- `types::type_data::describe_types` meets its contract. The loop's invariant: the four tables are right below `t`, and no
 -- type from there on is alive.
 -- Assumes nothing.
-use Prim.Native.Nat.{ℕ, ◌-◌, ◌≤◌, ◌<◌}
-use native.Mathlib.Decide.{dec_lt}
-use native.Mathlib.Omega.{arith}
+use Prim.Native.Nat.{ℕ, ◌-◌, ◌≤◌}
 use mathlib.Core.Bool.{Bool, false}
 use mathlib.Core.List.{List}
-use mathlib.Core.Path.{◌≡◌, sym, ap, ◌∙◌, subst}
+use mathlib.Core.Path.{◌≡◌}
 use lib.ListN.{length}
-use Rattle.records.specs.Finite.{has, table}
-use Rattle.types.specs.Survivors.{satisfies, stage}
+use Rattle.types.specs.Survivors.{satisfies}
 use Rattle.types.specs.Types.{types}
 use Rattle.types.specs.Code.Words.{restriction_word, filler_word}
 use Rattle.types.specs.Code.Settling.{differ}
-use Rattle.types.specs.declared.type_data.TypeData.{TypeData}
-use Rattle.records.proofs.Laws.Sets.{table_at, table_past}
-use Rattle.records.proofs.Laws.Filling.{Filled, fill_start, fill_turn, Ends, ends_turn}
-use Rattle.types.proofs.Theorems.Survivors.{types-bound, size_word}
+use Rattle.records.proofs.Laws.Filling.{Filled, Ends}
 use Rattle.records.specs.Format.{record_limit}
 use Rattle.types.specs.Comparison.{type_limit}
 use Rattle.types.proofs.type_data.describe_types.Given as goal
