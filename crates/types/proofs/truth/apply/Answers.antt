@@ -1,4 +1,4 @@
--- `types::truth::apply` meets its contract. The index is below 4, so the shift is by less than the word.
+-- `types::truth::apply` meets its contract. The index is made of the digits of the two truths.
 -- Assumes nothing.
 use Rattle.records.specs.Finite.{bit}
 use Rattle.types.specs.Code.Rules.{select}
