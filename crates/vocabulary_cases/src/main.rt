@@ -4,113 +4,138 @@
 // first, and the vocabulary.
 #![tactic(auto)]
 
-use libc::{STDIN_FILENO, STDOUT_FILENO};
-use records::answers::{Counted, Located};
+ghost use Rattle.std.specs.Prelude.{◌≡◌, ◌<◌, length, IfOk, OnOk, IfSome, MatchBool};
+ghost use Rattle.std.specs.Io.KnownBytes.{Appends, Consumes, Keeps};
+ghost use Rattle.records.specs.Answers.{counted, located};
+ghost use Rattle.lent.specs.Cases.{RunsCase, RunsCases};
+ghost use Rattle.vocabulary_cases.specs.Lines.{Fits, case_bytes, counted_text, located_text, byte_after, bytes_text, line_text};
+ghost use Rattle.vocabulary_cases.specs.Lines.{case_line};
 
-// Writes a number and the byte that follows it.
-fn print_number(n: u64, after: u8) {
-    let text = [after];
-    io::print_decimal(STDOUT_FILENO, n);
-    io::write_all(STDOUT_FILENO, &text);
-}
+use lent::{pair, print_number, quad, read_full};
+use records::answers::{Counted, Located};
+use std::io;
+use std::io::{BufReader, BufWriter, Read, Write};
 
 // Writes 0 and the number of records, or the refusal and its place.
-fn print_counted(answer: Counted) {
+fn print_counted<W: Write>(out: &mut W, answer: Counted) -> io::Result<()>
+    ensures { OnOk result (Appends (W.contents out.old) (W.contents out.new) (counted_text (counted answer))) }
+{
     match answer {
         Counted::Records(count) => {
-            print_number(0, b' ');
-            print_number(count as u64, b' ');
+            print_number(out, 0, b' ')?;
+            print_number(out, count as u64, b' ')
         }
         Counted::Refused { number, place } => {
-            print_number(number as u64, b' ');
-            print_number(place as u64, b' ');
+            print_number(out, number as u64, b' ')?;
+            print_number(out, place as u64, b' ')
         }
     }
 }
 
 // Writes 0 and the offset, after which the bytes follow, or the refusal and its place, which end the
 // line.
-fn print_located(answer: Located) {
+fn print_located<W: Write>(out: &mut W, answer: Located) -> io::Result<()>
+    ensures { OnOk result (Appends (W.contents out.old) (W.contents out.new) (located_text (located answer))) }
+{
     match answer {
         Located::At(offset) => {
-            print_number(0, b' ');
-            print_number(offset as u64, b' ');
+            print_number(out, 0, b' ')?;
+            print_number(out, offset as u64, b' ')
         }
         Located::Refused { number, place } => {
-            print_number(number as u64, b' ');
-            print_number(place as u64, b'\n');
+            print_number(out, number as u64, b' ')?;
+            print_number(out, place as u64, b'\n')
         }
     }
 }
 
 // What is written after a byte when `left` bytes were left, itself included: after the last a line end.
-fn after(left: usize) -> u8 {
+fn after(left: usize) -> u8
+    ensures { result ≡ byte_after left }
+{
     if left == 1 { b'\n' } else { b' ' }
 }
 
-// Widens a byte.
-fn wide(x: u8) -> u64 {
-    x as u64
-}
-
 // Writes the bytes of a part on one line; nothing for an empty part.
-fn print_bytes(part: &[u8]) {
-    let mut i = 0;
-    while i < part.len() {
-        print_number(wide(part[i]), after(part.len() - i));
-        i += 1;
+fn print_bytes<W: Write>(out: &mut W, part: &[u8]) -> io::Result<()>
+    ensures { OnOk result (Appends (W.contents out.old) (W.contents out.new) (bytes_text part.now)) }
+{
+    let mut left = part.len();
+    for byte in part {
+        print_number(out, *byte as u64, after(left))?;
+        left -= 1;
     }
+    Ok(())
 }
 
 // Writes the line of a case.
-fn print_case(v: &[u8], number: u32) {
-    print_counted(records::check_vocabulary(v));
-    print_located(records::find_record(v, number));
-    print_bytes(records::record(v, number));
-}
-
-// The number in two bytes, low byte first.
-fn pair(low: u8, high: u8) -> u16 {
-    low as u16 + 256 * (high as u16)
-}
-
-// The number in four bytes, given as two numbers of two bytes.
-fn quad(low: u16, high: u16) -> u32 {
-    low as u32 + 65536 * (high as u32)
+fn print_case<W: Write>(out: &mut W, v: &[u8], number: u32) -> io::Result<()>
+    ensures { OnOk result (Appends (W.contents out.old) (W.contents out.new) (line_text v.now number)) }
+{
+    print_counted(out, records::check_vocabulary(v))?;
+    print_located(out, records::find_record(v, number))?;
+    print_bytes(out, records::record(v, number))
 }
 
 // Reads a vocabulary that fills v, and writes the line of its case. Answers whether it stood there
 // whole.
-fn run_vocabulary(v: &mut [u8], number: u32) -> bool {
-    let got = io::read_full(STDIN_FILENO, v);
+fn run_vocabulary<R: Read, W: Write>(
+    input: &mut R,
+    out: &mut W,
+    v: &mut [u8],
+    number: u32,
+) -> io::Result<bool>
+    ensures { IfOk result (λ whole. MatchBool whole
+        (Consumes (R.remaining input.old) (R.remaining input.new) v.new
+        × Appends (W.contents out.old) (W.contents out.new) (line_text v.new number))
+        (IfSome (R.remaining input.old) (λ xs. length xs < length v.new)
+        × Keeps (W.contents out.old) (W.contents out.new))) }
+{
+    let got = read_full(input, v)?;
     if got < v.len() {
-        return false;
+        return Ok(false);
     }
-    print_case(v, number);
-    true
+    print_case(out, v, number)?;
+    Ok(true)
 }
 
 // Reads a case and writes its line. Answers whether a case stood there, and fitted into the space.
-fn run_case() -> bool {
+fn run_case<R: Read, W: Write>(input: &mut R, out: &mut W) -> io::Result<bool>
+    ensures { IfOk result (RunsCase Fits case_bytes case_line
+        (R.remaining input.old) (R.remaining input.new) (W.contents out.old) (W.contents out.new)) }
+{
     let mut head = [0u8; 6];
-    let got = io::read_full(STDIN_FILENO, &mut head);
+    let got = read_full(input, &mut head)?;
     if got < 6 {
-        return false;
+        return Ok(false);
     }
-    let length = pair(head[0], head[1]);
+    let length = pair(head[0], head[1]) as usize;
     let number = quad(pair(head[2], head[3]), pair(head[4], head[5]));
     let mut space = [0u8; 8192];
-    let n = io::count(length as isize, &space);
-    if n < length as usize {
-        return false;
+    if space.len() < length {
+        return Ok(false);
     }
-    run_vocabulary(&mut space[..n], number)
+    run_vocabulary(input, out, &mut space[..length], number)
 }
 
-// A proved loop has to end, so this one counts its turns down, from a number that no run uses up.
-fn main() {
-    let mut turns = u64::MAX;
-    while turns > 0 && run_case() {
-        turns -= 1;
+// Runs the cases that the input begins with, up to where no whole case stands.
+fn run<R: Read, W: Write>(input: &mut R, out: &mut W) -> io::Result<()>
+    ensures { OnOk result (IfSome (R.remaining input.old)
+        (RunsCases Fits case_bytes case_line (W.contents out.old) (W.contents out.new))) }
+{
+    for _ in 0..u64::MAX {
+        if !run_case(input, out)? {
+            return Ok(());
+        }
     }
+    Ok(())
+}
+
+// The lines of the cases that were run are written, also where the next could not be read.
+fn main(rt: HostRuntime) -> io::Result<()> {
+    let mut input = BufReader::new(rt.alloc(), rt.reader())?;
+    let mut out = BufWriter::new(rt.alloc(), io::writer(&rt))?;
+    let ran = run(&mut input, &mut out);
+    out.flush()?;
+    ran
 }

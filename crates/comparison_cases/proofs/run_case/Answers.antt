@@ -1,0 +1,23 @@
+-- The thirteen bytes and what follows are the case, or the input ends before, or there is no room for what is to be lent.
+use Rattle.std.proofs.Common.{rules, ap, ◌∙◌}
+use Rattle.lent.specs.Told.{pair_bytes}
+use Rattle.lent.proofs.Cases.{ends_in_head, head_read}
+use Rattle.std.proofs.KnownBytes.{Keeps-refl}
+use Rattle.comparison_cases.specs.Lines.{Fits, case_bytes}
+use Rattle.comparison_cases.proofs.Steps.{long, after_head}
+use Rattle.comparison_cases.proofs.run_case.Goals as goal
+
+pub returns-then-got-lt13 : goal.returns-then-got-lt13
+returns-then-got-lt13 g c = (
+  ends_in_head Fits case_bytes 13 long _ _ _ _ c.if-got-lt13.true c.in_ok-got.ensures.bytes
+      (c.in_ok-got.ensures.end (search rules)),
+  Keeps-refl _,
+)
+
+pub returns : goal.returns
+returns g c = after_head _ _ _ _ _ _ c.read_full.new.buffer c.run_vocabulary.new.v c.quad-a.result c.quad-b.result
+    c.pair-lent.result _ (search rules)
+    (search rules) (search rules) (search rules) (search rules)
+    (search rules) c.pair-lent.ensures.value
+    (ap pair_bytes (search rules) ∙ c.pair-length.ensures.bytes) (search rules) (search rules) c.pair-lent.ensures.bytes
+    (head_read _ _ _ _ _ c.if-got-lt13.false (search rules) c.in_ok-got.ensures.bytes) c.run_vocabulary.ensures
