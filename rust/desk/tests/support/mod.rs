@@ -23,6 +23,15 @@ pub struct Place {
     pub directory: PathBuf,
 }
 
+/// Where a test passed, its directory goes: some have links in it, and `rt ci` refuses a checkout that has any.
+impl Drop for Place {
+    fn drop(&mut self) {
+        if !std::thread::panicking() {
+            let _ = fs::remove_dir_all(&self.directory);
+        }
+    }
+}
+
 impl Place {
     /// An empty directory of this name.
     pub fn new(name: &str) -> Place {
