@@ -1,5 +1,6 @@
 // What the programs over stored cases share: a case is read, lent bytes are filled before a call and told after it, and numbers
-// are put together and written. No other crate uses it.
+// are put together and written. No other crate uses it. After an error of the reader or the writer nothing is said of it, nor of
+// the buffer that was read into, and no other error comes.
 #![tactic(auto)]
 
 ghost use Rattle.std.specs.Prelude.{◌≡◌, ◌+◌, ◌*◌, ◌%◌, ◌^◌, ◌<◌, ◌≤◌, ℕ, [], ◌∷◌, ◌++◌, length, take, slice_index, IfOk, OnOk};
