@@ -94,7 +94,7 @@ examples() {
     cmp written.vocabulary "$root/examples/v2.vocabulary"
 }
 
-say 'proving and building the library (TIME from nothing)'
+say 'proving and building the library (a few minutes from nothing)'
 quietly tools/archive.sh
 say 'building desk and the examples in C'
 quietly cargo build --release
