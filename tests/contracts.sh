@@ -43,7 +43,7 @@ contract {
         printf "%s:%d: the number %s in a contract, where a name says it\n", FILENAME, FNR, substr(line, RSTART + 1, RLENGTH - 2)
     if (open == 0) contract = 0
 }
-/^ *(pub )?(extern "C" )?fn / {
+/^ *(pub(\(crate\))? )?(extern "C" )?fn / {
     at = FNR; name = $0
     sub(/.*fn /, "", name); sub(/\(.*/, "", name)
     parameters = 0; head = 1; body = 0

@@ -1,3 +1,2 @@
 -- That the code computes the definitions: columns by kind, literals as numbers.
 pub mod Groups
-pub mod Packing

@@ -1,2 +1,3 @@
--- What only the code computes with. No promise of a call speaks of it.
+-- What only the code computes with: literals as numbers, and what the code's types stand for. No promise of a call speaks of it.
 pub mod Packed
+pub mod Kept

@@ -4,6 +4,7 @@ use Rattle.records.specs.Format.{record_at}
 use Rattle.records.specs.Kinds.{Construct, none, top, bottom, name, negation, conjunction, disjunction, existential, universal}
 use Rattle.records.specs.Kinds.{inclusion, construct_of, is_statement}
 use Rattle.records.specs.Chain.{in_force}
+use Rattle.columns.specs.declared.query.Query as code
 use Rattle.columns.specs.Literals.{SkolemTerm, constant, apply, Literal, concept, role, substitute}
 
 -- What a column speaks of: x, y, fi(x) with its owner's function, and a.
@@ -45,9 +46,8 @@ columns_of i (universal r j) =
 columns_of i (inclusion j k) = (is j x ∷ is_not k x ∷ []) ∷ []
 
 -- What is asked: whether term A lies within term B.
-pub record Query : Type 0 where
-  pub a : ℕ
-  pub b : ℕ
+abbrev pub Query : Type 0
+Query = code.Query
 
 abbrev pub within : ℕ → ℕ → Query
 within m n = record { a = m; b = n }

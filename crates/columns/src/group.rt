@@ -1,40 +1,33 @@
 // The columns of a record, as the paper lists them: the kind selects the group, a number the column.
-ghost use Rattle.std.specs.Prelude.{◌≡◌, [], ◌∷◌, ℕ, length, get_or};
+ghost use Rattle.std.specs.Prelude.{◌≡◌, [], ℕ, get_or};
 ghost use Rattle.records.specs.Kinds.{construct_of, negation, inclusion};
-ghost use Rattle.columns.specs.Columns.{columns_of, takes_y};
-ghost use Rattle.columns.specs.Code.Packed.{SmallTerms, packed_by, literals, constant_group, junction_group};
-ghost use Rattle.columns.specs.Code.Packed.{restriction_group};
+ghost use Rattle.columns.specs.Columns.{columns_of};
+ghost use Rattle.columns.specs.Code.Packed.{constant_group, junction_group, restriction_group};
+ghost use Rattle.columns.specs.Code.Kept.{packed_by, literals, HasShape};
 
-use crate::column::{Column, Terms};
+use crate::column::{Column, Shape, Terms};
 use crate::literal::{pack_concept, pack_role};
 use records::fields::Record;
+use records::kinds::Kind;
 
-// Top and bottom.
+// Top and bottom. (What the functions of this file are given they hand on as it is: a struct would be opened in each.)
 fn constant_column(sign: bool, i: u16, n: u16, at: Terms) -> Column
     ensures { literals result ≡ packed_by at (get_or (constant_group sign i) n []) }
 {
-    if n == 0 {
-        return Column {
-            first: pack_concept(sign, i, at.x),
-            second: 0,
-            third: 0,
-        };
+    match n {
+        0 => Column::One(pack_concept(sign, i, at.x)),
+        _ => Column::Empty,
     }
-    Column::none()
 }
 
 fn negation_column(i: u16, j: u16, n: u16, at: Terms) -> Column
     ensures { literals result ≡ packed_by at (get_or (columns_of i (negation j)) n []) }
 {
-    if n < 2 {
-        let sign = n == 0;
-        return Column {
-            first: pack_concept(sign, i, at.x),
-            second: pack_concept(sign, j, at.x),
-            third: 0,
-        };
+    match n {
+        0 => Column::Two(pack_concept(true, i, at.x), pack_concept(true, j, at.x)),
+        1 => Column::Two(pack_concept(false, i, at.x), pack_concept(false, j, at.x)),
+        _ => Column::Empty,
     }
-    Column::none()
 }
 
 // And, or.
@@ -42,112 +35,82 @@ fn junction_column(sign: bool, i: u16, j: u16, k: u16, n: u16, at: Terms) -> Col
     ensures { literals result ≡ packed_by at (get_or (junction_group sign i j k) n []) }
 {
     match n {
-        0 => Column {
-            first: pack_concept(sign, i, at.x),
-            second: pack_concept(!sign, j, at.x),
-            third: 0,
-        },
-        1 => Column {
-            first: pack_concept(sign, i, at.x),
-            second: pack_concept(!sign, k, at.x),
-            third: 0,
-        },
-        2 => Column {
-            first: pack_concept(!sign, i, at.x),
-            second: pack_concept(sign, j, at.x),
-            third: pack_concept(sign, k, at.x),
-        },
-        _ => Column::none(),
+        0 => Column::Two(pack_concept(sign, i, at.x), pack_concept(!sign, j, at.x)),
+        1 => Column::Two(pack_concept(sign, i, at.x), pack_concept(!sign, k, at.x)),
+        2 => Column::Three(
+            pack_concept(!sign, i, at.x),
+            pack_concept(sign, j, at.x),
+            pack_concept(sign, k, at.x),
+        ),
+        _ => Column::Empty,
     }
 }
 
 // Some, all.
 fn restriction_column(sign: bool, i: u16, r: u16, j: u16, n: u16, at: Terms) -> Column
-    requires { SmallTerms at }
     ensures { literals result ≡ packed_by at (get_or (restriction_group sign i r j) n []) }
 {
     match n {
-        0 => Column {
-            first: pack_concept(sign, i, at.x),
-            second: pack_role(false, r, at.x, at.fx),
-            third: 0,
-        },
-        1 => Column {
-            first: pack_concept(sign, i, at.x),
-            second: pack_concept(!sign, j, at.fx),
-            third: 0,
-        },
-        2 => Column {
-            first: pack_concept(!sign, i, at.x),
-            second: pack_role(true, r, at.x, at.y),
-            third: pack_concept(sign, j, at.y),
-        },
-        _ => Column::none(),
+        0 => Column::Two(
+            pack_concept(sign, i, at.x),
+            pack_role(false, r, at.x, at.fx),
+        ),
+        1 => Column::Two(pack_concept(sign, i, at.x), pack_concept(!sign, j, at.fx)),
+        2 => Column::Three(
+            pack_concept(!sign, i, at.x),
+            pack_role(true, r, at.x, at.y),
+            pack_concept(sign, j, at.y),
+        ),
+        _ => Column::Empty,
     }
 }
 
 fn inclusion_column(j: u16, k: u16, n: u16, at: Terms) -> Column
     ensures { literals result ≡ packed_by at (get_or (columns_of 0 (inclusion j k)) n []) }
 {
-    if n == 0 {
-        return Column {
-            first: pack_concept(true, j, at.x),
-            second: pack_concept(false, k, at.x),
-            third: 0,
-        };
+    match n {
+        0 => Column::Two(pack_concept(true, j, at.x), pack_concept(false, k, at.x)),
+        _ => Column::Empty,
     }
-    Column::none()
 }
 
-// Column n of record i, which is of these fields: the kind selects the group.
+// Column n of record i: its kind selects the group.
 pub fn group_column(fields: Record, i: u16, n: u16, at: Terms) -> Column
-    requires { SmallTerms at }
     ensures { literals result ≡ packed_by at (get_or (columns_of i (construct_of fields)) n []) }
 {
-    let kind = fields.kind;
+    let Some(kind) = Kind::of(fields.kind) else {
+        return Column::Empty;
+    };
+    let Record { a, b, .. } = fields;
     match kind {
-        1..=2 => constant_column(kind == 2, i, n, at),
-        4 => negation_column(i, fields.a, n, at),
-        5..=6 => junction_column(kind == 5, i, fields.a, fields.b, n, at),
-        7..=8 => restriction_column(kind == 7, i, fields.a, fields.b, n, at),
-        9 => inclusion_column(fields.a, fields.b, n, at),
-        _ => Column::none(),
+        Kind::Top => constant_column(false, i, n, at),
+        Kind::Bottom => constant_column(true, i, n, at),
+        Kind::Name => Column::Empty,
+        Kind::Negation => negation_column(i, a, n, at),
+        Kind::Conjunction => junction_column(true, i, a, b, n, at),
+        Kind::Disjunction => junction_column(false, i, a, b, n, at),
+        Kind::Existential => restriction_column(true, i, a, b, n, at),
+        Kind::Universal => restriction_column(false, i, a, b, n, at),
+        Kind::Inclusion => inclusion_column(a, b, n, at),
     }
 }
 
-// The size of column n, where the columns, at most three, have these sizes; 0 past them.
-pub fn size_at(n: u16, first: usize, second: usize, third: usize) -> usize
-    ensures { result ≡ get_or (first ∷ second ∷ third ∷ []) n 0 }
+// The shape of column n of a record of this kind.
+pub fn group_shape(fields: Record, n: u16) -> Shape
+    ensures { (i : ℕ) → HasShape result (get_or (columns_of i (construct_of fields)) n []) }
 {
-    match n {
-        0 => first,
-        1 => second,
-        2 => third,
-        _ => 0,
-    }
-}
-
-// How many literals column n of a record of this kind has.
-pub fn group_size(fields: Record, n: u16) -> usize
-    ensures { (i : ℕ) → result ≡ length (get_or (columns_of i (construct_of fields)) n []) }
-{
-    let kind = fields.kind;
+    let Some(kind) = Kind::of(fields.kind) else {
+        return Shape::NONE;
+    };
     match kind {
-        1..=2 => size_at(n, 1, 0, 0),
-        4 => size_at(n, 2, 2, 0),
-        5..=8 => size_at(n, 2, 2, 3),
-        9 => size_at(n, 2, 0, 0),
-        _ => 0,
-    }
-}
-
-// Whether y stands in column n of a record of this kind.
-pub fn group_takes_y(fields: Record, n: u16) -> bool
-    ensures { (i : ℕ) → result ≡ takes_y (get_or (columns_of i (construct_of fields)) n []) }
-{
-    let kind = fields.kind;
-    match kind {
-        7..=8 => n == 2,
-        _ => false,
+        Kind::Top | Kind::Bottom => Shape::without_y(&[1], n),
+        Kind::Name => Shape::NONE,
+        Kind::Negation => Shape::without_y(&[2, 2], n),
+        Kind::Conjunction | Kind::Disjunction => Shape::without_y(&[2, 2, 3], n),
+        Kind::Existential | Kind::Universal => Shape {
+            y: n == 2,
+            ..Shape::without_y(&[2, 2, 3], n)
+        },
+        Kind::Inclusion => Shape::without_y(&[2], n),
     }
 }

@@ -4,6 +4,5 @@
 pub mod column;
 mod group;
 mod literal;
-mod owner;
-
-pub use owner::{column_shape, find_column, query_column};
+pub mod query;
+pub mod vocabulary;

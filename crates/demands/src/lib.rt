@@ -5,18 +5,14 @@
 #![tactic(auto)]
 
 ghost use Rattle.std.specs.Prelude.{◌≡◌, length};
-ghost use Rattle.records.specs.Answers.{counted, located};
 ghost use Rattle.records.specs.Check.{vocabulary_check};
 ghost use Rattle.records.specs.Call.{record_call, record_part, record_place};
 ghost use Rattle.writer.specs.Additions.{term, statement};
-ghost use Rattle.writer.specs.Answers.{lengthened};
 ghost use Rattle.writer.specs.Calls.{making, adding, new_length, buffer_after};
 ghost use Rattle.types.specs.Answers.{compared};
 ghost use Rattle.types.specs.Comparison.{comparison};
 ghost use Rattle.types.specs.Bitmap.{written};
-ghost use Rattle.taxonomy.specs.Answers.{classified};
 ghost use Rattle.taxonomy.specs.Taxonomy.{classification, first_after, second_after};
-ghost use Rattle.scripts.specs.Answers.{judged};
 ghost use Rattle.scripts.specs.Run.{script_check};
 ghost use Rattle.demands.specs.Returns.{VocabularyReturns, OffsetReturns, RecordReturns, ComparisonReturns};
 ghost use Rattle.demands.specs.Returns.{ClassificationReturns, ScriptReturns, MakingReturns, AdditionReturns};
@@ -25,12 +21,10 @@ ghost use Rattle.demands.specs.Promises.{ChainsEnd, WritesSurvivors, NearestName
 ghost use Rattle.demands.specs.Promises.{EditionsAgree, EditionsConvert};
 ghost use Rattle.demands.specs.Limits.{Limits};
 ghost use Rattle.demands.specs.Samples.{Samples};
+ghost use Rattle.records.specs.Refusals.{answered};
 
-use records::answers::{Counted, Located};
-use scripts::answers::Judged;
-use taxonomy::answers::Classified;
-use types::answers::Compared;
-use writer::answers::Lengthened;
+use records::refusals::Refusal;
+use types::answers::{Compared, Counts};
 
 // Every demand, every promise and the samples, as one contract. It does nothing: it is here so that no statement, and no proof of
 // one, can be taken away unseen (tests/statements.sh). A later promise joins it.
@@ -49,8 +43,8 @@ pub fn hold()
 {}
 
 // The vocabulary check.
-pub fn check_vocabulary(v: &[u8]) -> Counted
-    ensures result_value { counted result ≡ vocabulary_check v.now }
+pub fn check_vocabulary(v: &[u8]) -> Result<usize, Refusal>
+    ensures result_value { answered result ≡ vocabulary_check v.now }
     ensures vocabulary_returns { VocabularyReturns v.now result }
     ensures v_value { v.exit.now ≡ v.entry.now }
 {
@@ -58,8 +52,8 @@ pub fn check_vocabulary(v: &[u8]) -> Counted
 }
 
 // Where the record call finds a record, or its refusal.
-pub fn find_record(v: &[u8], number: u32) -> Located
-    ensures result_value { located result ≡ record_call v.now number }
+pub fn find_record(v: &[u8], number: u32) -> Result<usize, Refusal>
+    ensures result_value { answered result ≡ record_call v.now number }
     ensures offset_returns { OffsetReturns v.now number result }
     ensures v_value { v.exit.now ≡ v.entry.now }
 {
@@ -77,7 +71,7 @@ pub fn record(v: &[u8], number: u32) -> &[u8]
 }
 
 // The comparison of the terms a and b.
-pub fn compare(v: &[u8], a: u32, b: u32, lent: &mut [u8]) -> Compared
+pub fn compare(v: &[u8], a: u32, b: u32, lent: &mut [u8]) -> Result<Compared, Refusal>
     ensures result_value { compared result ≡ comparison v.now a b (length lent.old) }
     ensures lent_after { lent.new
         ≡ written (comparison v.now a b (length lent.old)) v.now lent.old }
@@ -88,8 +82,8 @@ pub fn compare(v: &[u8], a: u32, b: u32, lent: &mut [u8]) -> Compared
 }
 
 // The classification of the names.
-pub fn classify(v: &[u8], lent: &mut [u8], room: &mut [u8]) -> Classified
-    ensures result_value { classified result
+pub fn classify(v: &[u8], lent: &mut [u8], room: &mut [u8]) -> Result<Counts, Refusal>
+    ensures result_value { answered result
         ≡ classification v.now (length lent.old) (length room.old) }
     ensures lent_after { lent.new ≡ first_after v.now lent.old room.old }
     ensures room_after { room.new ≡ second_after v.now lent.old room.old }
@@ -101,8 +95,8 @@ pub fn classify(v: &[u8], lent: &mut [u8], room: &mut [u8]) -> Classified
 }
 
 // The script check.
-pub fn check_script(v: &[u8], s: &[u8]) -> Judged
-    ensures result_value { judged result ≡ script_check v.now s.now }
+pub fn check_script(v: &[u8], s: &[u8]) -> Result<usize, Refusal>
+    ensures result_value { answered result ≡ script_check v.now s.now }
     ensures script_returns { ScriptReturns v.now s.now result }
     ensures v_value { v.exit.now ≡ v.entry.now }
     ensures s_value { s.exit.now ≡ s.entry.now }
@@ -111,17 +105,17 @@ pub fn check_script(v: &[u8], s: &[u8]) -> Judged
 }
 
 // An empty vocabulary in a lent buffer.
-pub fn make_vocabulary(buffer: &mut [u8], roles: u32) -> Lengthened
-    ensures result_value { lengthened result ≡ new_length (making (length buffer.old) roles) }
+pub fn make_vocabulary(buffer: &mut [u8], roles: u32) -> Result<usize, Refusal>
+    ensures result_value { answered result ≡ new_length (making (length buffer.old) roles) }
     ensures buffer_after { buffer.new ≡ buffer_after (making (length buffer.old) roles) buffer.old }
     ensures making_returns { MakingReturns buffer.old roles buffer.new result }
 {
     writer::make_vocabulary(buffer, roles)
 }
 
-// A term behind the bytes in use.
-pub fn add_term(buffer: &mut [u8], used: usize, kind: u8, a: u16, b: u16) -> Lengthened
-    ensures result_value { lengthened result ≡ new_length (adding buffer.old used (term kind a b)) }
+// A term behind the bytes in use. (The kind is a number, since C may give any.)
+pub fn add_term(buffer: &mut [u8], used: usize, kind: u8, a: u16, b: u16) -> Result<usize, Refusal>
+    ensures result_value { answered result ≡ new_length (adding buffer.old used (term kind a b)) }
     ensures buffer_after { buffer.new
         ≡ buffer_after (adding buffer.old used (term kind a b)) buffer.old }
     ensures addition_returns { AdditionReturns buffer.old used (term kind a b) buffer.new result }
@@ -130,8 +124,8 @@ pub fn add_term(buffer: &mut [u8], used: usize, kind: u8, a: u16, b: u16) -> Len
 }
 
 // A statement behind the bytes in use, at the end of their chain.
-pub fn add_statement(buffer: &mut [u8], used: usize, a: u16, b: u16) -> Lengthened
-    ensures result_value { lengthened result ≡ new_length (adding buffer.old used (statement a b)) }
+pub fn add_statement(buffer: &mut [u8], used: usize, a: u16, b: u16) -> Result<usize, Refusal>
+    ensures result_value { answered result ≡ new_length (adding buffer.old used (statement a b)) }
     ensures buffer_after { buffer.new
         ≡ buffer_after (adding buffer.old used (statement a b)) buffer.old }
     ensures addition_returns { AdditionReturns buffer.old used (statement a b) buffer.new result }

@@ -1,7 +1,7 @@
 -- The numbers can be taken apart again: specs/Unpacked.antt states it.
 --   unpacks, unpacks_verdict, unpacks_counts   an outcome that is small can be taken apart
 --   taken_apart                                so those of the calls can be
---   making_fits, addition_fits                 a new length, or the place of its refusal, has 32 bits
+--   unpacks_fits                               their value, or the place of their refusal, has 32 bits
 -- Assumes nothing.
 use Prim.Native.Nat.{ℕ, ◌*◌, ◌^◌, ◌<◌, max}
 use native.Mathlib.Omega.{arith}
@@ -56,12 +56,6 @@ taken_apart =
           unpacks (record_size * record_limit) (new_length (adding buffer used x)) (omega arith) (addition-small buffer used x);
     }
 
-unpacks_fits : (x : ℕ) (o : Outcome ℕ) → Unpacks x o → value_of o < 2 ^ 32
+pub unpacks_fits : (x : ℕ) (o : Outcome ℕ) → Unpacks x o → value_of o < 2 ^ 32
 unpacks_fits x (accepted value) h = h.2
 unpacks_fits x (refused n p) h = h.3
-
-pub making_fits : (size roles : ℕ) → value_of (new_length (making size roles)) < 2 ^ 32
-making_fits size roles = unpacks_fits _ (new_length (making size roles)) (taken_apart.makes size roles)
-
-pub addition_fits : (buffer : List ℕ) (used : ℕ) (x : Addition) → value_of (new_length (adding buffer used x)) < 2 ^ 32
-addition_fits buffer used x = unpacks_fits _ (new_length (adding buffer used x)) (taken_apart.adds buffer used x)

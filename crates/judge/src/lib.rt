@@ -3,11 +3,10 @@
 // what its bits say.
 #![tactic(auto)]
 
-ghost use Rattle.std.specs.Prelude.{◌≡◌, ◌+◌, ◌*◌, ◌<◌, ◌^◌, length};
+ghost use Rattle.std.specs.Prelude.{◌≡◌, true, false, ◌+◌, ◌*◌, ◌<◌, ◌^◌, length};
 ghost use Rattle.records.specs.Check.{vocabulary_check};
 ghost use Rattle.records.specs.Call.{record_call};
 ghost use Rattle.writer.specs.Additions.{term, statement};
-ghost use Rattle.writer.specs.Answers.{lengthened};
 ghost use Rattle.writer.specs.Calls.{making, adding, new_length, buffer_after};
 ghost use Rattle.types.specs.Comparison.{comparison};
 ghost use Rattle.types.specs.Bitmap.{written};
@@ -15,26 +14,60 @@ ghost use Rattle.taxonomy.specs.Taxonomy.{classification, first_after, second_af
 ghost use Rattle.scripts.specs.Run.{script_check};
 ghost use Rattle.records.specs.Outcome.{accepted};
 ghost use Rattle.judge.specs.Version.{version};
-ghost use Rattle.judge.specs.Packed.{value_of, packed, flag, packed_parts, packed_verdict, packed_counts};
+ghost use Rattle.judge.specs.Packed.{value_of, packed, packed_parts, packed_verdict, packed_counts};
 ghost use Rattle.judge.specs.Unpacked.{TakenApart};
+ghost use Rattle.records.specs.Refusals.{answered, number_of};
 
-use records::answers::{Counted, Located};
-use scripts::answers::Judged;
-use taxonomy::answers::Classified;
-use types::answers::Compared;
-use writer::answers::Lengthened;
+use records::refusals::Refusal;
+use types::answers::{Compared, Counts};
 
 // What the bits of every answer say, as a contract, so that the statement cannot be taken away unseen (tests/statements.sh).
 pub fn hold()
     ensures { TakenApart }
 {}
 
-// Bits 0 to 7: the refusal's number, or 0. Bits 8 to 39: its place, or the value answered.
+// Bits 0 to 7: the refusal's number, or 0. Bits 8 to 39: its place, or the value answered. C has these bits as numbers.
 fn pack(number: u8, value: usize) -> u64
     requires { value < 2 ^ 32 }
     ensures { result ≡ number + 256 * value }
 {
-    number as u64 + 256 * (value as u64)
+    u64::from(number) + 256 * (value as u64)
+}
+
+fn pack_refusal(refusal: Refusal) -> u64
+    requires { refusal.place < 2 ^ 32 }
+    ensures { result ≡ number_of refusal.row + 256 * refusal.place }
+{
+    pack(refusal.row.number(), refusal.place)
+}
+
+fn pack_answer(answer: Result<usize, Refusal>) -> u64
+    requires { value_of (answered answer) < 2 ^ 32 }
+    ensures { result ≡ packed (answered answer) }
+{
+    match answer {
+        Ok(value) => pack(0, value),
+        Err(refusal) => pack_refusal(refusal),
+    }
+}
+
+// Bits 25 to 41: the survivors. Bits 42 to 58: the rounds.
+fn pack_counts(counts: Counts) -> u64
+    requires survivors_bound { counts.survivors < 2 ^ 17 }
+    requires rounds_bound { counts.rounds < 2 ^ 17 }
+    ensures { result ≡ packed_parts false 0 counts.survivors counts.rounds }
+{
+    33554432 * (counts.survivors as u64) + 4398046511104 * (counts.rounds as u64)
+}
+
+// The same, with bit 8, which is 1 for Different. Bits 9 to 24: the element.
+fn pack_different(element: usize, counts: Counts) -> u64
+    requires element_bound { element < 2 ^ 16 }
+    requires survivors_bound { counts.survivors < 2 ^ 17 }
+    requires rounds_bound { counts.rounds < 2 ^ 17 }
+    ensures { result ≡ packed_parts true element counts.survivors counts.rounds }
+{
+    256 + 512 * (element as u64) + pack_counts(counts)
 }
 
 // The library's version; judge.h says what each number counts. It is no export yet: docs/PORT.md says why.
@@ -56,11 +89,7 @@ pub extern "C" fn judge_check_vocabulary(vocabulary: &[u8]) -> u64
     ensures value { result ≡ packed (vocabulary_check vocabulary.now) }
     ensures vocabulary_value { vocabulary.exit.now ≡ vocabulary.entry.now }
 {
-    let answer = demands::check_vocabulary(vocabulary);
-    match answer {
-        Counted::Records(count) => pack(0, count),
-        Counted::Refused { number, place } => pack(number, place),
-    }
+    pack_answer(demands::check_vocabulary(vocabulary))
 }
 
 #[unsafe(no_mangle)]
@@ -68,30 +97,7 @@ pub extern "C" fn judge_record(vocabulary: &[u8], number: u32) -> u64
     ensures value { result ≡ packed (record_call vocabulary.now number) }
     ensures vocabulary_value { vocabulary.exit.now ≡ vocabulary.entry.now }
 {
-    let answer = demands::find_record(vocabulary, number);
-    match answer {
-        Located::At(offset) => pack(0, offset),
-        Located::Refused { number: row, place } => pack(row, place),
-    }
-}
-
-fn flag(b: bool) -> u64
-    ensures { result ≡ flag b }
-{
-    if b { 1 } else { 0 }
-}
-
-// Bit 8: 1 for Different. Bits 9 to 24: the element. Bits 25 to 41: the survivors. Bits 42 to 58: the rounds.
-fn pack_verdict(differs: bool, element: usize, survivors: usize, rounds: usize) -> u64
-    requires element_bound { element < 2 ^ 16 }
-    requires survivors_bound { survivors < 2 ^ 17 }
-    requires rounds_bound { rounds < 2 ^ 17 }
-    ensures { result ≡ packed_parts differs element survivors rounds }
-{
-    256 * flag(differs)
-        + 512 * (element as u64)
-        + 33554432 * (survivors as u64)
-        + 4398046511104 * (rounds as u64)
+    pack_answer(demands::find_record(vocabulary, number))
 }
 
 #[unsafe(no_mangle)]
@@ -102,15 +108,10 @@ pub extern "C" fn judge_compare(vocabulary: &[u8], a: u32, b: u32, buffer: &mut 
         vocabulary.now buffer.old }
     ensures vocabulary_value { vocabulary.exit.now ≡ vocabulary.entry.now }
 {
-    let answer = demands::compare(vocabulary, a, b, buffer);
-    match answer {
-        Compared::Equal { survivors, rounds } => pack_verdict(false, 0, survivors, rounds),
-        Compared::Different {
-            element,
-            survivors,
-            rounds,
-        } => pack_verdict(true, element, survivors, rounds),
-        Compared::Refused { number, place } => pack(number, place),
+    match demands::compare(vocabulary, a, b, buffer) {
+        Ok(Compared::Equal(counts)) => pack_counts(counts),
+        Ok(Compared::Different { element, counts }) => pack_different(element, counts),
+        Err(refusal) => pack_refusal(refusal),
     }
 }
 
@@ -128,13 +129,9 @@ pub extern "C" fn judge_classify(
         ≡ second_after vocabulary.now survivors.old taxonomy.old }
     ensures vocabulary_value { vocabulary.exit.now ≡ vocabulary.entry.now }
 {
-    let answer = demands::classify(vocabulary, survivors, taxonomy);
-    match answer {
-        Classified::Counts {
-            survivors: alive,
-            rounds,
-        } => pack_verdict(false, 0, alive, rounds),
-        Classified::Refused { number, place } => pack(number, place),
+    match demands::classify(vocabulary, survivors, taxonomy) {
+        Ok(counts) => pack_counts(counts),
+        Err(refused) => pack_refusal(refused),
     }
 }
 
@@ -144,22 +141,7 @@ pub extern "C" fn judge_check_script(vocabulary: &[u8], script: &[u8]) -> u64
     ensures vocabulary_value { vocabulary.exit.now ≡ vocabulary.entry.now }
     ensures script_value { script.exit.now ≡ script.entry.now }
 {
-    let answer = demands::check_script(vocabulary, script);
-    match answer {
-        Judged::Accepted(steps) => pack(0, steps),
-        Judged::Refused { number, place } => pack(number, place),
-    }
-}
-
-// The number of a new length, or of its refusal.
-fn pack_length(answer: Lengthened) -> u64
-    requires { value_of (lengthened answer) < 2 ^ 32 }
-    ensures { result ≡ packed (lengthened answer) }
-{
-    match answer {
-        Lengthened::Length(length) => pack(0, length),
-        Lengthened::Refused { number, place } => pack(number, place),
-    }
+    pack_answer(demands::check_script(vocabulary, script))
 }
 
 #[unsafe(no_mangle)]
@@ -167,7 +149,7 @@ pub extern "C" fn judge_make_vocabulary(buffer: &mut [u8], roles: u32) -> u64
     ensures value { result ≡ packed (new_length (making (length buffer.old) roles)) }
     ensures buffer_after { buffer.new ≡ buffer_after (making (length buffer.old) roles) buffer.old }
 {
-    pack_length(demands::make_vocabulary(buffer, roles))
+    pack_answer(demands::make_vocabulary(buffer, roles))
 }
 
 #[unsafe(no_mangle)]
@@ -176,7 +158,7 @@ pub extern "C" fn judge_add_term(buffer: &mut [u8], used: usize, kind: u8, a: u1
     ensures buffer_after { buffer.new
         ≡ buffer_after (adding buffer.old used (term kind a b)) buffer.old }
 {
-    pack_length(demands::add_term(buffer, used, kind, a, b))
+    pack_answer(demands::add_term(buffer, used, kind, a, b))
 }
 
 #[unsafe(no_mangle)]
@@ -185,5 +167,5 @@ pub extern "C" fn judge_add_statement(buffer: &mut [u8], used: usize, a: u16, b:
     ensures buffer_after { buffer.new
         ≡ buffer_after (adding buffer.old used (statement a b)) buffer.old }
 {
-    pack_length(demands::add_statement(buffer, used, a, b))
+    pack_answer(demands::add_statement(buffer, used, a, b))
 }

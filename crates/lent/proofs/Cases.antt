@@ -1,14 +1,14 @@
 -- A loop that runs one case after another.
-use Rattle.std.proofs.Common.{◌≡◌, ℕ, ◌+◌, ◌<◌, ◌≤◌, List, [], ◌∷◌, ◌++◌, length, take, drop, slice_index, zero, suc}
-use Rattle.std.proofs.Common.{take_all, sym, ap, ◌∙◌, subst, arith, IfSome, true, false, Bool, None, Some}
+use Rattle.std.proofs.Common.{◌≡◌, ℕ, ◌+◌, List, [], ◌∷◌, ◌++◌, length}
+use Rattle.std.proofs.Common.{sym, ap, ◌∙◌, subst, arith, true, false, Bool}
 use Rattle.std.proofs.Common.{append_assoc, append-nil}
 use Rattle.std.specs.declared.option.Option.{Option}
 use Rattle.std.specs.Prelude.{All}
 use Rattle.std.specs.List.{flat_map}
 use Rattle.std.proofs.lemmas.Grind.{common_steps}
-use Rattle.std.specs.Io.KnownBytes.{Appends, Consumes, IsAtEnd}
+use Rattle.std.specs.Io.KnownBytes.{Appends, Consumes}
 use Rattle.std.proofs.KnownBytes.{Appends-trans, Consumes-trans}
-use Rattle.lent.specs.Cases.{HasNoCase, RunsCase}
+use Rattle.lent.specs.Cases.{RunsCase}
 
 -- so many cases were taken from the input, and their lines written
 pub record Ran {C : Type 0} (Fits : C → Type 0) (bytes line : C → List ℕ) (old new before after : Option (List ℕ)) (n : ℕ)
@@ -38,43 +38,3 @@ one_more {C} {Fits} {bytes} {line} old mid new before during after n true t ran 
   wrote = subst (Appends before after) (sym (flat_map-snoc line ran.cases c)) (Appends-trans _ _ _ _ _ ran.wrote told);
 }
 one_more old mid new before during after n false t ran h = absurd (grind (arith, common_steps, t))
-
--- the input ends within the first bytes of a case
-pub ends_in_head : {C : Type 0} (Fits : C → Type 0) (bytes : C → List ℕ) (n : ℕ) → ((c : C) → n ≤ length (bytes c))
-    → (old new : Option (List ℕ)) (head : List ℕ) (got : ℕ)
-    → got < n → Consumes old new (take got head) → IsAtEnd new → IfSome old (HasNoCase Fits bytes)
-ends_in_head Fits bytes n long None new head got less read end = tt
-ends_in_head Fits bytes n long (Some xs) None head got less read end = absurd read
-ends_in_head Fits bytes n long (Some xs) (Some ys) head got less read end = λ c rest fits e.
-    let at_least : n ≤ length (bytes c ++ rest) = grind (arith, common_steps, long c) in
-    let short : length xs ≤ got = grind (arith, common_steps, read, end) in
-    let same : length xs ≡ length (bytes c ++ rest) = ap length e in
-    absurd (omega (arith, at_least, short, same, less))
-
--- the first bytes of a case were read whole
-pub head_read : (old mid : Option (List ℕ)) (head : List ℕ) (got n : ℕ) → n ≤ got → length head ≡ n
-    → Consumes old mid (take got head) → Consumes old mid head
-head_read old mid head got n all is read = subst (Consumes old mid) (take_all got head (omega (arith, all, is))) read
-
--- what stands behind the first bytes decides whether a case stands there
-pub ends_after_head : {C : Type 0} (Fits : C → Type 0) (bytes : C → List ℕ) (old mid : Option (List ℕ)) (head : List ℕ)
-    → Consumes old mid head
-    → IfSome mid (λ ys. HasNoCase Fits bytes (head ++ ys)) → IfSome old (HasNoCase Fits bytes)
-ends_after_head Fits bytes None mid head read none = tt
-ends_after_head Fits bytes (Some xs) None head read none = absurd read
-ends_after_head Fits bytes (Some xs) (Some ys) head read none = subst (HasNoCase Fits bytes) (sym read) none
-
--- so many elements from an index on, one by one
-abbrev pub by_index : ℕ → ℕ → List ℕ → List ℕ
-by_index zero i xs = []
-by_index (suc n) i xs = slice_index xs i ∷ by_index n (i + 1) xs
-
-from_index : (n i : ℕ) (xs : List ℕ) → length xs ≡ i + n → drop i xs ≡ by_index n i xs
-from_index zero i xs h = grind (arith, common_steps, h)
-from_index (suc n) i xs h =
-    let first : drop i xs ≡ slice_index xs i ∷ drop (i + 1) xs = grind (arith, common_steps, h) in
-    first ∙ ap (λ l. slice_index xs i ∷ l) (from_index n (i + 1) xs (omega (arith, h)))
-
--- a list of known length
-pub listed : (n : ℕ) (xs : List ℕ) → length xs ≡ n → xs ≡ by_index n 0 xs
-listed n xs h = from_index n 0 xs (omega (arith, h))

@@ -1,5 +1,6 @@
 -- What one byte more adds to what is told of bytes.
 use Rattle.std.proofs.Common.{◌≡◌, ℕ, ◌+◌, ◌<◌, List, [], ◌∷◌, ◌++◌, length, take, slice_index, sym, ap, ◌∙◌, arith}
+use Rattle.std.proofs.Common.{refl, zero, suc}
 use Rattle.std.proofs.Common.{append_assoc, append-nil}
 use Rattle.std.specs.Prelude.{◌%◌}
 use Rattle.std.proofs.lemmas.Grind.{common_steps}
@@ -19,22 +20,26 @@ pub hex_text-more : (xs : List ℕ) (i : ℕ) → i < length xs
     → hex_text (take i xs) ++ hex_pair (slice_index xs i) ≡ hex_text (take (i + 1) xs)
 hex_text-more xs i h = sym (hex_text-snoc (take i xs) (slice_index xs i)) ∙ ap hex_text (sym (take-more xs i h))
 
-used_len-zero : (xs : List ℕ) (x : ℕ) → x ≡ 0 → used_len (xs ++ x ∷ []) ≡ used_len xs
-used_len-zero [] x h = grind (arith, common_steps, h)
-used_len-zero (y ∷ ys) x h = grind (arith, common_steps, used_len-zero ys x h)
+-- bytes that are all 0 use none
+pub used_len-none : (xs : List ℕ) → ((k : ℕ) → k < length xs → slice_index xs k ≡ 0) → 0 ≡ used_len xs
+used_len-none [] all = refl
+used_len-none (x ∷ xs) all =
+    let first : x ≡ 0 = all 0 (omega arith) in
+    grind (arith, common_steps, first, used_len-none xs (λ k h. all (suc k) (omega (arith, h))))
 
-used_len-nonzero : (xs : List ℕ) (x : ℕ) → 0 < x → used_len (xs ++ x ∷ []) ≡ length xs + 1
-used_len-nonzero [] x h = grind (arith, common_steps, h)
-used_len-nonzero (y ∷ ys) x h = grind (arith, common_steps, used_len-nonzero ys x h)
-
-pub used_len-same : (xs : List ℕ) (i : ℕ) → i < length xs → slice_index xs i ≡ 0
-    → used_len (take i xs) ≡ used_len (take (i + 1) xs)
-used_len-same xs i h zero = sym (used_len-zero (take i xs) (slice_index xs i) zero) ∙ ap used_len (sym (take-more xs i h))
-
-pub used_len-more : (xs : List ℕ) (i : ℕ) → i < length xs → 0 < slice_index xs i → i + 1 ≡ used_len (take (i + 1) xs)
-used_len-more xs i h more =
-    let long : length (take i xs) ≡ i = grind (arith, common_steps, h) in
-    sym (used_len-nonzero (take i xs) (slice_index xs i) more ∙ ap (λ n. n + 1) long) ∙ ap used_len (sym (take-more xs i h))
+-- bytes end at the last of them that is not 0
+pub used_len-last : (xs : List ℕ) (last : ℕ) → last < length xs → 0 < slice_index xs last
+    → ((k : ℕ) → last < k → k < length xs → slice_index xs k ≡ 0) → last + 1 ≡ used_len xs
+used_len-last [] last h more all = absurd (omega (arith, h))
+used_len-last (x ∷ xs) zero h more all =
+    grind (arith, common_steps, more, used_len-none xs (λ k h. all (suc k) (omega arith) (omega (arith, h))))
+used_len-last (x ∷ xs) (suc n) h more all =
+    grind (
+      arith,
+      common_steps,
+      used_len-last xs n (omega (arith, h)) more
+          (λ k b h. all (suc k) (omega (arith, b)) (omega (arith, h))),
+    )
 
 sum-snoc : (xs : List ℕ) (x : ℕ) → sum (xs ++ x ∷ []) ≡ sum xs + x
 sum-snoc xs x = grind (arith, common_steps)
@@ -49,17 +54,17 @@ mod-both : (a b m : ℕ) → (a % m + b % m) % m ≡ (a + b) % m
 mod-both a b m = mod-add-mod a m (b % m) ∙ ap (λ n. n % m) (add_comm a (b % m)) ∙ mod-add-mod b m a
     ∙ ap (λ n. n % m) (add_comm b a)
 
-pub sums-more : (m : ℕ) (xs : List ℕ) (i low high : ℕ) → i < length xs → low ≡ sum (take i xs) % m
+pub sums-more : (m : ℕ) (xs : List ℕ) (i x low high : ℕ) → i < length xs → x ≡ slice_index xs i → low ≡ sum (take i xs) % m
     → high ≡ sum_of_sums (take i xs) % m
-    → ((low + slice_index xs i) % m ≡ sum (take (i + 1) xs) % m)
-    × ((high + (low + slice_index xs i) % m) % m ≡ sum_of_sums (take (i + 1) xs) % m)
-sums-more m xs i low high h l k =
-    let x = slice_index xs i in
+    → ((low + x) % m ≡ sum (take (i + 1) xs) % m)
+    × ((high + (low + x) % m) % m ≡ sum_of_sums (take (i + 1) xs) % m)
+sums-more m xs i x low high h is l k =
+    let more : take (i + 1) xs ≡ take i xs ++ x ∷ [] = take-more xs i h ∙ ap (λ y. take i xs ++ y ∷ []) (sym is) in
     let first : (low + x) % m ≡ sum (take (i + 1) xs) % m = ap (λ n. (n + x) % m) l ∙ mod-add-mod (sum (take i xs)) m x
-    ∙ ap (λ n. n % m) (sym (ap sum (take-more xs i h) ∙ sum-snoc (take i xs) x)) in
-    let both : sum_of_sums (take (i + 1) xs) ≡ sum_of_sums (take i xs) + sum (take (i + 1) xs) = ap sum_of_sums (take-more xs i h)
+    ∙ ap (λ n. n % m) (sym (ap sum more ∙ sum-snoc (take i xs) x)) in
+    let both : sum_of_sums (take (i + 1) xs) ≡ sum_of_sums (take i xs) + sum (take (i + 1) xs) = ap sum_of_sums more
     ∙ sum_of_sums-snoc (take i xs) x
-    ∙ ap (λ n. sum_of_sums (take i xs) + n) (sym (ap sum (take-more xs i h) ∙ sum-snoc (take i xs) x)) in (
+    ∙ ap (λ n. sum_of_sums (take i xs) + n) (sym (ap sum more ∙ sum-snoc (take i xs) x)) in (
       first,
       ap (λ n. (n + (low + x) % m) % m) k ∙ ap (λ n. (sum_of_sums (take i xs) % m + n) % m) first
           ∙ mod-both (sum_of_sums (take i xs)) (sum (take (i + 1) xs)) m ∙ ap (λ n. n % m) (sym both),

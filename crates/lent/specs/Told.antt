@@ -16,6 +16,10 @@ quad_bytes n = pair_bytes (n % 65536) ++ pair_bytes (n / 65536)
 abbrev pub number_text : ℕ → ℕ → List ℕ
 number_text n after = decimal n ++ after ∷ []
 
+-- a refusal's number and place, and the byte that follows
+abbrev pub refusal_text : ℕ → ℕ → ℕ → List ℕ
+refusal_text number place after = number_text number 32 ++ number_text place after
+
 -- a number as `{:02x}` writes it: a byte as two hexadecimal digits
 abbrev pub hex_pair : ℕ → List ℕ
 hex_pair n = padded_integral (format_spec 32 0 4 2 (2 ^ 64 - 1)) false [] (digits 16 false n)

@@ -9,6 +9,7 @@ pub mod Sets
 pub mod Bits
 pub mod Width
 pub mod Filling
+pub mod Kinds
 pub mod Listing
 pub mod InOrder
 pub mod Ranges

@@ -3,7 +3,8 @@ use Rattle.std.specs.Prelude.{ℕ, ◌-◌, ◌%◌, ◌≡◌, Bool, not, ◌&&
 use Rattle.records.specs.Finite.{any_below}
 use Rattle.records.specs.Outcome.{Outcome, Check, accepted, pass, ◌then◌, require, in_rows, in_turn}
 use Rattle.records.specs.Format.{record_at, count, first_statement, role_count, edition, atoms_held}
-use Rattle.records.specs.Kinds.{Sorts, is_term, is_statement, sorts_of, kinds}
+use Rattle.records.specs.Kinds.{is_term, is_statement, sorts_of, kinds}
+use Rattle.records.specs.declared.kinds.Sorts.{Sorts}
 use Rattle.records.specs.Atoms.{atoms}
 use Rattle.records.specs.declared.fields.Record.{Record}
 use Rattle.records.specs.declared.kinds.Sort.{Sort}

@@ -1,8 +1,11 @@
 -- What the kinds of records are, and what their fields hold.
 use Rattle.std.specs.Prelude.{ℕ, Bool, true, false, List, [], ◌∷◌, get_or}
 use Rattle.records.specs.declared.fields.Record.{Record}
+use Rattle.records.specs.declared.kinds.Class.{Class}
+use Rattle.records.specs.declared.kinds.Class.TheVariants.{Silent, Connective, Name, Restriction, Statement}
 use Rattle.records.specs.declared.kinds.Sort.{Sort}
 use Rattle.records.specs.declared.kinds.Sort.TheVariants.{Spare, Term, Role, Label, Link}
+use Rattle.records.specs.declared.kinds.Sorts.{Sorts}
 
 -- What a record says. Operands, roles and fillers are numbers; "Each name record is a name of its own; labels are for
 -- people", so a name has nothing with it.
@@ -13,11 +16,6 @@ pub data Construct : Type 0 where
 
 -- What the fields A, B and next hold: nothing ("Fields not mentioned are zero"), a term number, a role number, a name's label,
 -- or the number of the chain's next statement.
-pub record Sorts : Type 0 where
-  pub a : Sort
-  pub b : Sort
-  pub next : Sort
-
 abbrev pub sorts : Sort → Sort → Sort → Sorts
 sorts a b next = record { a = a; b = b; next = next }
 
@@ -41,9 +39,6 @@ inclusion_fields = sorts Term Term Link
 
 -- What the records of a kind are: terms by top, bottom, not, and, or; names; restrictions (a role to a term); statements; or
 -- none of these, and then they say nothing of an element.
-pub data Class : Type 0 where
-  Silent Connective Name Restriction Statement : Class
-
 abbrev pub are_terms : Class → Bool
 are_terms Silent = false
 are_terms Connective = true

@@ -1,37 +1,32 @@
 // The record call: row 9 of the table of refusals, after row 1.
 ghost use Rattle.std.specs.Prelude.{◌≡◌};
-ghost use Rattle.records.specs.Answers.{located};
+ghost use Rattle.records.specs.Refusals.{answered};
 ghost use Rattle.records.specs.Call.{record_call, record_part, record_place};
 
-use crate::answers::{Checked, Located, locate_after, pass_if};
 use crate::check::check_length;
 use crate::fields::Record;
+use crate::layout::Layout;
+use crate::refusals::{Refusal, Row, require};
 
 // Where the record call finds record `number`: its offset, or the refusal.
-pub fn find_record(v: &[u8], number: u32) -> Located
-    ensures { located result ≡ record_call v.now number }
+#[tactic(auto, unfolding(crate::specs::Call::record_call))]
+pub fn find_record(v: &[u8], number: u32) -> Result<usize, Refusal>
+    ensures { answered result ≡ record_call v.now number }
 {
-    let length = check_length(v);
-    let Checked::Fine = length else {
-        return locate_after(length, 0);
-    };
+    check_length(v)?;
     let at = number as usize;
-    let known = pass_if(at < v.len() / Record::SIZE, 9, at);
-    let Checked::Fine = known else {
-        return locate_after(known, 0);
-    };
-    Located::At(Record::SIZE * at)
+    require(at < v.len() / Record::SIZE, Row::RecordNumber, at)?;
+    Ok(Record::SIZE * at)
 }
 
-// The record call: the record's eight bytes as a part of the vocabulary, or an empty part where `find_record` refuses.
+// The record call: the record's eight bytes as a part of the vocabulary, or an empty part where `find_record` refuses (no
+// Option: `record_part` has it so).
 pub fn record(v: &[u8], number: u32) -> &[u8]
     ensures bytes { result.now ≡ record_part v.now number }
     ensures within { result.ref_ptr ≡ record_place v.now number v.entry.ref_ptr }
 {
-    let found = find_record(v, number);
-    let Located::At(at) = found else {
-        return &v[..0];
-    };
-    let end = at + Record::SIZE;
-    &v[at..end]
+    match find_record(v, number) {
+        Ok(at) => &v[at..at + Record::SIZE],
+        Err(_) => &v[..0],
+    }
 }

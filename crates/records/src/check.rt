@@ -1,404 +1,281 @@
 // The vocabulary check: rows 1 to 8 and 28 of the table of refusals, each a check of its own.
-ghost use Rattle.std.specs.Prelude.{◌≡◌, ◌+◌, ◌*◌, ◌-◌, ◌≤◌, min, cond, length};
-ghost use Rattle.records.specs.Outcome.{in_turn};
-ghost use Rattle.records.specs.Answers.{checked, counted};
-ghost use Rattle.records.specs.Format.{record_size, record_of, role_count, count};
-ghost use Rattle.records.specs.Kinds as kinds;
+ghost use Rattle.std.specs.Prelude.{◌≡◌, ◌+◌, ◌*◌, ◌-◌, ◌≤◌, min, cond, length, IfOk};
+ghost use Rattle.records.specs.Outcome.{◌then◌, pass, in_turn};
+ghost use Rattle.records.specs.Refusals.{answered};
+ghost use Rattle.records.specs.Format.{record_size, record_at, role_count, count};
 ghost use Rattle.records.specs.Kinds.{sorts_of};
-ghost use Rattle.records.specs.Check.{length_fits, length_check, header_fits, header_check, kind_fits, kind_check, named};
-ghost use Rattle.records.specs.Check.{labelled, term_fits, link_fits, row, rows_check, fields_check, record_check, link_check};
-ghost use Rattle.records.specs.Check.{links_check, records_check, held_check, vocabulary_rows, vocabulary_check};
-ghost use Rattle.records.specs.Code.Fields.{field_fits, all_fit, no_fault, first_of, AtRecord};
+ghost use Rattle.records.specs.Check.{length_check, header_fits, header_check, kind_check, named, labelled, term_fits, row};
+ghost use Rattle.records.specs.Check.{rows_check, fields_check, record_check, links_check, records_check, held_check};
+ghost use Rattle.records.specs.Check.{vocabulary_rows, vocabulary_check};
+ghost use Rattle.records.specs.Code.Fields.{field_fits, all_fit, no_fault, number_or_none, first_of, record_fits, AtRecord};
+ghost use Rattle.records.specs.Code.Kinds.{number_of_kind};
 
-use crate::answers::{Checked, Counted, count_after, pass_if};
 use crate::atoms::count_atoms;
-use crate::fields::{Record, read_at};
-use crate::kinds::{Sort, is_statement, is_term, sort_of_a, sort_of_b, sort_of_next};
+use crate::fields::Record;
+use crate::kinds::{Kind, Sort, Sorts};
+use crate::layout::{self, Layout, length_fits};
+use crate::refusals::{Refusal, Row, require};
 
 // Row 1: the length.
-fn length_fits(v: &[u8]) -> bool
-    ensures { result ≡ length_fits v.now }
+pub fn check_length(v: &[u8]) -> Result<(), Refusal>
+    ensures { answered result ≡ length_check v.now }
 {
-    if v.len() < Record::SIZE {
-        return false;
-    }
-    if v.len() > Record::SIZE * Record::LIMIT {
-        return false;
-    }
-    v.len() % Record::SIZE == 0
+    require(length_fits::<Record>(v), Row::Length, 0)
 }
 
-pub fn check_length(v: &[u8]) -> Checked
-    ensures { checked result ≡ length_check v.now }
-{
-    pass_if(length_fits(v), 1, 0)
-}
-
-// Row 2: the header. Edition 2 holds any number in next, until row 28.
+// Row 2: the header. Edition 2 holds any number in next, until row 28. (The edition stays a number: this row tests it.)
 fn header_fits(header: Record) -> bool
     ensures { result ≡ header_fits header }
 {
-    if header.kind != 16 {
-        return false;
-    }
-    if header.b > Record::ROLES {
-        return false;
-    }
-    if header.second == 2 {
-        return true;
-    }
-    if header.second != 1 {
-        return false;
-    }
-    header.next == 0
+    header.kind == Record::HEADER
+        && header.b <= Record::ROLES
+        && (header.second == 2 || (header.second == 1 && header.next == 0))
 }
 
-fn check_header(v: &[u8]) -> Checked
+// (Of the four that ask for a header: a type would say no more, and be opened in each.)
+fn check_header(v: &[u8]) -> Result<(), Refusal>
     requires { record_size ≤ length v.now }
-    ensures { checked result ≡ header_check v.now }
+    ensures { answered result ≡ header_check v.now }
 {
-    pass_if(header_fits(read_at(v, 0)), 2, 0)
+    require(header_fits(Record::read_at(v, 0)), Row::Header, 0)
 }
 
-// Row 3: kind and second byte.
-fn kind_fits(fields: Record) -> bool
-    ensures { result ≡ kind_fits fields }
+// Row 3: the kind, which is read here, and the second byte.
+fn check_kind(f: Record, i: usize) -> Result<Kind, Refusal>
+    ensures row { (answered result then pass) ≡ kind_check f i }
+    ensures kind { IfOk result (λ kind. number_of_kind kind ≡ f.kind) }
 {
-    if fields.kind < 1 {
-        return false;
+    match Kind::of(f.kind) {
+        Some(kind) if f.second == 0 => Ok(kind),
+        _ => Err(Refusal {
+            row: Row::Kind,
+            place: i,
+        }),
     }
-    if fields.kind > 9 {
-        return false;
-    }
-    fields.second == 0
 }
 
-fn check_kind(fields: Record, i: usize) -> Checked
-    ensures { checked result ≡ kind_check fields i }
-{
-    pass_if(kind_fits(fields), 3, i)
-}
-
-// A record's kind and A in one number, so that one comparison tells of both.
+// A record's kind and A in one number, so that one comparison tells of both. (With two, 511 names take three times the
+// instructions: one and a half times plain C's, where this takes half of them.)
 fn key_of(kind: u8, a: u16) -> u32
     ensures { result ≡ kind + 65536 * a }
 {
-    kind as u32 + 65536 * (a as u32)
+    u32::from(kind) + 65536 * u32::from(a)
 }
 
 // Whether record j is of this kind and has this label.
-fn is_named(v: &[u8], kind: u8, label: u16, j: usize) -> bool
+fn is_named(v: &[u8], kind: Kind, label: u16, j: usize) -> bool
     requires { record_size * j + record_size ≤ length v.now }
-    ensures { result ≡ named v.now kind label j }
+    ensures { result ≡ named v.now (number_of_kind kind) label j }
 {
-    let fields = read_at(v, j);
-    key_of(fields.kind, fields.a) == key_of(kind, label)
-}
-
-// Row 7: whether a record of this kind that is earlier than record i has this label. The loop has no way out before its end, so
-// that the compiler compares several records at once.
-fn is_labelled(v: &[u8], i: usize, kind: u8, label: u16) -> bool
-    requires { record_size * i ≤ length v.now }
-    ensures { result ≡ labelled v.now i kind label }
-{
-    let mut found = false;
-    let mut j = 0;
-    while j < i {
-        if is_named(v, kind, label, j) {
-            found = true;
-        }
-        j += 1;
-    }
-    found
-}
-
-// Row 5: a term number of record i.
-fn term_fits(v: &[u8], i: usize, number: u16) -> bool
-    requires { record_size * i ≤ length v.now }
-    ensures { result ≡ term_fits v.now i number }
-{
-    let at = number as usize;
-    if at < 1 {
-        return false;
-    }
-    if at < i {
-        return is_term(read_at(v, at).kind);
-    }
-    false
-}
-
-// Row 8: the number of the next statement after record i, or 0.
-fn link_fits(v: &[u8], i: usize, next: u16) -> bool
-    ensures { result ≡ link_fits v.now i next }
-{
-    let at = next as usize;
-    if at == 0 {
-        return true;
-    }
-    if at <= i {
-        return false;
-    }
-    if at < v.len() / Record::SIZE {
-        return is_statement(read_at(v, at).kind);
-    }
-    false
-}
-
-// One field of record i: whether rows 4 to 7 have nothing against x where this sort is held. Row 8 comes after all records.
-fn field_fits(v: &[u8], i: usize, roles: u16, sort: Sort, x: u16) -> bool
-    requires { AtRecord v.now i roles }
-    ensures { result ≡ field_fits v.now i sort x }
-{
-    match sort {
-        Sort::Spare => x == 0,
-        Sort::Term => term_fits(v, i, x),
-        Sort::Role => x < roles,
-        Sort::Label => !is_labelled(v, i, 3, x),
-        Sort::Link => true,
-    }
-}
-
-// The row that speaks of fields of this sort.
-fn row_of(sort: Sort) -> u8
-    ensures { result ≡ row sort }
-{
-    match sort {
-        Sort::Spare => 4,
-        Sort::Term => 5,
-        Sort::Role => 6,
-        Sort::Label => 7,
-        Sort::Link => 8,
-    }
+    let fields = Record::read_at(v, j);
+    key_of(fields.kind, fields.a) == key_of(kind as u8, label)
 }
 
 // The row that refuses a field, unless it fits.
-fn fault_unless(fits: bool, number: u8) -> u8
-    ensures { result ≡ cond fits no_fault number }
+fn fault(fits: bool, sort: Sort) -> Option<Row>
+    ensures { number_or_none result ≡ cond fits no_fault (row sort) }
 {
-    if fits { Sort::NO_FAULT } else { number }
+    if fits { None } else { Some(sort.row()) }
 }
 
-fn smaller(x: u8, y: u8) -> u8
-    ensures { result ≡ min x y }
+// (By hand: an Option's own order has None first, and here none comes last.)
+fn earlier(x: Option<Row>, y: Option<Row>) -> Option<Row>
+    ensures { number_or_none result ≡ min (number_or_none x) (number_or_none y) }
 {
-    if x < y { x } else { y }
-}
-
-// The first row that refuses one of three fields of these sorts, where it is told which fit.
-fn first_fault(a: Sort, b: Sort, next: Sort, first: bool, second: bool, third: bool) -> u8
-    ensures { result ≡ first_of (kinds.sorts a b next) first second third }
-{
-    let rest = smaller(
-        fault_unless(second, row_of(b)),
-        fault_unless(third, row_of(next)),
-    );
-    smaller(fault_unless(first, row_of(a)), rest)
-}
-
-// Whether all three fields f of record i fit these sorts.
-fn fields_fit(v: &[u8], i: usize, roles: u16, f: Record, a: Sort, b: Sort, next: Sort) -> bool
-    requires { AtRecord v.now i roles }
-    ensures { result ≡ all_fit v.now i (kinds.sorts a b next) f }
-{
-    if !field_fits(v, i, roles, a, f.a) {
-        return false;
+    match (x, y) {
+        (Some(first), Some(second)) if second.number() < first.number() => y,
+        (None, _) => y,
+        _ => x,
     }
-    if !field_fits(v, i, roles, b, f.b) {
-        return false;
-    }
-    field_fits(v, i, roles, next, f.next)
 }
 
-// Rows 4 to 7 at a record whose fields f hold these sorts. Only where not all fit, each is asked again for its row.
-fn check_sorts(v: &[u8], i: usize, roles: u16, f: Record, a: Sort, b: Sort, next: Sort) -> Checked
-    requires { AtRecord v.now i roles }
-    ensures { checked result ≡ rows_check v.now i (kinds.sorts a b next) f }
+// The first row that refuses one of three fields of these sorts, where it is told which fit. (Three answers beside the sorts:
+// `first_of` is told of these, whatever the fields hold.)
+fn first_fault(sorts: Sorts, a: bool, b: bool, next: bool) -> Option<Row>
+    ensures { number_or_none result ≡ first_of sorts a b next }
 {
-    if fields_fit(v, i, roles, f, a, b, next) {
-        return Checked::Fine;
-    }
-    let a_fits = field_fits(v, i, roles, a, f.a);
-    let b_fits = field_fits(v, i, roles, b, f.b);
-    let next_fits = field_fits(v, i, roles, next, f.next);
-    let number = first_fault(a, b, next, a_fits, b_fits, next_fits);
-    Checked::Refused { number, place: i }
+    earlier(
+        fault(a, sorts.a),
+        earlier(fault(b, sorts.b), fault(next, sorts.next)),
+    )
 }
 
-// The same, with each field asked once: for a single record, where asking first whether all fit spares nothing.
-fn check_sorts_once(
-    v: &[u8],
+// Where record i of v is, or is to stand: the records before it can be read, and so many roles there are.
+#[derive(Clone, Copy)]
+struct Slot<'a> {
+    v: &'a [u8],
     i: usize,
     roles: u16,
-    f: Record,
-    a: Sort,
-    b: Sort,
-    next: Sort,
-) -> Checked
-    requires { AtRecord v.now i roles }
-    ensures { checked result ≡ rows_check v.now i (kinds.sorts a b next) f }
-{
-    let a_fits = field_fits(v, i, roles, a, f.a);
-    let b_fits = field_fits(v, i, roles, b, f.b);
-    let next_fits = field_fits(v, i, roles, next, f.next);
-    let number = first_fault(a, b, next, a_fits, b_fits, next_fits);
-    pass_if(number == Sort::NO_FAULT, number, i)
+    ghost at_record: { AtRecord v.now i roles },
 }
 
-// Rows 4 to 7: the kind of the fields f selects what they hold. (A call in each arm, so that the compiler makes a check of its
-// own of it.)
-fn check_rows(v: &[u8], i: usize, roles: u16, f: Record) -> Checked
-    requires { AtRecord v.now i roles }
-    ensures { checked result ≡ rows_check v.now i (sorts_of f.kind) f }
-{
-    let kind = f.kind;
-    match kind {
-        3 => check_sorts(v, i, roles, f, Sort::Label, Sort::Spare, Sort::Spare),
-        4 => check_sorts(v, i, roles, f, Sort::Term, Sort::Spare, Sort::Spare),
-        5..=6 => check_sorts(v, i, roles, f, Sort::Term, Sort::Term, Sort::Spare),
-        7..=8 => check_sorts(v, i, roles, f, Sort::Role, Sort::Term, Sort::Spare),
-        9 => check_sorts(v, i, roles, f, Sort::Term, Sort::Term, Sort::Link),
-        _ => check_sorts(v, i, roles, f, Sort::Spare, Sort::Spare, Sort::Spare),
+impl Slot<'_> {
+    // Row 7: whether a record of this kind that is earlier has this label. The loop has no way out before its end, so that the
+    // compiler compares several records at once.
+    fn is_labelled(&self, kind: Kind, label: u16) -> bool
+        ensures { result ≡ labelled self.now.v.now self.now.i (number_of_kind kind) label }
+    {
+        let mut found = false;
+        for j in 0..self.i {
+            if is_named(self.v, kind, label, j) {
+                found = true;
+            }
+        }
+        found
+    }
+
+    // Row 5: a term number.
+    fn term_fits(&self, number: u16) -> bool
+        ensures { result ≡ term_fits self.now.v.now self.now.i number }
+    {
+        let at = usize::from(number);
+        1 <= at && at < self.i && Record::read_at(self.v, at).is_term()
+    }
+
+    // One field: whether rows 4 to 7 have nothing against x where this sort is held. Row 8 comes after all records.
+    fn field_fits(&self, sort: Sort, x: u16) -> bool
+        ensures { result ≡ field_fits self.now.v.now self.now.i sort x }
+    {
+        match sort {
+            Sort::Spare => x == 0,
+            Sort::Term => self.term_fits(x),
+            Sort::Role => x < self.roles,
+            Sort::Label => !self.is_labelled(Kind::Name, x),
+            Sort::Link => true,
+        }
+    }
+
+    // Rows 4 to 7 at fields f that hold these sorts: each is asked for its row.
+    fn check_sorts(&self, f: Record, sorts: Sorts) -> Result<(), Refusal>
+        ensures { answered result ≡ rows_check self.now.v.now self.now.i sorts f }
+    {
+        let a = self.field_fits(sorts.a, f.a);
+        let b = self.field_fits(sorts.b, f.b);
+        let next = self.field_fits(sorts.next, f.next);
+        match first_fault(sorts, a, b, next) {
+            Some(row) => Err(Refusal { row, place: self.i }),
+            None => Ok(()),
+        }
+    }
+
+    // Rows 3 to 7 at the fields f, which may not stand there yet.
+    fn check(&self, f: Record) -> Result<(), Refusal>
+        ensures { answered result ≡ fields_check self.now.v.now self.now.i f }
+    {
+        check_kind(f, self.i)?;
+        self.check_sorts(f, f.sorts())
+    }
+
+    // Whether all three fields f fit these sorts.
+    #[inline(always)]
+    fn fields_fit(&self, f: Record, sorts: Sorts) -> bool
+        ensures { result ≡ all_fit self.now.v.now self.now.i sorts f }
+    {
+        self.field_fits(sorts.a, f.a)
+            && self.field_fits(sorts.b, f.b)
+            && self.field_fits(sorts.next, f.next)
+    }
+
+    // The same for the sorts of a kind. (A call in each arm, so that the compiler makes a test of its own of it.)
+    #[inline(always)]
+    fn kind_fits(&self, f: Record, kind: Kind) -> bool
+        ensures { result ≡ all_fit self.now.v.now self.now.i (sorts_of (number_of_kind kind)) f }
+    {
+        match kind {
+            Kind::Top | Kind::Bottom => self.fields_fit(f, Kind::Top.sorts()),
+            Kind::Name => self.fields_fit(f, Kind::Name.sorts()),
+            Kind::Negation => self.fields_fit(f, Kind::Negation.sorts()),
+            Kind::Conjunction | Kind::Disjunction => self.fields_fit(f, Kind::Conjunction.sorts()),
+            Kind::Existential | Kind::Universal => self.fields_fit(f, Kind::Existential.sorts()),
+            Kind::Inclusion => self.fields_fit(f, Kind::Inclusion.sorts()),
+        }
+    }
+
+    // Whether rows 3 to 7 have nothing against the fields f.
+    fn fits(&self, f: Record) -> bool
+        ensures { result ≡ record_fits self.now.v.now self.now.i f }
+    {
+        match check_kind(f, self.i) {
+            Ok(kind) => self.kind_fits(f, kind),
+            Err(_) => false,
+        }
     }
 }
 
-// Rows 3 to 7 at record i, whose eight bytes are `part`.
-fn check_fields(v: &[u8], part: &[u8], i: usize, roles: u16) -> Checked
-    requires part_len { length part.now ≡ record_size }
-    requires at_record { AtRecord v.now i roles }
-    ensures { checked result ≡ fields_check v.now i (record_of part.now) }
-{
-    let fields = Record::read(part);
-    let kind = check_kind(fields, i);
-    let Checked::Fine = kind else {
-        return kind;
-    };
-    check_rows(v, i, roles, fields)
-}
-
-// The same at record i with the fields f, which does not stand there yet. (It asks for the sorts, so that `check_rows` has one
-// caller, and the compiler makes one piece of the check of each record.)
-pub fn check_new_record(v: &[u8], i: usize, roles: u16, f: Record) -> Checked
+// Rows 3 to 7 at record i with the fields f, which does not stand there yet.
+pub fn check_new_record(v: &[u8], i: usize, roles: u16, f: Record) -> Result<(), Refusal>
     requires { AtRecord v.now i roles }
-    ensures { checked result ≡ fields_check v.now i f }
+    ensures { answered result ≡ fields_check v.now i f }
 {
-    let kind = check_kind(f, i);
-    let Checked::Fine = kind else {
-        return kind;
-    };
-    let a = sort_of_a(f.kind);
-    let b = sort_of_b(f.kind);
-    check_sorts_once(v, i, roles, f, a, b, sort_of_next(f.kind))
+    Slot { v, i, roles }.check(f)
 }
 
-fn check_record(v: &[u8], i: usize, roles: u16) -> Checked
-    requires record_size_in_bounds { record_size * i + record_size ≤ length v.now }
-    requires roles_value { roles ≡ role_count v.now }
-    ensures { checked result ≡ record_check v.now i }
-{
-    let at = Record::SIZE * i;
-    let end = at + Record::SIZE;
-    check_fields(v, &v[at..end], i, roles)
-}
-
-// Rows 3 to 7 at each record in turn.
-fn check_each(v: &[u8]) -> Checked
+// Rows 3 to 7 at each record in turn: only where something does not fit, each row is asked. (A `for` with `?`, as in scripts: a
+// function that takes the check would be no shorter.)
+fn check_each(v: &[u8]) -> Result<(), Refusal>
     requires { record_size ≤ length v.now }
-    ensures { checked result ≡ in_turn (record_check v.now) 1 (count v.now - 1) }
+    ensures { answered result ≡ in_turn (record_check v.now) 1 (count v.now - 1) }
 {
-    let records = v.len() / Record::SIZE;
-    let roles = read_at(v, 0).b;
-    let mut i = 1;
-    while i < records {
-        let record = check_record(v, i, roles);
-        let Checked::Fine = record else {
-            return record;
-        };
-        i += 1;
+    let roles = Record::read_at(v, 0).b;
+    for i in 1..v.len() / Record::SIZE {
+        let slot = Slot { v, i, roles };
+        let f = Record::read_at(v, i);
+        if !slot.fits(f) {
+            slot.check(f)?;
+        }
     }
-    Checked::Fine
+    Ok(())
 }
 
-// Row 8 at record i, where that is a statement.
-fn check_link(v: &[u8], i: usize) -> Checked
-    requires { record_size * i + record_size ≤ length v.now }
-    ensures { checked result ≡ link_check v.now i }
-{
-    let fields = read_at(v, i);
-    if is_statement(fields.kind) {
-        return pass_if(link_fits(v, i, fields.next), 8, i);
-    }
-    Checked::Fine
-}
-
-// The header's A, then each statement's next, on the chain or off it.
-fn check_links(v: &[u8]) -> Checked
+// Row 8: the header's A, then each statement's next, on the chain or off it.
+#[tactic(auto, unfolding(crate::specs::Check::link_check))]
+fn check_links(v: &[u8]) -> Result<(), Refusal>
     requires { record_size ≤ length v.now }
-    ensures { checked result ≡ links_check v.now }
+    ensures { answered result ≡ links_check v.now }
 {
-    let first = read_at(v, 0).a;
-    let head = pass_if(link_fits(v, 0, first), 8, 0);
-    let Checked::Fine = head else {
-        return head;
-    };
-    let records = v.len() / Record::SIZE;
-    let mut at = 1;
-    while at < records {
-        let link = check_link(v, at);
-        let Checked::Fine = link else {
-            return link;
-        };
-        at += 1;
-    }
-    Checked::Fine
+    layout::check_links::<Record>(v, Record::read_at(v, 0).a, Row::Link)
 }
 
 // Rows 1 to 8: what later rows may ask of a vocabulary.
-fn check_records(v: &[u8]) -> Checked
-    ensures { checked result ≡ records_check v.now }
+#[tactic(auto, unfolding(crate::specs::Check::records_check))]
+fn check_records(v: &[u8]) -> Result<(), Refusal>
+    ensures { answered result ≡ records_check v.now }
 {
-    let length = check_length(v);
-    let Checked::Fine = length else {
-        return length;
-    };
-    let header = check_header(v);
-    let Checked::Fine = header else {
-        return header;
-    };
-    let records = check_each(v);
-    let Checked::Fine = records else {
-        return records;
-    };
+    check_length(v)?;
+    check_header(v)?;
+    check_each(v)?;
     check_links(v)
 }
 
 // Row 28: the k that an edition 2 header holds. In edition 1 nothing is counted.
-fn check_held(v: &[u8]) -> Checked
+fn check_held(v: &[u8]) -> Result<(), Refusal>
     requires { record_size ≤ length v.now }
-    ensures { checked result ≡ held_check v.now }
+    ensures { answered result ≡ held_check v.now }
 {
-    let header = read_at(v, 0);
+    let header = Record::read_at(v, 0);
+    // (The edition is a number, as row 2 has it; nothing else is asked of it.)
     if header.second != 2 {
-        return Checked::Fine;
+        return Ok(());
     }
     let held = header.next as usize;
     let k = count_atoms(v);
-    pass_if(held == k, 28, k)
+    require(held == k, Row::AtomsHeld, k)
 }
 
 // All rows of the vocabulary check.
-fn check_all(v: &[u8]) -> Checked
-    ensures { checked result ≡ vocabulary_rows v.now }
+#[tactic(auto, unfolding(crate::specs::Check::vocabulary_rows))]
+fn check_all(v: &[u8]) -> Result<(), Refusal>
+    ensures { answered result ≡ vocabulary_rows v.now }
 {
-    let records = check_records(v);
-    let Checked::Fine = records else {
-        return records;
-    };
+    check_records(v)?;
     check_held(v)
 }
 
 // The vocabulary check: the number of records, or the first refusal in table order.
-pub fn check_vocabulary(v: &[u8]) -> Counted
-    ensures { counted result ≡ vocabulary_check v.now }
+#[tactic(auto, unfolding(crate::specs::Check::vocabulary_check))]
+pub fn check_vocabulary(v: &[u8]) -> Result<usize, Refusal>
+    ensures { answered result ≡ vocabulary_check v.now }
 {
-    count_after(check_all(v), v.len() / Record::SIZE)
+    check_all(v)?;
+    Ok(v.len() / Record::SIZE)
 }

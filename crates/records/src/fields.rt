@@ -1,9 +1,15 @@
 // A record's bytes as numbers.
-ghost use Rattle.std.specs.Prelude.{◌≡◌, ◌+◌, ◌*◌, ◌/◌, ◌%◌, ◌≤◌, length};
-ghost use Rattle.records.specs.Format.{record_size, word_size, word_bytes, record_of, record_bytes, record_at};
+ghost use Rattle.std.specs.Prelude.{◌≡◌, length};
+ghost use Rattle.std.proofs.Common.{rules};
+ghost use Rattle.records.specs.Format.{record_size, record_limit, record_of, record_bytes, record_at};
+ghost use Rattle.records.specs.Kinds.{is_statement};
+ghost use Rattle.records.specs.Code.Layout.{record_read};
 
-#[derive(Clone, Copy)]
+use crate::layout::Layout;
+
+#[derive(Clone, Copy, Debug, PartialEq, Eq)]
 pub struct Record {
+    // Numbers: the bytes of a file may be any; `Kind::of` reads the kind.
     pub kind: u8,
     pub second: u8,
     pub a: u16,
@@ -12,10 +18,8 @@ pub struct Record {
 }
 
 impl Record {
-    // Bytes of a record.
-    pub const SIZE: usize = 8;
-    // Records of a vocabulary, header included.
-    pub const LIMIT: usize = 512;
+    // The header's kind.
+    pub const HEADER: u8 = 16;
     // Roles of a vocabulary.
     pub const ROLES: u16 = 64;
     // Bytes of a number.
@@ -25,71 +29,65 @@ impl Record {
 
     pub const NEXT_AT: usize = 6;
 
-    // The record that eight bytes hold.
-    pub fn read(part: &[u8]) -> Self
-        requires { length part.now ≡ record_size }
-        ensures { result ≡ record_of part.now }
-    {
-        Record {
-            kind: part[0],
-            second: part[1],
-            a: word(part[2], part[3]),
-            b: word(part[4], part[5]),
-            next: word(part[6], part[7]),
-        }
-    }
-
     // Writes the record over eight bytes.
     pub fn write(self, part: &mut [u8])
         requires { length part.old ≡ record_size }
         ensures { part.new ≡ record_bytes self }
     {
-        part[0] = self.kind;
-        part[1] = self.second;
-        part[2] = low(self.a);
-        part[3] = high(self.a);
-        part[4] = low(self.b);
-        part[5] = high(self.b);
-        part[6] = low(self.next);
-        part[7] = high(self.next);
+        let [a, a_high] = self.a.to_le_bytes();
+        let [b, b_high] = self.b.to_le_bytes();
+        let [next, next_high] = self.next.to_le_bytes();
+        part.copy_from_slice(&[
+            self.kind,
+            self.second,
+            a,
+            a_high,
+            b,
+            b_high,
+            next,
+            next_high,
+        ]);
     }
 }
 
-// A number in a file: low byte first.
-pub fn word(low: u8, high: u8) -> u16
-    ensures { result ≡ low + 256 * high }
-{
-    low as u16 + 256 * (high as u16)
-}
+impl Layout for Record {
+    ghost SIZE = { record_size };
 
-// The bytes of such a number.
-fn low(x: u16) -> u8
-    ensures { result ≡ x % 256 }
-{
-    (x % 256) as u8
-}
+    ghost LIMIT = { record_limit };
 
-fn high(x: u16) -> u8
-    ensures { result ≡ x / 256 }
-{
-    (x / 256) as u8
-}
+    ghost of = { record_of };
 
-// Writes a number over two bytes.
-pub fn write_word(part: &mut [u8], x: u16)
-    requires { length part.old ≡ word_size }
-    ensures { part.new ≡ word_bytes x }
-{
-    part[0] = low(x);
-    part[1] = high(x);
-}
+    ghost at = { record_at };
 
-// Record i of a vocabulary that has it.
-pub fn read_at(v: &[u8], i: usize) -> Record
-    requires { record_size * i + record_size ≤ length v.now }
-    ensures { result ≡ record_at v.now i }
-{
-    let at = Record::SIZE * i;
-    let end = at + Record::SIZE;
-    Record::read(&v[at..end])
+    ghost linked = { λ r. is_statement r.kind };
+
+    ghost next = { λ r. r.next };
+
+    ghost some = { Prim.search rules };
+
+    ghost small = { Prim.search rules };
+
+    ghost reads = { record_read };
+
+    const SIZE: usize = 8;
+
+    const LIMIT: usize = 512;
+
+    fn read(part: &[u8]) -> Record {
+        Record {
+            kind: part[0],
+            second: part[1],
+            a: u16::from_le_bytes([part[2], part[3]]),
+            b: u16::from_le_bytes([part[4], part[5]]),
+            next: u16::from_le_bytes([part[6], part[7]]),
+        }
+    }
+
+    fn is_linked(self) -> bool {
+        self.is_statement()
+    }
+
+    fn next(self) -> u16 {
+        self.next
+    }
 }

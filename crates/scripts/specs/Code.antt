@@ -1,4 +1,6 @@
 -- What only the code computes with. No promise of a call speaks of it.
+pub mod Kinds
+pub mod Layout
 pub mod Codes
 pub mod Index
 pub mod Machine

@@ -1,34 +1,32 @@
 // The script check: rows 1 to 8, 13, 14, 10, then 15 on.
 ghost use Rattle.std.specs.Prelude.{◌≡◌};
+ghost use Rattle.records.specs.Refusals.{answered};
 ghost use Rattle.scripts.specs.Run.{script_check};
-ghost use Rattle.scripts.specs.Answers.{judged};
 
-use crate::answers::{Judged, judge_after, judge_after_count};
-use crate::entry::read_entry;
-use crate::form::{check_form, length_fits};
+use crate::entry::Entry;
+use crate::form::check_form;
 use crate::run::check_chain;
-use records::answers::{Checked, Counted, pass_if};
+use columns::vocabulary::Vocabulary;
 use records::chain::mark_chain;
+use records::check_vocabulary;
 use records::fields::Record;
+use records::layout::{Layout, length_fits};
+use records::refusals::{Refusal, Row, require};
 
-// The script check: accepted with the number of steps, or the first refusal in table order. Nothing is written.
-pub fn check_script(v: &[u8], s: &[u8]) -> Judged
-    ensures { judged result ≡ script_check v.now s.now }
+// The script check: the number of steps, or the first refusal in table order. Nothing is written.
+#[tactic(auto, unfolding(crate::specs::Run::script_check, crate::specs::Form::form_check))]
+pub fn check_script(v: &[u8], s: &[u8]) -> Result<usize, Refusal>
+    ensures { answered result ≡ script_check v.now s.now }
 {
-    let vocabulary = records::check_vocabulary(v);
-    let Counted::Records(_) = vocabulary else {
-        return judge_after_count(vocabulary);
-    };
-    let length = pass_if(length_fits(s), 13, 0);
-    let Checked::Fine = length else {
-        return judge_after(length, 0);
-    };
+    check_vocabulary(v)?;
+    require(length_fits::<Entry>(s), Row::ScriptLength, 0)?;
     let mut marks = [false; Record::LIMIT];
     mark_chain(v, &mut marks);
-    let header = read_entry(s, 0);
-    let form = check_form(v, &marks, s, header);
-    let Checked::Fine = form else {
-        return judge_after(form, 0);
+    let header = Entry::read_at(s, 0);
+    let vocabulary = Vocabulary {
+        bytes: v,
+        marks: &marks,
     };
-    check_chain(v, &marks, s, header)
+    check_form(&vocabulary, s, header)?;
+    check_chain(&vocabulary, s, header)
 }

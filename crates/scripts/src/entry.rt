@@ -1,10 +1,40 @@
-// A script record's bytes as numbers.
-ghost use Rattle.std.specs.Prelude.{◌≡◌, length};
-ghost use Rattle.scripts.specs.Format.{entry_size, entry_of, entry_at, is_term, is_step};
+// A script record's bytes as numbers, its kind, and where it stands.
+ghost use Rattle.std.specs.Prelude.{◌≡◌};
+ghost use Rattle.std.proofs.Common.{rules};
+ghost use Rattle.scripts.specs.Format.{entry_size, entry_limit, entry_of, entry_at, kind_of, is_term, is_step};
+ghost use Rattle.scripts.specs.Code.Kinds.{kind_numbered, number_or_none};
+ghost use Rattle.scripts.specs.Code.Layout.{entry_read};
 ghost use Rattle.scripts.specs.Code.Ready.{HasEntry};
 
-use records::fields::word;
+use records::layout::Layout;
 
+// The kinds of records, but for the header's.
+#[derive(Clone, Copy, Debug, PartialEq, Eq)]
+pub enum EntryKind {
+    Constant,
+    Term,
+    Start,
+    Extension,
+    Reduction,
+}
+
+impl EntryKind {
+    // The kind that has this number, if one does. (No TryFrom: of a number of no kind there is no more to say.)
+    pub fn of(w0: u16) -> Option<EntryKind>
+        ensures { result ≡ kind_numbered w0 }
+    {
+        match w0 {
+            1 => Some(EntryKind::Constant),
+            2 => Some(EntryKind::Term),
+            3 => Some(EntryKind::Start),
+            4 => Some(EntryKind::Extension),
+            5 => Some(EntryKind::Reduction),
+            _ => None,
+        }
+    }
+}
+
+// (Numbers: the words of a script may be any.)
 #[derive(Clone, Copy)]
 pub struct Entry {
     pub w0: u16,
@@ -18,61 +48,105 @@ pub struct Entry {
 }
 
 impl Entry {
-    // Bytes of a record.
-    pub const SIZE: usize = 16;
-    // Records of a script, header included.
-    pub const LIMIT: usize = 2048;
+    // In the place of a kind, what the header has.
+    pub const HEADER: u16 = 32;
 
-    // The record that sixteen bytes hold.
-    pub fn read(part: &[u8]) -> Self
-        requires { length part.now ≡ entry_size }
-        ensures { result ≡ entry_of part.now }
+    pub fn kind(self) -> Option<EntryKind>
+        ensures number { result ≡ kind_numbered self.w0 }
+        ensures meaning { kind_of self.w0 ≡ kind_of (number_or_none result) }
     {
-        Entry {
-            w0: word(part[0], part[1]),
-            w1: word(part[2], part[3]),
-            w2: word(part[4], part[5]),
-            w3: word(part[6], part[7]),
-            w4: word(part[8], part[9]),
-            w5: word(part[10], part[11]),
-            w6: word(part[12], part[13]),
-            w7: word(part[14], part[15]),
-        }
+        EntryKind::of(self.w0)
+    }
+
+    pub fn is_term(self) -> bool
+        ensures { result ≡ is_term self.w0 }
+    {
+        matches!(self.kind(), Some(EntryKind::Constant | EntryKind::Term))
+    }
+
+    pub fn is_step(self) -> bool
+        ensures { result ≡ is_step self.w0 }
+    {
+        matches!(
+            self.kind(),
+            Some(EntryKind::Start | EntryKind::Extension | EntryKind::Reduction)
+        )
     }
 }
 
-// A step of a script, and the number of its record.
+impl Layout for Entry {
+    ghost SIZE = { entry_size };
+
+    ghost LIMIT = { entry_limit };
+
+    ghost of = { entry_of };
+
+    ghost at = { entry_at };
+
+    ghost linked = { λ e. is_step e.w0 };
+
+    ghost next = { λ e. e.w7 };
+
+    ghost some = { Prim.search rules };
+
+    ghost small = { Prim.search rules };
+
+    ghost reads = { entry_read };
+
+    const SIZE: usize = 16;
+
+    const LIMIT: usize = 2048;
+
+    fn read(part: &[u8]) -> Entry {
+        Entry {
+            w0: u16::from_le_bytes([part[0], part[1]]),
+            w1: u16::from_le_bytes([part[2], part[3]]),
+            w2: u16::from_le_bytes([part[4], part[5]]),
+            w3: u16::from_le_bytes([part[6], part[7]]),
+            w4: u16::from_le_bytes([part[8], part[9]]),
+            w5: u16::from_le_bytes([part[10], part[11]]),
+            w6: u16::from_le_bytes([part[12], part[13]]),
+            w7: u16::from_le_bytes([part[14], part[15]]),
+        }
+    }
+
+    fn is_linked(self) -> bool {
+        self.is_step()
+    }
+
+    fn next(self) -> u16 {
+        self.w7
+    }
+}
+
+// A step of a script, and the number of its record, without the script, which the chain has.
 #[derive(Clone, Copy)]
 pub struct StepRecord {
     pub number: usize,
     pub entry: Entry,
 }
 
-// Record i of a script that has it.
-pub fn read_entry(s: &[u8], i: usize) -> Entry
-    requires { HasEntry s.now i }
-    ensures { result ≡ entry_at s.now i }
-{
-    let at = Entry::SIZE * i;
-    let end = at + Entry::SIZE;
-    Entry::read(&s[at..end])
+// A record of a script, and where it stands.
+#[derive(Clone, Copy)]
+pub struct Placed<'a> {
+    pub script: &'a [u8],
+    pub number: usize,
+    pub entry: Entry,
+    pub ghost within: { HasEntry script.now number },
+    pub ghost read: { entry ≡ entry_at script.now number },
 }
 
-// Which kinds of records are terms and steps.
-pub fn is_term_entry(kind: u16) -> bool
-    ensures { result ≡ is_term kind }
-{
-    match kind {
-        1..=2 => true,
-        _ => false,
-    }
-}
-
-pub fn is_step_entry(kind: u16) -> bool
-    ensures { result ≡ is_step kind }
-{
-    match kind {
-        3..=5 => true,
-        _ => false,
+impl Placed<'_> {
+    // Record i of a script that has it.
+    pub fn at(script: &[u8], number: usize) -> Placed<'_>
+        requires { HasEntry script.now number }
+        ensures script { result.script.now ≡ script.now }
+        ensures number { result.number ≡ number }
+    {
+        Placed {
+            script,
+            number,
+            entry: Entry::read_at(script, number),
+        }
     }
 }

@@ -1,7 +1,6 @@
 // Scripts: the form of a script, the machine, and the script check.
 #![tactic(auto)]
 
-pub mod answers;
 mod call;
 mod entry;
 mod form;

@@ -1,257 +1,213 @@
 // Along the chain: rows 20 to 25 of the table of refusals.
-ghost use Rattle.std.specs.Prelude.{◌≡◌, ◌||◌, List, [], ◌∷◌, ℕ, ◌≤◌, ◌<◌, length, ltb};
-ghost use Rattle.columns.specs.Code.Packed.{literals};
-ghost use Rattle.scripts.specs.Format.{entry_at, entries, extension_of};
-ghost use Rattle.scripts.specs.Calculus.{frame_limit};
-ghost use Rattle.records.specs.Finite.{is_nil};
+ghost use Rattle.std.specs.Prelude.{◌≡◌, [], ◌∷◌, List, ℕ, ◌*◌, ◌≤◌, ◌<◌, Ok, length};
+ghost use Rattle.columns.specs.Code.Kept.{literals};
+ghost use Rattle.records.specs.Refusals.{answered};
+ghost use Rattle.scripts.specs.Format.{entry_at, query_of, entries, entry_limit, extension_of};
+ghost use Rattle.records.specs.Outcome.{pass};
+ghost use Rattle.scripts.specs.Form.{form_check};
 ghost use Rattle.scripts.specs.Code.Codes.{opposed};
-ghost use Rattle.scripts.specs.Code.Index.{TermsBefore, AllNumbered, few_entries, Blank};
-ghost use Rattle.scripts.specs.Code.Machine.{left, Shows};
+ghost use Rattle.scripts.specs.Code.Index.{TermsBefore, AllNumbered, link_count, Blank};
 ghost use Rattle.scripts.specs.Code.Numbered.{start_numbers, used_numbers};
-ghost use Rattle.scripts.specs.Code.Tested.{ExtensionTested, TestedAt, start_outcome, chain_outcome};
-ghost use Rattle.scripts.specs.Answers.{judged};
+ghost use Rattle.scripts.specs.Code.Tested.{extension_check, extended, reduces_to, check_at, stepped_at};
+ghost use Rattle.scripts.specs.Code.Tested.{start_outcome, chain_outcome};
 ghost use Rattle.scripts.specs.Code.Ready.{Ready, IsStart, IsRead, IsExtension};
 
-use crate::answers::{Judged, judge_after};
-use crate::entry::{Entry, StepRecord, read_entry};
-use crate::index::{Index, code_in, code_of, find_end, index_terms, origin_in};
-use crate::machine::{Aim, Machine, Remainder, aim_at, leave_out, literal_at};
+use crate::entry::{Entry, EntryKind, StepRecord};
+use crate::index::{ALL_LINKS, FEW, FEW_LINKS, Index, code_in, code_of, find_end, origin_in};
+use crate::machine::{Machine, take_out};
 use columns::column::{Column, Terms};
-use columns::{find_column, query_column};
-use records::answers::{Checked, pass_if};
-use records::fields::Record;
+use columns::query::Query;
+use columns::vocabulary::Vocabulary;
+use records::layout::Layout;
+use records::refusals::{Refusal, Row, require};
 
-// A step's answer and, if it passed, the literals of the frame that it opens: the other literals of an extension's column.
-// A step that closes the goal has none.
+// What the steps of a chain are run over: a script that keeps the form over a vocabulary, its query, and its terms' numbers.
 #[derive(Clone, Copy)]
-pub struct Tested {
-    pub answer: Checked,
-    pub remainder: Remainder,
-}
-
-// The answer of a step that opens no frame.
-fn no_frame(answer: Checked) -> Tested
-    ensures answer_value { result.answer ≡ answer }
-    ensures goal_value { result.remainder.goal ≡ 0 }
-{
-    Tested {
-        answer,
-        remainder: Remainder { goal: 0, other: 0 },
-    }
-}
-
-// The column that an extension uses, at its terms.
-fn used_column(
-    v: &[u8],
-    marks: &[bool; Record::LIMIT],
-    s: &[u8],
-    terms: &[u32],
-    header: Entry,
-    step: StepRecord,
-) -> Column
-    requires ready { Ready v.now s.now marks.now header }
-    requires all_numbered { AllNumbered s.now terms.now }
-    requires extension { IsExtension s.now step }
-    ensures { literals result ≡ used_numbers v.now s.now (extension_of step.entry) }
-{
-    let e = step.entry;
-    let x = code_in(terms, e.w3 as usize);
-    let y = code_in(terms, e.w4 as usize);
-    let fx = code_of(e.w1, origin_in(terms, e.w3 as usize));
-    find_column(
-        v,
-        marks,
-        header.w1,
-        header.w2,
-        e.w1,
-        e.w2,
-        Terms { x, y, fx },
-    )
+struct Chain<'a> {
+    vocabulary: Vocabulary<'a>,
+    script: &'a [u8],
+    query: Query,
+    terms: &'a [u32],
+    ghost form: { form_check vocabulary.bytes.now script.now ≡ pass },
+    ghost asked: { query ≡ query_of script.now },
+    ghost numbered: { AllNumbered script.now terms.now },
 }
 
 // Whether two literals are complements.
 fn is_opposed(l: u64, m: u64) -> bool
     ensures { result ≡ opposed l m }
 {
-    if l / 2 != m / 2 {
-        return false;
-    }
-    l != m
+    l / 2 == m / 2 && l != m
 }
 
-// Row 23: whether a column's other literals find room.
-fn has_room(remainder: Remainder, depth: usize) -> bool
-    ensures { result ≡ (is_nil (left remainder) || ltb depth frame_limit) }
+// Row 22: whether the goal of the frame that a reduction names is the complement.
+fn reduces(machine: &Machine, frame: u16) -> bool
+    requires { 0 < length machine.now }
+    ensures { result ≡ reduces_to machine.now frame }
 {
-    if remainder.goal == 0 {
-        return true;
-    }
-    depth < Machine::FRAMES
+    let goal = machine.goal();
+    machine
+        .goal_below(frame)
+        .is_some_and(|lower| is_opposed(lower, goal))
 }
 
-// Rows 21 and 23, at an extension by a column.
-fn test_extension(column: Column, step: StepRecord, aim: Aim) -> Tested
-    requires { step.entry.w5 < length (literals column) }
-    ensures { ExtensionTested (literals column) step aim result }
-{
-    let i = step.number;
-    let position = step.entry.w5 as usize;
-    let answer = pass_if(is_opposed(literal_at(column, position), aim.goal), 21, i);
-    let Checked::Fine = answer else {
-        return no_frame(answer);
-    };
-    let remainder = leave_out(column, position);
-    let answer = pass_if(has_room(remainder, aim.depth), 23, i);
-    Tested { answer, remainder }
-}
-
-// One step of the chain, after the first: rows 25, 20, 21, 22, 23.
-fn test_step(
-    v: &[u8],
-    marks: &[bool; Record::LIMIT],
-    s: &[u8],
-    terms: &[u32],
-    header: Entry,
-    step: StepRecord,
-    aim: Aim,
-) -> Tested
-    requires ready { Ready v.now s.now marks.now header }
-    requires all_numbered { AllNumbered s.now terms.now }
-    requires read { IsRead s.now step }
-    ensures { TestedAt v.now s.now step aim result }
+// An extension by a column: rows 21 and 23, then the frames.
+fn extend(machine: &mut Machine, column: Column, step: StepRecord) -> Result<(), Refusal>
+    requires listed { step.entry.w5 < length (literals column) }
+    requires open { 0 < length machine.old }
+    ensures rows { answered result ≡ extension_check (literals column) step.entry.w5 step.number machine.old }
+    ensures extended { result ≡ Ok tt → machine.new ≡ extended (literals column) step.entry.w5 machine.old }
 {
     let i = step.number;
-    let answer = pass_if(aim.depth != 0, 25, i);
-    let Checked::Fine = answer else {
-        return no_frame(answer);
-    };
-    let kind = step.entry.w0;
-    match kind {
-        4 => test_extension(used_column(v, marks, s, terms, header, step), step, aim),
-        5 => {
-            let answer = pass_if(is_opposed(aim.lower, aim.goal), 22, i);
-            no_frame(answer)
-        }
-        _ => no_frame(Checked::Refused {
-            number: 20,
-            place: i,
-        }),
-    }
+    let (connected, others) = take_out(column, step.entry.w5 as usize);
+    require(is_opposed(connected, machine.goal()), Row::Connection, i)?;
+    require(others.is_none() || machine.has_room(), Row::FrameLimit, i)?;
+    machine.extend(others);
+    Ok(())
 }
 
 // The machine after a start, whose record e is: the literal of its query column is frame 0.
-fn begin(header: Entry, e: Entry) -> Machine
+fn begin(query: Query, e: Entry) -> Machine
     requires { e.w1 ≤ 1 }
-    ensures { (v s : List ℕ) → header ≡ entry_at s 0 → Shows result (start_numbers v s e.w1 ∷ []) }
+    ensures { (v s : List ℕ) → query ≡ query_of s → result ≡ start_numbers v s e.w1 ∷ [] }
 {
-    let column = query_column(header.w1, header.w2, e.w1);
-    Machine::empty().start(column.first)
+    let (goal, _) = take_out(query.column(e.w1), 0);
+    Machine::start(goal)
 }
 
-// A start, record `first`, and the steps after it.
-fn run_steps(
-    v: &[u8],
-    marks: &[bool; Record::LIMIT],
-    s: &[u8],
-    terms: &[u32],
-    first: usize,
-) -> Judged
-    requires ready { Ready v.now s.now marks.now (entry_at s.now 0) }
-    requires all_numbered { AllNumbered s.now terms.now }
-    requires start { IsStart s.now first }
-    ensures { judged result ≡ start_outcome v.now s.now first }
-{
-    // Read again: kept until here, its words would take registers from the loops of the form.
-    let header = read_entry(s, 0);
-    let start = read_entry(s, first);
-    let mut state = begin(header, start);
-    let mut last = first;
-    let mut at = start.w7 as usize;
-    let mut steps = 1;
-    while at != 0 {
-        let e = read_entry(s, at);
-        let aim = aim_at(&state.below, state.goal, state.depth, e.w1);
-        let step = StepRecord {
-            number: at,
-            entry: e,
-        };
-        let tested = test_step(v, marks, s, terms, header, step, aim);
-        let answer = tested.answer;
-        let Checked::Fine = answer else {
-            return judge_after(answer, 0);
-        };
-        let next = tested.remainder;
-        // Assigned in each branch: where branches meet in a method, the machine is copied whole.
-        if e.w0 == 5 {
-            state = state.reduce();
-        } else if next.goal == 0 {
-            state = state.close();
-        } else if next.other == 0 {
-            state = state.extend(next.goal);
-        } else {
-            state = state.extend_pair(next.goal, next.other);
-        }
-        last = at;
-        steps += 1;
-        at = e.w7 as usize;
+impl Chain<'_> {
+    // The column that an extension uses, at its terms.
+    fn used_column(&self, step: StepRecord) -> Column
+        requires { IsExtension self.now.script.now step }
+        ensures { literals result ≡ used_numbers self.now.vocabulary.bytes.now self.now.script.now (extension_of step.entry) }
+    {
+        let e = step.entry;
+        let x = code_in(self.terms, e.w3 as usize);
+        let y = code_in(self.terms, e.w4 as usize);
+        let fx = code_of(e.w1, origin_in(self.terms, e.w3 as usize));
+        self.vocabulary
+            .find_column(self.query, e.w1, e.w2, Terms { x, y, fx })
     }
-    judge_after(pass_if(state.depth == 0, 24, last), steps)
+
+    // One step of the chain, after the first: rows 25, 20, 21, 22, 23, then the frames.
+    fn make_step(&self, step: StepRecord, machine: &mut Machine) -> Result<(), Refusal>
+        requires { IsRead self.now.script.now step }
+        ensures rows { answered result ≡ check_at self.now.vocabulary.bytes.now self.now.script.now step.number machine.old }
+        ensures stepped { result ≡ Ok tt
+            → machine.new ≡ stepped_at self.now.vocabulary.bytes.now self.now.script.now step.number machine.old }
+    {
+        let i = step.number;
+        require(!machine.is_closed(), Row::AllClosed, i)?;
+        match step.entry.kind() {
+            Some(EntryKind::Extension) => extend(machine, self.used_column(step), step),
+            Some(EntryKind::Reduction) => {
+                require(reduces(machine, step.entry.w1), Row::Reduction, i)?;
+                machine.close();
+                Ok(())
+            }
+            _ => Err(Refusal {
+                row: Row::Start,
+                place: i,
+            }),
+        }
+    }
+
+    // A start, record `first`, and the steps after it: how many they are.
+    fn run_steps(&self, first: usize) -> Result<usize, Refusal>
+        requires { IsStart self.now.script.now first }
+        ensures { answered result ≡ start_outcome self.now.vocabulary.bytes.now self.now.script.now first }
+    {
+        let start = Entry::read_at(self.script, first);
+        let mut machine = begin(self.query, start);
+        let mut last = first;
+        let mut at = start.w7 as usize;
+        let mut steps = 1;
+        // The chain leads the walk, and each turn the machine: no range.
+        while at != 0 {
+            let step = StepRecord {
+                number: at,
+                entry: Entry::read_at(self.script, at),
+            };
+            self.make_step(step, &mut machine)?;
+            last = at;
+            steps += 1;
+            at = step.entry.w7 as usize;
+        }
+        require(machine.is_closed(), Row::FrameLeft, last)?;
+        Ok(steps)
+    }
 }
 
-// Numbers the terms, in tables that are lent, then runs the steps.
+// Numbers the terms, in tables that are lent, then runs the steps. One function for both sizes takes fewer instructions.
+// (It asks what `run_in_tables` asks, which hands it on.)
 fn run_numbering(
-    v: &[u8],
-    marks: &[bool; Record::LIMIT],
+    vocabulary: &Vocabulary,
     s: &[u8],
     end: usize,
     first: usize,
     links: &mut [u16],
     terms: &mut [u32],
-) -> Judged
-    requires ready { Ready v.now s.now marks.now (entry_at s.now 0) }
+) -> Result<usize, Refusal>
+    requires ready { Ready vocabulary.now.bytes.now s.now (entry_at s.now 0) }
     requires start { IsStart s.now first }
     requires terms_before { TermsBefore s.now end }
     requires end_bound { end ≤ entries s.now }
     requires blank { Blank s.now links.old terms.old }
-    ensures { judged result ≡ start_outcome v.now s.now first }
+    ensures { answered result ≡ start_outcome vocabulary.now.bytes.now s.now first }
 {
-    index_terms(s, end, links, terms);
-    run_steps(v, marks, s, terms, first)
+    let mut index = Index { links, terms };
+    index.number_all(s, end);
+    // Read again: kept until here, its words would take registers from the loops of the form.
+    let header = Entry::read_at(s, 0);
+    let chain = Chain {
+        vocabulary: *vocabulary,
+        script: s,
+        query: Query {
+            a: header.w1,
+            b: header.w2,
+        },
+        terms: index.terms,
+    };
+    chain.run_steps(first)
 }
 
-// Does so for few terms in small tables: to zero the large ones takes as long as a small call.
-fn run_few(v: &[u8], marks: &[bool; Record::LIMIT], s: &[u8], end: usize, first: usize) -> Judged
-    requires ready { Ready v.now s.now marks.now (entry_at s.now 0) }
+// Does so in tables for so many records: to zero those for all takes as long as a small call.
+fn run_in_tables<const RECORDS: usize, const LINKS: usize>(
+    vocabulary: &Vocabulary,
+    s: &[u8],
+    end: usize,
+    first: usize,
+) -> Result<usize, Refusal>
+    requires ready { Ready vocabulary.now.bytes.now s.now (entry_at s.now 0) }
     requires start { IsStart s.now first }
     requires terms_before { TermsBefore s.now end }
     requires end_bound { end ≤ entries s.now }
-    requires end_le_few_entries { end ≤ few_entries }
-    ensures { judged result ≡ start_outcome v.now s.now first }
+    requires room { end ≤ RECORDS }
+    requires some { 1 < RECORDS }
+    requires few { RECORDS ≤ entry_limit }
+    requires size { LINKS ≡ link_count * RECORDS }
+    ensures { answered result ≡ start_outcome vocabulary.now.bytes.now s.now first }
 {
-    let mut links = [0; Index::LINKS * Index::FEW];
-    let mut terms = [0; Index::FEW];
-    run_numbering(v, marks, s, end, first, &mut links, &mut terms)
+    let mut links = [0; LINKS];
+    let mut terms = [0; RECORDS];
+    run_numbering(vocabulary, s, end, first, &mut links, &mut terms)
 }
 
-// The chain: its first step is a start, the others follow.
-pub fn check_chain(v: &[u8], marks: &[bool; Record::LIMIT], s: &[u8], header: Entry) -> Judged
-    requires { Ready v.now s.now marks.now header }
-    ensures { judged result ≡ chain_outcome v.now s.now }
+// The chain: its first step is a start, the others follow. How many steps there are.
+pub fn check_chain(vocabulary: &Vocabulary, s: &[u8], header: Entry) -> Result<usize, Refusal>
+    requires { Ready vocabulary.now.bytes.now s.now header }
+    ensures { answered result ≡ chain_outcome vocabulary.now.bytes.now s.now }
 {
     let first = header.w3 as usize;
-    let present = pass_if(first != 0, 20, 0);
-    let Checked::Fine = present else {
-        return judge_after(present, 0);
-    };
-    let begun = pass_if(read_entry(s, first).w0 == 3, 20, first);
-    let Checked::Fine = begun else {
-        return judge_after(begun, 0);
-    };
+    require(first != 0, Row::Start, 0)?;
+    require(
+        Entry::read_at(s, first).kind() == Some(EntryKind::Start),
+        Row::Start,
+        first,
+    )?;
     let end = find_end(s);
-    if end <= Index::FEW {
-        return run_few(v, marks, s, end, first);
+    if end <= FEW {
+        return run_in_tables::<{ FEW }, { FEW_LINKS }>(vocabulary, s, end, first);
     }
-    let mut links = [0; Index::LINKS * Entry::LIMIT];
-    let mut terms = [0; Entry::LIMIT];
-    run_numbering(v, marks, s, end, first, &mut links, &mut terms)
+    run_in_tables::<{ Entry::LIMIT }, { ALL_LINKS }>(vocabulary, s, end, first)
 }

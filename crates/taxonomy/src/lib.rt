@@ -1,7 +1,6 @@
 // The taxonomy of a vocabulary's names: which are equal, and which are nearest among the broader ones.
 #![tactic(auto)]
 
-pub mod answers;
 mod call;
 mod meets;
 mod names;

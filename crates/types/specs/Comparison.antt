@@ -1,5 +1,5 @@
 -- The comparison: rows 10 to 12 and the answer.
-use Rattle.std.specs.Prelude.{ℕ, ◌^◌, Bool, true, false, not, ◌&&◌, List, ltb, leb}
+use Rattle.std.specs.Prelude.{ℕ, ◌^◌, Bool, cond, not, ◌&&◌, List, Option, Some, None, ltb, leb}
 use Rattle.std.specs.Bool.{beq}
 use Rattle.records.specs.Outcome.{Outcome, Check, accepted, ◌then◌, require}
 use Rattle.records.specs.Format.{record_at, count}
@@ -32,13 +32,16 @@ distinguishes v a b t = has (survivors v) t && not (beq (truth v t a) (truth v t
 abbrev pub first_distinguishing : List ℕ → ℕ → ℕ → ℕ
 first_distinguishing v a b = least (distinguishes v a b) (types v)
 
-abbrev pub verdict_with : Bool → ℕ → ℕ → ℕ → Verdict
-verdict_with true element alive done = different element alive done
-verdict_with false element alive done = equal alive done
+-- That number, where it is below the bound.
+abbrev pub below : ℕ → ℕ → Option ℕ
+below t n = cond (ltb t n) (Some t) None
+
+abbrev pub verdict_with : Option ℕ → Counts → Verdict
+verdict_with (Some element) n = different element n.survivors n.rounds
+verdict_with None n = equal n.survivors n.rounds
 
 unfoldable pub verdict : List ℕ → ℕ → ℕ → Verdict
-verdict v a b =
-    let t = first_distinguishing v a b in verdict_with (ltb t (types v)) t (members (survivors v)) (rounds v)
+verdict v a b = verdict_with (below (first_distinguishing v a b) (types v)) (counts v)
 
 -- The bounds of rows 11 and 12: the atoms of a vocabulary that is compared, so its types, and the bytes of the bitmap, which
 -- has a bit for each type.

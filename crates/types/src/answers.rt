@@ -1,75 +1,28 @@
-// The answer of the comparison. `specs/Answers.antt` says which outcome of paper 01 each case stands for.
+// The answer of the comparison. `specs/Answers.antt` says which verdict of paper 01 it stands for.
 ghost use Rattle.std.specs.Prelude.{◌≡◌};
-ghost use Rattle.records.specs.Outcome.{◌then◌, accepted};
-ghost use Rattle.records.specs.Answers.{checked, counted};
-ghost use Rattle.types.specs.Comparison.{different, verdict_with};
-ghost use Rattle.types.specs.Answers.{compared};
+ghost use Rattle.types.specs.Answers.{verdict_of};
+ghost use Rattle.types.specs.Comparison.{verdict_with};
 
-use records::answers::{Checked, Counted};
-
-// With either answer go the number of survivors and of rounds that removed something.
-#[derive(Clone, Copy)]
+// The number of survivors and of rounds that removed something.
+#[derive(Clone, Copy, Debug, PartialEq, Eq)]
 pub struct Counts {
     pub survivors: usize,
     pub rounds: usize,
 }
 
-#[derive(Clone, Copy)]
+// With either answer go both. (An enum of its own: the paper's two verdicts have names.)
+#[derive(Clone, Copy, Debug, PartialEq, Eq)]
 pub enum Compared {
-    Equal {
-        survivors: usize,
-        rounds: usize,
-    },
-    Different {
-        element: usize,
-        survivors: usize,
-        rounds: usize,
-    },
-    Refused {
-        number: u8,
-        place: usize,
-    },
-}
-
-// The comparison's answer where the vocabulary was refused: called on a refused one only; the other arm is never taken.
-pub fn compare_after_count(vocabulary: Counted) -> Compared
-    ensures { compared result ≡ (counted vocabulary then accepted (different 0 0 0)) }
-{
-    match vocabulary {
-        Counted::Records(_) => Compared::Different {
-            element: 0,
-            survivors: 0,
-            rounds: 0,
-        },
-        Counted::Refused { number, place } => Compared::Refused { number, place },
-    }
-}
-
-// The same where a check refused.
-pub fn compare_after(check: Checked) -> Compared
-    ensures { compared result ≡ (checked check then accepted (different 0 0 0)) }
-{
-    match check {
-        Checked::Fine => Compared::Different {
-            element: 0,
-            survivors: 0,
-            rounds: 0,
-        },
-        Checked::Refused { number, place } => Compared::Refused { number, place },
-    }
+    Equal(Counts),
+    Different { element: usize, counts: Counts },
 }
 
 // The verdict: Different where there is a survivor at which the terms differ.
-pub fn conclude(found: bool, element: usize, survivors: usize, rounds: usize) -> Compared
-    ensures { compared result ≡ accepted (verdict_with found element survivors rounds) }
+pub fn conclude(element: Option<usize>, counts: Counts) -> Compared
+    ensures { verdict_of result ≡ verdict_with element counts }
 {
-    if found {
-        Compared::Different {
-            element,
-            survivors,
-            rounds,
-        }
-    } else {
-        Compared::Equal { survivors, rounds }
+    match element {
+        Some(element) => Compared::Different { element, counts },
+        None => Compared::Equal(counts),
     }
 }

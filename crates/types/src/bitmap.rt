@@ -1,44 +1,34 @@
 // What a set of types shows: the first at which the terms differ, and the bytes that hold it.
-ghost use Rattle.std.specs.Prelude.{◌≡◌, false, ◌&&◌, ◌++◌, ℕ, ◌-◌, ◌≤◌, ◌<◌, length, get_or, drop};
+ghost use Rattle.std.specs.Prelude.{◌≡◌, false, ◌&&◌, ◌++◌, ℕ, ◌≤◌, ◌<◌, length, get_or, drop};
 ghost use Rattle.records.specs.Finite.{has, least, table};
 ghost use Rattle.types.specs.Bitmap.{byte_of};
-ghost use Rattle.types.specs.Code.Settling.{cleared};
-ghost use Rattle.types.specs.Comparison.{type_limit, bitmap_bytes};
+ghost use Rattle.types.specs.Comparison.{type_limit, bitmap_bytes, below};
 
 use crate::truth::push_bit;
 use crate::type_data::TypeData;
 
-// The smallest that is in both tables, or `size`.
+// The smallest that is in both tables, below `size` (here and below a plain number: a type for its bound would be opened at
+// each index).
 pub fn find_first(
     alive: &[bool; TypeData::TYPES],
     differs: &[bool; TypeData::TYPES],
     size: usize,
-) -> usize
+) -> Option<usize>
     requires { size ≤ type_limit }
-    ensures { result ≡ least (λ t. has alive.now t && get_or differs.now t false) size }
+    ensures { result ≡ below (least (λ t. has alive.now t && get_or differs.now t false) size) size }
 {
-    let mut t = 0;
-    while t < size {
-        if alive[t] {
-            if differs[t] {
-                return t;
-            }
-        }
-        t += 1;
-    }
-    size
+    (0..size).find(|&t| alive[t] && differs[t])
 }
 
-// Byte n of the bitmap, built from its top bit.
+// Byte n of the bitmap, built from its top bit. (The words of a plan are built so, too, from other bits: a closure for these
+// would be no shorter.)
 fn byte_of(alive: &[bool; TypeData::TYPES], n: usize) -> u8
     requires { n < bitmap_bytes }
     ensures { result ≡ byte_of alive.now n }
 {
     let start = 8 * n;
     let mut byte = 0;
-    let mut j = 8;
-    while j > 0 {
-        j -= 1;
+    for j in (0..8).rev() {
         byte = push_bit(byte, alive[start + j]);
     }
     byte as u8
@@ -50,23 +40,8 @@ fn write_types(alive: &[bool; TypeData::TYPES], end: usize, lent: &mut [u8])
     requires bitmap_bytes_in_bounds { bitmap_bytes ≤ length lent.old }
     ensures { lent.new ≡ table end (byte_of alive.now) ++ drop end lent.old }
 {
-    let mut n = 0;
-    while n < end {
+    for n in 0..end {
         lent[n] = byte_of(alive, n);
-        n += 1;
-    }
-}
-
-// Writes zeros from `start` to the end of the bitmap.
-fn write_zeros(start: usize, lent: &mut [u8])
-    requires start_le_bitmap_bytes { start ≤ bitmap_bytes }
-    requires bitmap_bytes_in_bounds { bitmap_bytes ≤ length lent.old }
-    ensures { lent.new ≡ cleared lent.old start (bitmap_bytes - start) }
-{
-    let mut n = start;
-    while n < TypeData::BYTES {
-        lent[n] = 0;
-        n += 1;
     }
 }
 
@@ -80,5 +55,5 @@ pub fn write_bitmap(alive: &[bool; TypeData::TYPES], size: usize, lent: &mut [u8
 {
     let end = (size + 7) / 8;
     write_types(alive, end, lent);
-    write_zeros(end, lent);
+    lent[end..TypeData::BYTES].fill(0);
 }

@@ -5,85 +5,68 @@ ghost use Rattle.types.specs.Survivors.{survivors};
 ghost use Rattle.types.specs.Comparison.{bitmap_bytes, counts};
 ghost use Rattle.types.specs.Bitmap.{bitmap};
 ghost use Rattle.types.specs.Code.Words.{SameSet};
-ghost use Rattle.types.specs.Code.Settling.{Settleable, Comparable, Empty, Vacant, Settled};
+ghost use Rattle.types.specs.Code.Settling.{Settleable, Empty, Settled};
 
 use crate::answers::Counts;
 use crate::bitmap::write_bitmap;
-use crate::decode::decode;
-use crate::eliminate::eliminate;
-use crate::restrict::list_restrictions;
-use crate::truth::{list_atoms, list_statements};
-use crate::type_data::{Plan, TypeData, describe_types};
+use crate::decode::Rule;
+use crate::restrict::Restriction;
+use crate::type_data::{Plan, TypeData};
+use crate::vocabulary::{Query, SmallVocabulary};
 use records::fields::Record;
+use records::layout::Layout;
 
-// Settles the terms a and b of a vocabulary of k atoms, in empty tables; how many types survive, and how many rounds removed
-// something.
-fn settle(
-    v: &[u8],
-    a: usize,
-    b: usize,
-    k: usize,
-    alive: &mut [bool; TypeData::TYPES],
-    differs: &mut [bool; TypeData::TYPES],
-) -> Counts
-    requires comparable { Comparable v.now a b k }
-    requires vacant { Vacant alive.old differs.old }
-    ensures value { result ≡ counts v.now }
-    ensures settled { Settled v.now a b alive.new differs.new }
-{
-    let mut code = [0; TypeData::CODE];
-    let mut statements = [0; Record::LIMIT];
-    let mut values = [false; Record::LIMIT];
-    let mut held = [0; TypeData::TYPES];
-    let mut filling = [0; TypeData::TYPES];
-    let restrictions = list_restrictions(v);
-    let bits = restrictions.count;
-    let roles = restrictions.roles;
-    decode(v, &mut code);
-    let places = list_atoms(v);
-    let found = list_statements(v, &mut statements);
-    let plan = Plan {
-        a,
-        b,
-        k,
-        places,
-        found,
-        restrictions,
-    };
-    describe_types(
-        v,
-        plan,
-        &code,
-        &statements,
-        &mut values,
-        alive,
-        differs,
-        &mut held,
-        &mut filling,
-    );
-    eliminate(v, &roles, bits, &held, &filling, 1 << k, alive)
-}
+impl Query<'_> {
+    // Settles it in empty tables; how many types survive, and how many rounds removed something. (The tables are lent: the caller
+    // reads them after.)
+    fn settle(
+        &self,
+        alive: &mut [bool; TypeData::TYPES],
+        differs: &mut [bool; TypeData::TYPES],
+    ) -> Counts
+        requires empty { Empty alive.old }
+        ensures value { result ≡ counts self.now.v.bytes.now }
+        ensures settled { Settled self.now.v.bytes.now self.now.a self.now.b alive.new differs.new }
+    {
+        let mut code = [Rule::default(); Record::LIMIT];
+        let mut statements = [0; Record::LIMIT];
+        let mut restrictions = [Restriction::default(); TypeData::ATOMS];
+        let mut held = [0; TypeData::TYPES];
+        let mut filling = [0; TypeData::TYPES];
+        self.v.decode(&mut code);
+        let places = self.v.list_atoms();
+        let found = self.v.list_statements(&mut statements);
+        let bits = self.v.list_restrictions(&mut restrictions);
+        let plan = Plan {
+            v: self.v.bytes,
+            a: self.a,
+            b: self.b,
+            code: &code[..self.v.bytes.len() / Record::SIZE],
+            atoms: &places[..self.v.k],
+            statements: &statements[..found],
+            restrictions: &restrictions[..bits],
+        };
+        plan.describe_types(alive, differs, &mut held, &mut filling);
+        plan.eliminate(&held, &filling, alive)
+    }
 
-// The same; the survivors are written too.
-pub fn settle_query(
-    v: &[u8],
-    a: usize,
-    b: usize,
-    k: usize,
-    alive: &mut [bool; TypeData::TYPES],
-    differs: &mut [bool; TypeData::TYPES],
-    lent: &mut [u8],
-) -> Counts
-    requires comparable { Comparable v.now a b k }
-    requires vacant { Vacant alive.old differs.old }
-    requires bitmap_bytes_in_bounds { bitmap_bytes ≤ length lent.old }
-    ensures value { result ≡ counts v.now }
-    ensures settled { Settled v.now a b alive.new differs.new }
-    ensures lent_after { lent.new ≡ bitmap v.now ++ drop bitmap_bytes lent.old }
-{
-    let settled = settle(v, a, b, k, alive, differs);
-    write_bitmap(alive, 1 << k, lent);
-    settled
+    // The same; the survivors are written too.
+    pub fn settle_query(
+        &self,
+        alive: &mut [bool; TypeData::TYPES],
+        differs: &mut [bool; TypeData::TYPES],
+        lent: &mut [u8],
+    ) -> Counts
+        requires empty { Empty alive.old }
+        requires bitmap_bytes_in_bounds { bitmap_bytes ≤ length lent.old }
+        ensures value { result ≡ counts self.now.v.bytes.now }
+        ensures settled { Settled self.now.v.bytes.now self.now.a self.now.b alive.new differs.new }
+        ensures lent_after { lent.new ≡ bitmap self.now.v.bytes.now ++ drop bitmap_bytes lent.old }
+    {
+        let settled = self.settle(alive, differs);
+        write_bitmap(alive, self.v.type_count(), lent);
+        settled
+    }
 }
 
 // The same with no query: the header, which differs from itself at no type, stands for both terms.
@@ -101,5 +84,7 @@ pub fn settle_types(
     ensures lent_after { lent.new ≡ bitmap v.now ++ drop bitmap_bytes lent.old }
 {
     let mut differs = [false; TypeData::TYPES];
-    settle_query(v, 0, 0, k, alive, &mut differs, lent)
+    let v = SmallVocabulary { bytes: v, k };
+    let header = Query { v, a: 0, b: 0 };
+    header.settle_query(alive, &mut differs, lent)
 }

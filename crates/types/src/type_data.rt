@@ -1,11 +1,11 @@
 // What the comparison needs to know of each type, taken from one table of truths.
-ghost use Rattle.std.specs.Prelude.{◌≡◌, length};
-ghost use Rattle.records.specs.Format.{record_limit};
-ghost use Rattle.types.specs.Code.Settling.{Prepared, Blank, Started, Worded, type_data_at};
+ghost use Rattle.std.specs.Prelude.{◌≡◌};
+ghost use Rattle.types.specs.Code.Settling.{Prepared, Empty, Started, Worded, type_data_at};
 
-use crate::restrict::{Restrictions, words_of};
-use crate::truth::{statements_hold, truths};
+use crate::decode::Rule;
+use crate::restrict::{Restriction, Words};
 use records::fields::Record;
+use records::layout::Layout;
 
 // At one type: whether every statement in force holds, whether the two terms differ, and the words of its
 // restrictions and their fillers.
@@ -24,75 +24,57 @@ impl TypeData {
     pub const TYPES: usize = 4096;
 
     pub const BYTES: usize = 512;
-
-    // Three numbers for each record.
-    pub const CODE: usize = 3 * Record::LIMIT;
 }
 
-// What the data of a type is taken from, beside the lent tables: the terms a and b, the k atoms and their places, how many
-// statements are listed, and the restrictions.
+// What the data of a type is taken from: the vocabulary v, the terms a and b, the rules of the records, the places of the atoms
+// and of the statements in force, and the restrictions.
 #[derive(Clone, Copy)]
-pub struct Plan {
+pub struct Plan<'a> {
+    pub v: &'a [u8],
     pub a: usize,
     pub b: usize,
-    pub k: usize,
-    pub places: [u16; TypeData::ATOMS],
-    pub found: usize,
-    pub restrictions: Restrictions,
+    pub code: &'a [Rule],
+    pub atoms: &'a [u16],
+    pub statements: &'a [u16],
+    pub restrictions: &'a [Restriction],
+    pub ghost prepared: { Prepared v.now a b code.now atoms.now statements.now restrictions.now },
 }
 
-// The data of type t; `values` then holds its truths.
-fn describe(
-    v: &[u8],
-    plan: Plan,
-    code: &[u16; TypeData::CODE],
-    statements: &[u16; Record::LIMIT],
-    t: usize,
-    values: &mut [bool; Record::LIMIT],
-) -> TypeData
-    requires prepared { Prepared v.now plan code.now statements.now }
-    requires values_len { length values.old ≡ record_limit }
-    ensures value { result ≡ type_data_at v.now plan.a plan.b t }
-    ensures values_len_2 { length values.new ≡ record_limit }
-{
-    let a = plan.a;
-    let b = plan.b;
-    let places = plan.places;
-    truths(v, code, plan.k, &places, t, values);
-    let words = words_of(values, plan.restrictions);
-    TypeData {
-        satisfies: statements_hold(values, statements, plan.found),
-        differs: values[a] != values[b],
-        held: words.held,
-        filling: words.filling,
+impl Plan<'_> {
+    // The data of type t; `values` then holds its truths.
+    fn describe(&self, t: usize, values: &mut [bool; Record::LIMIT]) -> TypeData
+        ensures { result ≡ type_data_at self.now.v.now self.now.a self.now.b t }
+    {
+        self.truths(t, values);
+        let Words { held, filling } = self.words(values);
+        TypeData {
+            satisfies: self.statements_hold(values),
+            differs: values[self.a] != values[self.b],
+            held,
+            filling,
+        }
     }
-}
 
-// The data of all types, in tables of their own; `alive` has those at which the statements hold.
-pub fn describe_types(
-    v: &[u8],
-    plan: Plan,
-    code: &[u16; TypeData::CODE],
-    statements: &[u16; Record::LIMIT],
-    values: &mut [bool; Record::LIMIT],
-    alive: &mut [bool; TypeData::TYPES],
-    differs: &mut [bool; TypeData::TYPES],
-    held: &mut [u16; TypeData::TYPES],
-    filling: &mut [u16; TypeData::TYPES],
-)
-    requires prepared { Prepared v.now plan code.now statements.now }
-    requires blank { Blank values.old alive.old differs.old held.old filling.old }
-    ensures started { Started v.now plan.a plan.b alive.new differs.new }
-    ensures worded { Worded v.now held.new filling.new }
-{
-    let size = 1 << plan.k;
-    let mut t = 0;
-    while t < size {
-        let data = describe(v, plan, code, statements, t, values);
-        alive[t] = data.satisfies;
-        differs[t] = data.differs;
-        held[t] = data.held;
-        filling[t] = data.filling;
-        t += 1;
+    // The data of all types; `alive` has those at which the statements hold. A table for each part, not one of `TypeData`: the
+    // rounds read one part at a time, of many types.
+    pub fn describe_types(
+        &self,
+        alive: &mut [bool; TypeData::TYPES],
+        differs: &mut [bool; TypeData::TYPES],
+        held: &mut [u16; TypeData::TYPES],
+        filling: &mut [u16; TypeData::TYPES],
+    )
+        requires { Empty alive.old }
+        ensures started { Started self.now.v.now self.now.a self.now.b alive.new differs.new }
+        ensures worded { Worded self.now.v.now held.new filling.new }
+    {
+        let mut values = [false; Record::LIMIT];
+        for t in 0..1 << self.atoms.len() {
+            let data = self.describe(t, &mut values);
+            alive[t] = data.satisfies;
+            differs[t] = data.differs;
+            held[t] = data.held;
+            filling[t] = data.filling;
+        }
     }
 }

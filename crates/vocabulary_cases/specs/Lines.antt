@@ -3,7 +3,7 @@ use Rattle.std.specs.Prelude.{ℕ, ◌+◌, ◌^◌, ◌==◌, ◌<◌, ◌≤�
 use Rattle.records.specs.Outcome.{Outcome, accepted, refused}
 use Rattle.records.specs.Call.{record_call, record_part}
 use Rattle.records.specs.Check.{vocabulary_check}
-use Rattle.lent.specs.Told.{pair_bytes, quad_bytes, number_text}
+use Rattle.lent.specs.Told.{pair_bytes, quad_bytes, number_text, refusal_text}
 
 pub record Case : Type 0 where
   pub number : ℕ
@@ -17,15 +17,18 @@ Fits c = (length c.vocabulary ≤ 8192) × (c.number < 2 ^ 32)
 abbrev pub case_bytes : Case → List ℕ
 case_bytes c = pair_bytes (length c.vocabulary) ++ quad_bytes c.number ++ c.vocabulary
 
+-- 0 and what is answered, or the refusal and its place, and the byte that follows these
+abbrev pub answer_text : Outcome ℕ → ℕ → List ℕ
+answer_text (accepted answer) after = number_text 0 32 ++ number_text answer 32
+answer_text (refused number place) after = refusal_text number place after
+
 -- 0 and the number of records, or the refusal and its place
 abbrev pub counted_text : Outcome ℕ → List ℕ
-counted_text (accepted count) = number_text 0 32 ++ number_text count 32
-counted_text (refused number place) = number_text number 32 ++ number_text place 32
+counted_text outcome = answer_text outcome 32
 
 -- 0 and the offset, or the refusal and its place, which end the line
 abbrev pub located_text : Outcome ℕ → List ℕ
-located_text (accepted offset) = number_text 0 32 ++ number_text offset 32
-located_text (refused number place) = number_text number 32 ++ number_text place 10
+located_text outcome = answer_text outcome 10
 
 -- what follows a byte: after the last that is left a line end, and else a space
 abbrev pub byte_after : ℕ → ℕ

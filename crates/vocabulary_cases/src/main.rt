@@ -4,48 +4,30 @@
 // first, and the vocabulary.
 #![tactic(auto)]
 
-ghost use Rattle.std.specs.Prelude.{◌≡◌, ◌<◌, length, IfOk, OnOk, IfSome, MatchBool};
-ghost use Rattle.std.specs.Io.KnownBytes.{Appends, Consumes, Keeps};
-ghost use Rattle.records.specs.Answers.{counted, located};
-ghost use Rattle.lent.specs.Cases.{RunsCase, RunsCases};
-ghost use Rattle.vocabulary_cases.specs.Lines.{Fits, case_bytes, counted_text, located_text, byte_after, bytes_text, line_text};
+ghost use Rattle.std.specs.Prelude.{◌≡◌, ◌++◌, OnOk};
+ghost use Rattle.std.specs.Io.KnownBytes.{Appends};
+ghost use Rattle.records.specs.Refusals.{answered};
+ghost use Rattle.lent.specs.Told.{pair_bytes, quad_bytes};
+ghost use Rattle.vocabulary_cases.specs.Lines.{Case, Fits, case_bytes, answer_text, byte_after, bytes_text, line_text};
 ghost use Rattle.vocabulary_cases.specs.Lines.{case_line};
 
-use lent::{pair, print_number, quad, read_full};
-use records::answers::{Counted, Located};
+use lent::{Program, print_number, print_refusal, read_array, read_part, run_cases};
+use records::refusals::Refusal;
 use std::io;
 use std::io::{BufReader, BufWriter, Read, Write};
 
-// Writes 0 and the number of records, or the refusal and its place.
-fn print_counted<W: Write>(out: &mut W, answer: Counted) -> io::Result<()>
-    ensures { OnOk result (Appends (W.contents out.old) (W.contents out.new) (counted_text (counted answer))) }
+// Writes 0 and the number that is answered, or the refusal and its place, and what follows these.
+fn print_answer<W: Write>(
+    out: &mut W,
+    answer: Result<usize, Refusal>,
+    after_refusal: u8,
+) -> io::Result<()>
+    ensures { OnOk result (Appends (W.contents out.old) (W.contents out.new)
+        (answer_text (answered answer) after_refusal)) }
 {
     match answer {
-        Counted::Records(count) => {
-            print_number(out, 0, b' ')?;
-            print_number(out, count as u64, b' ')
-        }
-        Counted::Refused { number, place } => {
-            print_number(out, number as u64, b' ')?;
-            print_number(out, place as u64, b' ')
-        }
-    }
-}
-
-// Writes 0 and the offset, after which the bytes follow, or the refusal and its place, which end the
-// line.
-fn print_located<W: Write>(out: &mut W, answer: Located) -> io::Result<()>
-    ensures { OnOk result (Appends (W.contents out.old) (W.contents out.new) (located_text (located answer))) }
-{
-    match answer {
-        Located::At(offset) => {
-            print_number(out, 0, b' ')?;
-            print_number(out, offset as u64, b' ')
-        }
-        Located::Refused { number, place } => {
-            print_number(out, number as u64, b' ')?;
-            print_number(out, place as u64, b'\n')
-        }
+        Ok(number) => write!(out, "0 {number} "),
+        Err(refusal) => print_refusal(out, refusal, after_refusal),
     }
 }
 
@@ -60,10 +42,8 @@ fn after(left: usize) -> u8
 fn print_bytes<W: Write>(out: &mut W, part: &[u8]) -> io::Result<()>
     ensures { OnOk result (Appends (W.contents out.old) (W.contents out.new) (bytes_text part.now)) }
 {
-    let mut left = part.len();
-    for byte in part {
-        print_number(out, *byte as u64, after(left))?;
-        left -= 1;
+    for (i, byte) in part.iter().enumerate() {
+        print_number(out, u64::from(*byte), after(part.len() - i))?;
     }
     Ok(())
 }
@@ -72,70 +52,58 @@ fn print_bytes<W: Write>(out: &mut W, part: &[u8]) -> io::Result<()>
 fn print_case<W: Write>(out: &mut W, v: &[u8], number: u32) -> io::Result<()>
     ensures { OnOk result (Appends (W.contents out.old) (W.contents out.new) (line_text v.now number)) }
 {
-    print_counted(out, records::check_vocabulary(v))?;
-    print_located(out, records::find_record(v, number))?;
+    print_answer(out, records::check_vocabulary(v), b' ')?;
+    print_answer(out, records::find_record(v, number), b'\n')?;
     print_bytes(out, records::record(v, number))
 }
 
-// Reads a vocabulary that fills v, and writes the line of its case. Answers whether it stood there
-// whole.
-fn run_vocabulary<R: Read, W: Write>(
-    input: &mut R,
-    out: &mut W,
-    v: &mut [u8],
+// What stands before a vocabulary: its length, and a record number.
+#[derive(Clone, Copy)]
+struct Head {
+    length: u16,
     number: u32,
-) -> io::Result<bool>
-    ensures { IfOk result (λ whole. MatchBool whole
-        (Consumes (R.remaining input.old) (R.remaining input.new) v.new
-        × Appends (W.contents out.old) (W.contents out.new) (line_text v.new number))
-        (IfSome (R.remaining input.old) (λ xs. length xs < length v.new)
-        × Keeps (W.contents out.old) (W.contents out.new))) }
-{
-    let got = read_full(input, v)?;
-    if got < v.len() {
-        return Ok(false);
-    }
-    print_case(out, v, number)?;
-    Ok(true)
 }
 
-// Reads a case and writes its line. Answers whether a case stood there, and fitted into the space.
-fn run_case<R: Read, W: Write>(input: &mut R, out: &mut W) -> io::Result<bool>
-    ensures { IfOk result (RunsCase Fits case_bytes case_line
-        (R.remaining input.old) (R.remaining input.new) (W.contents out.old) (W.contents out.new)) }
-{
-    let mut head = [0u8; 6];
-    let got = read_full(input, &mut head)?;
-    if got < 6 {
-        return Ok(false);
-    }
-    let length = pair(head[0], head[1]) as usize;
-    let number = quad(pair(head[2], head[3]), pair(head[4], head[5]));
-    let mut space = [0u8; 8192];
-    if space.len() < length {
-        return Ok(false);
-    }
-    run_vocabulary(input, out, &mut space[..length], number)
-}
+impl From<[u8; 6]> for Head {
+    ghost from_gives = { λ bytes head. pair_bytes head.length ++ quad_bytes head.number ≡ bytes };
 
-// Runs the cases that the input begins with, up to where no whole case stands.
-fn run<R: Read, W: Write>(input: &mut R, out: &mut W) -> io::Result<()>
-    ensures { OnOk result (IfSome (R.remaining input.old)
-        (RunsCases Fits case_bytes case_line (W.contents out.old) (W.contents out.new))) }
-{
-    for _ in 0..u64::MAX {
-        if !run_case(input, out)? {
-            return Ok(());
+    fn from(bytes: [u8; 6]) -> Self {
+        Head {
+            length: u16::from_le_bytes([bytes[0], bytes[1]]),
+            number: u32::from_le_bytes([bytes[2], bytes[3], bytes[4], bytes[5]]),
         }
     }
-    Ok(())
 }
 
-// The lines of the cases that were run are written, also where the next could not be read.
+// The cases that this program runs.
+struct VocabularyCases;
+
+impl Program for VocabularyCases {
+    ghost Case = { Case };
+
+    ghost Fits = { Fits };
+
+    ghost bytes = { case_bytes };
+
+    ghost line = { case_line };
+
+    fn run_case<R: Read, W: Write>(input: &mut R, out: &mut W) -> io::Result<bool> {
+        let Some(bytes) = read_array::<R, 6>(input)? else {
+            return Ok(false);
+        };
+        let head = Head::from(bytes);
+        let mut space = [0u8; 8192];
+        let Some(v) = read_part(input, &mut space, usize::from(head.length))? else {
+            return Ok(false);
+        };
+        print_case(out, v, head.number)?;
+        Ok(true)
+    }
+}
+
+// (In each program: only `main` is given the runtime.)
 fn main(rt: HostRuntime) -> io::Result<()> {
     let mut input = BufReader::new(rt.alloc(), rt.reader())?;
     let mut out = BufWriter::new(rt.alloc(), io::writer(&rt))?;
-    let ran = run(&mut input, &mut out);
-    out.flush()?;
-    ran
+    run_cases::<VocabularyCases, _, _>(&mut input, &mut out)
 }

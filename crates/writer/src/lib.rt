@@ -1,7 +1,6 @@
 // The vocabulary writer: an empty vocabulary, terms and statements, in a lent buffer.
 #![tactic(auto)]
 
-pub mod answers;
 mod call;
 mod check;
 

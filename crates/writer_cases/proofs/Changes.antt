@@ -1,22 +1,16 @@
 -- What one byte more adds to the text of the bytes that changed.
 use Rattle.std.proofs.Common.{◌≡◌, ℕ, ◌+◌, ◌<◌, ◌≤◌, ◌==◌, Bool, true, false, not, List, [], ◌∷◌, ◌++◌, length, drop}
 use Rattle.std.proofs.Common.{slice_index, refl, sym, ap, ◌∙◌, subst, arith, Ok, Err, Result, OnOk, append_assoc}
-use Rattle.std.specs.Prelude.{◌&&◌}
+use Rattle.std.specs.Prelude.{◌&&◌, min}
 use Rattle.std.specs.declared.option.Option.{Option}
 use Rattle.std.proofs.lemmas.Grind.{common_steps}
 use Rattle.std.specs.Io.KnownBytes.{Appends}
 use Rattle.std.proofs.KnownBytes.{Appends-trans}
 use Rattle.writer_cases.specs.Lines.{place_text, end_text, changes_from, changes_text}
 
-pub none_changed : (none same inside new : Bool) → inside ≡ not same → inside ≡ true → new ≡ false → new ≡ (none && same)
-none_changed true true inside new is in_it now = grind (arith, common_steps, is, in_it, now)
-none_changed true false inside new is in_it now = now
-none_changed false same inside new is in_it now = now
-
-pub none_same : (none same inside new : Bool) → inside ≡ not same → inside ≡ false → new ≡ none → new ≡ (none && same)
-none_same true true inside new is in_it now = now
-none_same true false inside new is in_it now = grind (arith, common_steps, is, in_it, now)
-none_same false same inside new is in_it now = now
+pub still_none : (none same inside now : Bool) → inside ≡ not same → now ≡ (none && not inside) → now ≡ (none && same)
+still_none none true inside now is so = so ∙ ap (λ b. none && not b) is
+still_none none false inside now is so = so ∙ ap (λ b. none && not b) is
 
 pub change_more : (xs ys : List ℕ) (i : ℕ) (told : List ℕ) (none inside none_now inside_now : Bool) → i < length xs
     → i < length ys
@@ -37,21 +31,15 @@ change_more xs ys i told none inside none_now inside_now h k none-is inside-is i
     ∙ ap (λ l. told ++ changes_from i none inside (slice_index xs i ∷ drop (i + 1) xs) l) second)
     ∙ is
 
-pub before_ends : (xs zs : List ℕ) (i : ℕ) (none inside : Bool) → length xs ≤ i
-    → changes_from i none inside (drop i xs) zs ≡ end_text none inside
-before_ends xs zs i none inside h =
-    let nothing : drop i xs ≡ [] = grind (arith, common_steps, h) in
-    ap (λ l. changes_from i none inside l zs) nothing
+ends_now : (zs ws : List ℕ) (i : ℕ) (none inside : Bool) → min (length zs) (length ws) ≡ 0
+    → changes_from i none inside zs ws ≡ end_text none inside
+ends_now [] ws i none inside h = refl
+ends_now (z ∷ zs) [] i none inside h = refl
+ends_now (z ∷ zs) (w ∷ ws) i none inside h = absurd (grind (arith, common_steps, h))
 
-no_after : (zs : List ℕ) (i : ℕ) (none inside : Bool) → changes_from i none inside zs [] ≡ end_text none inside
-no_after [] i none inside = refl
-no_after (z ∷ zs) i none inside = refl
-
-pub after_ends : (zs ys : List ℕ) (i : ℕ) (none inside : Bool) → length ys ≤ i
-    → changes_from i none inside zs (drop i ys) ≡ end_text none inside
-after_ends zs ys i none inside h =
-    let nothing : drop i ys ≡ [] = grind (arith, common_steps, h) in
-    ap (λ l. changes_from i none inside zs l) nothing ∙ no_after zs i none inside
+pub one_ends : (xs ys : List ℕ) (i : ℕ) (none inside : Bool) → min (length xs) (length ys) ≤ i
+    → changes_from i none inside (drop i xs) (drop i ys) ≡ end_text none inside
+one_ends xs ys i none inside h = ends_now (drop i xs) (drop i ys) i none inside (grind (arith, common_steps, h))
 
 pub told_whole : {T E : Type 0} (r : Result T E) (a b c : Option (List ℕ)) (told rest end whole : List ℕ) → Appends a b told
     → told ++ rest ≡ whole → rest ≡ end

@@ -1,142 +1,54 @@
--- What input begins with a case, and what none does.
-use Rattle.std.proofs.Common.{◌≡◌, ℕ, ◌+◌, ◌*◌, ◌^◌, ◌<◌, ◌≤◌, List, [], ◌∷◌, ◌++◌, length, take, drop, slice_index, sym, ap}
-use Rattle.std.proofs.Common.{◌∙◌, subst, arith, IfSome, MatchBool, true, false, Bool, None, Some}
-use Rattle.std.specs.declared.option.Option.{Option}
-use Rattle.std.proofs.lemmas.Grind.{common_steps}
-use Rattle.std.specs.Io.KnownBytes.{Appends, Consumes}
-use Rattle.std.proofs.KnownBytes.{Consumes-trans}
-use Rattle.lent.specs.Cases.{HasNoCase, RunsCase}
-use Rattle.lent.specs.Told.{pair_bytes, filled}
-use Rattle.lent.proofs.Cases.{ends_after_head, listed}
-use Rattle.writer_cases.specs.Lines.{Case, Fits, eight_bytes, case_bytes, called, line_text, case_line}
+-- The bytes that the numbers of a head were read from, and the line of a case.
+use Rattle.std.proofs.Common.{◌≡◌, ℕ, ◌+◌, ◌*◌, ◌<◌, List, [], ◌∷◌, ◌++◌, length, take, drop, slice_index}
+use Rattle.std.proofs.Common.{sym, ap, ◌∙◌, arith}
+use Rattle.std.specs.Prelude.{◌%◌, ◌/◌}
+use Rattle.std.specs.Int.{w64, from_le_bytes}
+use Rattle.lent.specs.Told.{pair_bytes, quad_bytes, filled}
+use Rattle.lent.proofs.Heads.{quad_of_sum, from_index}
+use Rattle.writer_cases.specs.Lines.{Case, eight_bytes, called, line_text, space_of, case_line}
 
-pub long : (c : Case) → 19 ≤ length (case_bytes c)
-long c = grind (arith, common_steps)
+pub eight_read : (a b c d e f g h n : ℕ) → a < 256 → b < 256 → c < 256 → d < 256 → e < 256 → f < 256 → g < 256 → h < 256
+    → n ≡ from_le_bytes w64 (a ∷ b ∷ c ∷ d ∷ e ∷ f ∷ g ∷ h ∷ [])
+    → eight_bytes n ≡ a ∷ b ∷ c ∷ d ∷ e ∷ f ∷ g ∷ h ∷ []
+eight_read a b c d e f g h n la lb lc ld le lf lg lh is =
+    let low = a + 256 * b + 65536 * c + 16777216 * d in
+    let high = e + 256 * f + 65536 * g + 16777216 * h in
+    let whole : n ≡ low + 4294967296 * high = omega (arith, is) in
+    let lows : n % 4294967296 ≡ low = omega (arith, whole, la, lb, lc, ld) in
+    let highs : n / 4294967296 ≡ high = omega (arith, whole, la, lb, lc, ld) in
+    ap (λ l. l ++ quad_bytes (n / 4294967296)) (quad_of_sum a b c d _ la lb lc ld lows)
+    ∙ ap (λ l. (a ∷ b ∷ c ∷ d ∷ []) ++ l) (quad_of_sum e f g h _ le lf lg lh highs)
 
-head_is : (head : List ℕ) → length head ≡ 19
-    → head ≡ slice_index head 0 ∷ slice_index head 1 ∷ slice_index head 2 ∷ slice_index head 3 ∷ slice_index head 4 ∷ slice_index
-    head 5 ∷ slice_index head 6
-    ∷ slice_index head 7 ∷ slice_index head 8 ∷ slice_index head 9 ∷ slice_index head 10 ∷ slice_index head 11 ∷ slice_index head
-    12
-    ∷ slice_index head 13 ∷ slice_index head 14 ∷ slice_index head 15 ∷ slice_index head 16 ∷ slice_index head 17 ∷ slice_index
-    head 18 ∷ []
-head_is head h = listed 19 head h
+joined : (p p' q q' m r r' s s' u u' : List ℕ) → p ≡ p' → q ≡ q' → r ≡ r' → s ≡ s' → u ≡ u'
+    → p ++ q ++ m ++ r ++ s ++ u ≡ p' ++ q' ++ m ++ r' ++ s' ++ u'
+joined p p' q q' m r r' s s' u u' a b c d e = ap (λ l. l ++ q ++ m ++ r ++ s ++ u) a
+    ∙ ap (λ l. p' ++ l ++ m ++ r ++ s ++ u) b ∙ ap (λ l. p' ++ q' ++ m ++ l ++ s ++ u) c
+    ∙ ap (λ l. p' ++ q' ++ m ++ r' ++ l ++ u) d ∙ ap (λ l. p' ++ q' ++ m ++ r' ++ s' ++ l) e
 
-cut_off : (h0 h1 h2 h3 h4 h5 h6 h7 h8 h9 h10 h11 h12 h13 h14 h15 h16 h17 h18 : ℕ) (ys : List ℕ)
-    → (h0 + 256 * h1 ≤ 8192 → length ys < h0 + 256 * h1)
-    → HasNoCase Fits case_bytes (h0 ∷ h1 ∷ h2 ∷ h3 ∷ h4 ∷ h5 ∷ h6 ∷ h7 ∷ h8 ∷ h9 ∷ h10 ∷ h11 ∷ h12 ∷ h13 ∷ h14 ∷ h15 ∷ h16 ∷ h17
-    ∷ h18 ∷ ys)
-cut_off h0 h1 h2 h3 h4 h5 h6 h7 h8 h9 h10 h11 h12 h13 h14 h15 h16 h17 h18 ys h case rest fits is =
-    let size : h0 + 256 * h1 ≡ length case.beginning = grind (arith, ap (λ l. slice_index l 0) is, ap (λ l. slice_index l 1) is)
-    in
-    let less = h (omega (arith, size, fits.0)) in
-    absurd (grind (arith, common_steps, size, ap length is, less))
+pub head_read : (xs : List ℕ) (n lent a b used : ℕ) → length xs ≡ 19
+    → pair_bytes n ≡ slice_index xs 0 ∷ slice_index xs 1 ∷ []
+    → pair_bytes lent ≡ slice_index xs 2 ∷ slice_index xs 3 ∷ []
+    → pair_bytes a ≡ slice_index xs 7 ∷ slice_index xs 8 ∷ []
+    → pair_bytes b ≡ slice_index xs 9 ∷ slice_index xs 10 ∷ []
+    → eight_bytes used ≡ slice_index xs 11 ∷ slice_index xs 12 ∷ slice_index xs 13 ∷ slice_index xs 14 ∷ slice_index xs 15
+    ∷ slice_index xs 16 ∷ slice_index xs 17 ∷ slice_index xs 18 ∷ []
+    → pair_bytes n ++ pair_bytes lent ++ (slice_index xs 4 ∷ slice_index xs 5 ∷ slice_index xs 6 ∷ []) ++ pair_bytes a
+    ++ pair_bytes b ++ eight_bytes used
+    ≡ xs
+head_read xs n lent a b used size one two three four five =
+    joined _ _ _ _ (slice_index xs 4 ∷ slice_index xs 5 ∷ slice_index xs 6 ∷ []) _ _ _ _ _ _ one two three four five
+    ∙ sym (from_index 19 0 xs (omega (arith, size)))
 
-ends : (old mid : Option (List ℕ)) (head : List ℕ) (n : ℕ) → length head ≡ 19 → n ≡ slice_index head 0 + 256 * slice_index head 1
-    → Consumes old mid head → IfSome mid (λ ys. n ≤ 8192 → length ys < n) → IfSome old (HasNoCase Fits case_bytes)
-ends old mid head n size is read rest = ends_after_head Fits case_bytes old mid head read (each mid rest) where
-  each : (mid : Option (List ℕ)) → IfSome mid (λ ys. n ≤ 8192 → length ys < n)
-      → IfSome mid (λ ys. HasNoCase Fits case_bytes (head ++ ys))
-  each None rest = tt
-  each (Some ys) rest = subst (λ l. HasNoCase Fits case_bytes (l ++ ys)) (sym (head_is head size))
-      (cut_off _ _ _ _ _ _ _ _ _ _ _ _ _ _ _ _ _ _ _ ys
-      (λ room. subst (λ m. length ys < m) is (rest (subst (λ m. m ≤ 8192) (sym is) room))))
+-- the line of a case whose space and buffer are as the case says
+abbrev told : Case → List ℕ → List ℕ → List ℕ
+told c space buffer = line_text space buffer (called buffer c.used c.call c.kind c.a c.b)
 
-joined : (p p' q q' m r r' s s' u u' t : List ℕ) → p ≡ p' → q ≡ q' → r ≡ r' → s ≡ s' → u ≡ u'
-    → p' ++ q' ++ m ++ r' ++ s' ++ u' ++ t ≡ p ++ q ++ m ++ r ++ s ++ u ++ t
-joined p p' q q' m r r' s s' u u' t a b c d e = sym
-    (ap (λ l. l ++ q ++ m ++ r ++ s ++ u ++ t) a ∙ ap (λ l. p' ++ l ++ m ++ r ++ s ++ u ++ t) b
-    ∙ ap (λ l. p' ++ q' ++ m ++ l ++ s ++ u ++ t) c ∙ ap (λ l. p' ++ q' ++ m ++ r' ++ l ++ u ++ t) d
-    ∙ ap (λ l. p' ++ q' ++ m ++ r' ++ s' ++ l ++ t) e)
-
--- the case that so many bytes and what follows them are
-abbrev pub case_of : List ℕ → List ℕ → ℕ → ℕ → ℕ → ℕ → Case
-case_of head bytes lent a b used = record {
-  lent = lent;
-  seed = slice_index head 4;
-  call = slice_index head 5;
-  kind = slice_index head 6;
-  a = a;
-  b = b;
-  used = used;
-  beginning = bytes;
-}
-
-whole_case : (head bytes : List ℕ) (n lent a b used : ℕ) → length head ≡ 19 → length bytes ≡ n
-    → pair_bytes n ≡ slice_index head 0 ∷ slice_index head 1 ∷ []
-    → pair_bytes lent ≡ slice_index head 2 ∷ slice_index head 3 ∷ []
-    → pair_bytes a ≡ slice_index head 7 ∷ slice_index head 8 ∷ []
-    → pair_bytes b ≡ slice_index head 9 ∷ slice_index head 10 ∷ []
-    → eight_bytes used ≡ (slice_index head 11 ∷ slice_index head 12 ∷ []) ++ (slice_index head 13 ∷ slice_index head 14 ∷ [])
-    ++ (slice_index head 15 ∷ slice_index head 16 ∷ []) ++ (slice_index head 17 ∷ slice_index head 18 ∷ [])
-    → head ++ bytes ≡ case_bytes (case_of head bytes lent a b used)
-whole_case head bytes n lent a b used size is one two three four five = ap (λ l. l ++ bytes) (head_is head size)
-    ∙ joined _ _ _ _ (slice_index head 4 ∷ slice_index head 5 ∷ slice_index head 6 ∷ []) _ _ _ _ _ _ bytes
-    (ap pair_bytes is ∙ one) two three four five
-
-whole : (old mid new before after : Option (List ℕ)) (head bytes space buffer : List ℕ) (n lent a b used : ℕ) → length head ≡ 19
-    → length bytes ≡ n
-    → n + lent ≤ 8192 → used < 2 ^ 64
-    → pair_bytes n ≡ slice_index head 0 ∷ slice_index head 1 ∷ []
-    → pair_bytes lent ≡ slice_index head 2 ∷ slice_index head 3 ∷ []
-    → pair_bytes a ≡ slice_index head 7 ∷ slice_index head 8 ∷ []
-    → pair_bytes b ≡ slice_index head 9 ∷ slice_index head 10 ∷ []
-    → eight_bytes used ≡ (slice_index head 11 ∷ slice_index head 12 ∷ []) ++ (slice_index head 13 ∷ slice_index head 14 ∷ [])
-    ++ (slice_index head 15 ∷ slice_index head 16 ∷ []) ++ (slice_index head 17 ∷ slice_index head 18 ∷ [])
-    → space ≡ bytes ++ drop n (filled 8192 (slice_index head 4)) → buffer ≡ take (n + lent) space
-    → Consumes old mid head → Consumes mid new bytes
-    → Appends before after (line_text space buffer (called buffer used (slice_index head 5) (slice_index head 6) a b))
-    → RunsCase Fits case_bytes case_line old new before after true
-whole old mid new before after head bytes space buffer n lent a b used size is room low one two three four five space-is buffer-is
-    read rest line =
-    let case = case_of head bytes lent a b used in
-    let same : space ≡ bytes ++ drop (length bytes) (filled 8192 (slice_index head 4)) =
-    space-is ∙ ap (λ m. bytes ++ drop m (filled 8192 (slice_index head 4))) (sym is) in
-    let lent-is : buffer ≡ take (length bytes + lent) (bytes ++ drop (length bytes) (filled 8192 (slice_index head 4))) =
-    buffer-is ∙ ap (λ m. take (m + lent) space) (sym is) ∙ ap (take (length bytes + lent)) same in (
-      case,
-      (subst (λ m. m + lent ≤ 8192) (sym is) room, low),
-      subst (Consumes old new) (whole_case head bytes n lent a b used size is one two three four five)
-          (Consumes-trans _ _ _ _ _ read rest),
-      subst (λ l. Appends before after
-          (line_text l (take (length bytes + lent) (bytes ++ drop (length bytes) (filled 8192 (slice_index head 4))))
-          (called (take (length bytes + lent) (bytes ++ drop (length bytes) (filled 8192 (slice_index head 4)))) used
-          (slice_index head 5) (slice_index head 6) a b))) same
-          (subst (λ l. Appends before after (line_text space l (called l used (slice_index head 5) (slice_index head 6) a b)))
-          lent-is line),
-    )
-
--- what the space is read to, or that the input ends before
-abbrev pub Began : Bool → Option (List ℕ) → Option (List ℕ) → List ℕ → ℕ → ℕ → Type 0
-Began begun mid new space n seed = MatchBool begun
-    ((bytes : List ℕ) × (length bytes ≡ n) × (n ≤ length space) × Consumes mid new bytes
-    × (space ≡ bytes ++ drop n (filled (length space) seed)))
-    (IfSome mid (λ xs. n ≤ length space → length xs < n))
-
-pub not_begun : (begun : Bool) (old mid new : Option (List ℕ)) (head space : List ℕ) (n seed : ℕ) → begun ≡ false
-    → length head ≡ 19 → length space ≡ 8192
-    → n ≡ slice_index head 0 + 256 * slice_index head 1 → Consumes old mid head → Began begun mid new space n seed
-    → IfSome old (HasNoCase Fits case_bytes)
-not_begun true old mid new head space n seed f size large is read h = absurd (grind (arith, common_steps, f))
-not_begun false old mid new head space n seed f size large is read h =
-    ends old mid head n size is read (subst (λ m. IfSome mid (λ xs. n ≤ m → length xs < n)) large h)
-
-pub has_begun : (begun : Bool) (old mid new before after : Option (List ℕ)) (head space buffer : List ℕ) (n lent a b used : ℕ)
-    → begun ≡ true → length head ≡ 19
-    → length space ≡ 8192 → n + lent ≤ 8192 → used < 2 ^ 64
-    → pair_bytes n ≡ slice_index head 0 ∷ slice_index head 1 ∷ []
-    → pair_bytes lent ≡ slice_index head 2 ∷ slice_index head 3 ∷ []
-    → pair_bytes a ≡ slice_index head 7 ∷ slice_index head 8 ∷ []
-    → pair_bytes b ≡ slice_index head 9 ∷ slice_index head 10 ∷ []
-    → eight_bytes used ≡ (slice_index head 11 ∷ slice_index head 12 ∷ []) ++ (slice_index head 13 ∷ slice_index head 14 ∷ [])
-    ++ (slice_index head 15 ∷ slice_index head 16 ∷ []) ++ (slice_index head 17 ∷ slice_index head 18 ∷ [])
-    → buffer ≡ take (n + lent) space → Consumes old mid head → Began begun mid new space n (slice_index head 4)
-    → Appends before after (line_text space buffer (called buffer used (slice_index head 5) (slice_index head 6) a b))
-    → RunsCase Fits case_bytes case_line old new before after true
-has_begun true old mid new before after head space buffer n lent a b used t size large room low one two three four five buffer-is
-    read (bytes, is, fits, rest, space-is) line =
-    whole old mid new before after head bytes space buffer n lent a b used size is room low one two three four five
-    (subst (λ m. space ≡ bytes ++ drop n (filled m (slice_index head 4))) large space-is) buffer-is read rest line
-has_begun false old mid new before after head space buffer n lent a b used t size large room low one two three four five buffer-is
-    read h line =
-    absurd (grind (arith, common_steps, t))
+pub line_is : (c : Case) (n : ℕ) (space buffer : List ℕ) → length c.beginning ≡ n → length space ≡ 8192
+    → space ≡ c.beginning ++ drop n (filled (length space) c.seed) → buffer ≡ take (n + c.lent) space
+    → line_text space buffer (called buffer c.used c.call c.kind c.a c.b) ≡ case_line c
+line_is c n space buffer size large holds part =
+    let whole : space ≡ space_of c = holds ∙ ap (λ m. c.beginning ++ drop n (filled m c.seed)) large
+    ∙ ap (λ m. c.beginning ++ drop m (filled 8192 c.seed)) (sym size) in
+    let front : buffer ≡ take (length c.beginning + c.lent) (space_of c) = part ∙ ap (λ m. take (m + c.lent) space) (sym size)
+    ∙ ap (take (length c.beginning + c.lent)) whole in
+    ap (λ l. told c l buffer) whole ∙ ap (told c (space_of c)) front

@@ -6,40 +6,38 @@
 // first, and what the buffer begins with.
 #![tactic(auto)]
 
-ghost use Rattle.std.specs.Prelude.{◌≡◌, ◌+◌, ◌*◌, ◌<◌, ◌≤◌, ◌==◌, not, ℕ, List, ◌++◌, length, drop, IfOk, OnOk, IfSome};
+ghost use Rattle.std.specs.Prelude.{◌≡◌, ◌<◌, ◌≤◌, ◌==◌, not, List, ℕ, [], ◌∷◌, ◌++◌, length, drop, IfOk, OnOk, IfSome};
 ghost use Rattle.std.specs.Prelude.{MatchBool};
-ghost use Rattle.std.specs.Io.KnownBytes.{Appends, Consumes, Keeps};
-ghost use Rattle.writer.specs.Answers.{lengthened};
+ghost use Rattle.std.specs.Io.KnownBytes.{Appends, Consumes};
+ghost use Rattle.records.specs.Refusals.{answered};
 ghost use Rattle.writer.specs.Calls.{new_length, buffer_after};
-ghost use Rattle.lent.specs.Cases.{RunsCase, RunsCases};
-ghost use Rattle.lent.specs.Told.{quad_bytes, filled};
-ghost use Rattle.writer_cases.specs.Lines.{Fits, eight_bytes, case_bytes, answer_text, place_text, end_text, changes_text};
+ghost use Rattle.lent.specs.Told.{pair_bytes, filled};
+ghost use Rattle.writer_cases.specs.Lines.{Case, Fits, eight_bytes, case_bytes, answer_text, place_text, end_text, changes_text};
 ghost use Rattle.writer_cases.specs.Lines.{called, line_text, case_line};
 
-use lent::{fill, pair, print_hex, print_number, print_sums, quad, read_full};
+use lent::{
+    Program, fill, print_hex, print_number, print_refusal, print_sums, read_array, read_full,
+    run_cases,
+};
+use records::refusals::Refusal;
 use std::io;
 use std::io::{BufReader, BufWriter, Read, Write};
-use writer::answers::Lengthened;
 
 // Writes the answer's word and its numbers.
-fn print_answer<W: Write>(out: &mut W, answer: Lengthened) -> io::Result<()>
-    ensures { OnOk result (Appends (W.contents out.old) (W.contents out.new) (answer_text (lengthened answer))) }
+fn print_answer<W: Write>(out: &mut W, answer: Result<usize, Refusal>) -> io::Result<()>
+    ensures { OnOk result (Appends (W.contents out.old) (W.contents out.new) (answer_text (answered answer))) }
 {
     match answer {
-        Lengthened::Length(length) => {
-            out.write_all(b"length ")?;
-            print_number(out, length as u64, b' ')
-        }
-        Lengthened::Refused { number, place } => {
+        Ok(length) => write!(out, "length {length} "),
+        Err(refusal) => {
             out.write_all(b"refused ")?;
-            print_number(out, number as u64, b' ')?;
-            print_number(out, place as u64, b' ')
+            print_refusal(out, refusal, b' ')
         }
     }
 }
 
 // Writes a byte that changed, after its place where the byte before it did not change; where it did not change itself, ends
-// what was written before it. Answers whether it changed.
+// what was written before it. Answers whether it changed. (The flag is that of `place_text`.)
 fn print_place<W: Write>(
     out: &mut W,
     place: usize,
@@ -64,6 +62,7 @@ fn print_place<W: Write>(
 }
 
 // Ends what is written of the bytes that changed: with a dash where none did, and a space where the last byte did or none.
+// (The flags are those of `end_text`.)
 fn end_changes<W: Write>(out: &mut W, none: bool, inside: bool) -> io::Result<()>
     ensures { OnOk result (Appends (W.contents out.old) (W.contents out.new) (end_text none inside)) }
 {
@@ -82,54 +81,68 @@ fn print_changes<W: Write>(out: &mut W, before: &[u8], after: &[u8]) -> io::Resu
 {
     let mut none = true;
     let mut inside = false;
-    let mut i = 0;
-    while i < before.len() && i < after.len() {
+    for i in 0..before.len().min(after.len()) {
         inside = print_place(out, i, before[i], after[i], inside)?;
-        if inside {
-            none = false;
-        }
-        i += 1;
+        none = none && !inside;
     }
     end_changes(out, none, inside)
 }
 
-// The number in eight bytes, given as two numbers of four bytes.
-fn eight(low: u32, high: u32) -> u64
-    ensures value { result ≡ low + 4294967296 * high }
-    ensures bytes { eight_bytes result ≡ quad_bytes low ++ quad_bytes high }
-{
-    low as u64 + 4294967296 * (high as u64)
-}
-
-// Makes a call.
-fn write(buffer: &mut [u8], used: usize, call: u8, kind: u8, a: u16, b: u16) -> Lengthened
-    ensures result_value { lengthened result ≡ new_length (called buffer.old used call kind a b) }
-    ensures after { buffer.new ≡ buffer_after (called buffer.old used call kind a b) buffer.old }
-{
-    if call == 0 {
-        return writer::make_vocabulary(buffer, quad(a, b));
-    }
-    if call == 1 {
-        return writer::add_term(buffer, used, kind, a, b);
-    }
-    writer::add_statement(buffer, used, a, b)
-}
-
-// Makes a call in a buffer that holds what stands before it in another, and writes the line of the case.
-fn print_case<W: Write>(
-    out: &mut W,
-    before: &[u8],
-    buffer: &mut [u8],
-    used: usize,
+// What stands before what a buffer begins with: its length, the bytes lent behind it, their seed, the call, the length in use.
+#[derive(Clone, Copy)]
+struct Head {
+    length: u16,
+    lent: u16,
+    seed: u8,
     call: u8,
     kind: u8,
     a: u16,
     b: u16,
-) -> io::Result<()>
-    ensures { OnOk result (Appends (W.contents out.old) (W.contents out.new)
-        (line_text before.now buffer.old (called buffer.old used call kind a b))) }
+    used: u64,
+}
+
+impl From<[u8; 19]> for Head {
+    ghost from_gives = { λ bytes head. pair_bytes head.length ++ pair_bytes head.lent ++ (head.seed ∷ head.call ∷ head.kind ∷ [])
+        ++ pair_bytes head.a ++ pair_bytes head.b ++ eight_bytes head.used ≡ bytes };
+
+    fn from(bytes: [u8; 19]) -> Self {
+        Head {
+            length: u16::from_le_bytes([bytes[0], bytes[1]]),
+            lent: u16::from_le_bytes([bytes[2], bytes[3]]),
+            seed: bytes[4],
+            call: bytes[5],
+            kind: bytes[6],
+            a: u16::from_le_bytes([bytes[7], bytes[8]]),
+            b: u16::from_le_bytes([bytes[9], bytes[10]]),
+            used: u64::from_le_bytes([
+                bytes[11], bytes[12], bytes[13], bytes[14], bytes[15], bytes[16], bytes[17],
+                bytes[18],
+            ]),
+        }
+    }
+}
+
+// Makes a call.
+fn write(buffer: &mut [u8], head: Head) -> Result<usize, Refusal>
+    ensures result_value { answered result ≡ new_length (called buffer.old head.used head.call head.kind head.a head.b) }
+    ensures after { buffer.new ≡ buffer_after (called buffer.old head.used head.call head.kind head.a head.b) buffer.old }
 {
-    let answer = write(buffer, used, call, kind, a, b);
+    let used = head.used as usize;
+    // The stored cases have the number, and the role count in two; whatever is neither 0 nor 1 asks for a statement,
+    // so an enum would say no more.
+    match head.call {
+        0 => writer::make_vocabulary(buffer, u32::from(head.a) + 65536 * u32::from(head.b)),
+        1 => writer::add_term(buffer, used, head.kind, head.a, head.b),
+        _ => writer::add_statement(buffer, used, head.a, head.b),
+    }
+}
+
+// Makes a call in a buffer that holds what stands before it in another, and writes the line of the case.
+fn print_case<W: Write>(out: &mut W, before: &[u8], buffer: &mut [u8], head: Head) -> io::Result<()>
+    ensures { OnOk result (Appends (W.contents out.old) (W.contents out.new)
+        (line_text before.now buffer.old (called buffer.old head.used head.call head.kind head.a head.b))) }
+{
+    let answer = write(buffer, head);
     print_answer(out, answer)?;
     print_changes(out, before, buffer)?;
     print_sums(out, buffer, b'\n')
@@ -144,7 +157,8 @@ fn read_beginning<R: Read>(input: &mut R, space: &mut [u8], size: u16, seed: u8)
         (IfSome (R.remaining input.old) (λ xs. size ≤ length space.new → length xs < size))) }
 {
     fill(space, seed);
-    let n = size as usize;
+    let n = usize::from(size);
+    // Not `read_part`: of a space that is lent on in part a proof knows the length alone, and here all of it is asked for.
     if space.len() < n {
         return Ok(false);
     }
@@ -152,59 +166,40 @@ fn read_beginning<R: Read>(input: &mut R, space: &mut [u8], size: u16, seed: u8)
     Ok(got == n)
 }
 
-// Reads a case and writes its line. Answers whether a case stood there, and fitted into the space.
-fn run_case<R: Read, W: Write>(input: &mut R, out: &mut W) -> io::Result<bool>
-    ensures { IfOk result (RunsCase Fits case_bytes case_line
-        (R.remaining input.old) (R.remaining input.new) (W.contents out.old) (W.contents out.new)) }
-{
-    let mut head = [0u8; 19];
-    let got = read_full(input, &mut head)?;
-    if got < 19 {
-        return Ok(false);
-    }
-    let length = pair(head[0], head[1]);
-    let lent = length as usize + pair(head[2], head[3]) as usize;
-    let low = quad(pair(head[11], head[12]), pair(head[13], head[14]));
-    let high = quad(pair(head[15], head[16]), pair(head[17], head[18]));
-    let mut before = [0u8; 8192];
-    if !read_beginning(input, &mut before, length, head[4])? {
-        return Ok(false);
-    }
-    let mut space = before;
-    if space.len() < lent {
-        return Ok(false);
-    }
-    print_case(
-        out,
-        &before,
-        &mut space[..lent],
-        eight(low, high) as usize,
-        head[5],
-        head[6],
-        pair(head[7], head[8]),
-        pair(head[9], head[10]),
-    )?;
-    Ok(true)
-}
+// The cases that this program runs.
+struct WriterCases;
 
-// Runs the cases that the input begins with, up to where no whole case stands.
-fn run<R: Read, W: Write>(input: &mut R, out: &mut W) -> io::Result<()>
-    ensures { OnOk result (IfSome (R.remaining input.old)
-        (RunsCases Fits case_bytes case_line (W.contents out.old) (W.contents out.new))) }
-{
-    for _ in 0..u64::MAX {
-        if !run_case(input, out)? {
-            return Ok(());
+impl Program for WriterCases {
+    ghost Case = { Case };
+
+    ghost Fits = { Fits };
+
+    ghost bytes = { case_bytes };
+
+    ghost line = { case_line };
+
+    fn run_case<R: Read, W: Write>(input: &mut R, out: &mut W) -> io::Result<bool> {
+        let Some(bytes) = read_array::<R, 19>(input)? else {
+            return Ok(false);
+        };
+        let head = Head::from(bytes);
+        let mut before = [0u8; 8192];
+        if !read_beginning(input, &mut before, head.length, head.seed)? {
+            return Ok(false);
         }
+        let mut space = before;
+        let lent = usize::from(head.length) + usize::from(head.lent);
+        let Some(buffer) = space.get_mut(..lent) else {
+            return Ok(false);
+        };
+        print_case(out, &before, buffer, head)?;
+        Ok(true)
     }
-    Ok(())
 }
 
-// The lines of the cases that were run are written, also where the next could not be read.
+// (In each program: only `main` is given the runtime.)
 fn main(rt: HostRuntime) -> io::Result<()> {
     let mut input = BufReader::new(rt.alloc(), rt.reader())?;
     let mut out = BufWriter::new(rt.alloc(), io::writer(&rt))?;
-    let ran = run(&mut input, &mut out);
-    out.flush()?;
-    ran
+    run_cases::<WriterCases, _, _>(&mut input, &mut out)
 }

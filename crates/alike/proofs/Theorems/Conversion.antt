@@ -24,7 +24,7 @@ use Rattle.records.specs.Check.{named, labelled, sort_fits, row_fits, row_check,
 use Rattle.records.specs.Check.{link_check}
 use Rattle.records.specs.Check.{length_check, first_statement_check, header_fits, records_check, held_fits, vocabulary_rows}
 use Rattle.records.specs.Check.{vocabulary_check, IsWellFormed}
-use Rattle.records.specs.Kinds.{Sorts, sorts_of}
+use Rattle.records.specs.Kinds.{sorts_of}
 use Rattle.records.specs.declared.fields.Record.{Record}
 use Rattle.records.specs.declared.kinds.Sort.{Sort}
 use Rattle.records.specs.declared.kinds.Sort.TheVariants.{Spare, Term, Role, Label, Link}
@@ -37,6 +37,7 @@ use Rattle.records.proofs.Theorems.Bounds.{vocabulary-count}
 use Rattle.alike.specs.Editions.{DifferInEdition, in_edition}
 use Rattle.alike.proofs.Theorems.Truth.{atoms_alike}
 use Rattle.alike.proofs.Theorems.Editions.{kind_alike, a_alike, b_alike, record_alike, count_alike, editions_alike}
+use Rattle.records.specs.declared.kinds.Sorts.{Sorts}
 
 module _ (v w : List ℕ) (differ : DifferInEdition v w) where
   label_alike : (i kind label : ℕ) → labelled w i kind label ≡ labelled v i kind label

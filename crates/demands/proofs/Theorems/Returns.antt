@@ -11,36 +11,25 @@ use mathlib.Core.List.{List, ◌++◌}
 use lib.ListN.{length, drop, length-take, length-drop}
 use Rattle.records.specs.Outcome.{Outcome, accepted, refused}
 use Rattle.records.specs.Check.{vocabulary_check}
+use Rattle.std.proofs.Common.{Result, Ok, Err}
+use Rattle.records.specs.Refusals as calls
+use Rattle.records.specs.declared.refusals.Refusal.{Refusal}
 use Rattle.records.specs.Call.{record_call, part_for, record_part}
-use Rattle.records.specs.Answers as records
-use Rattle.records.specs.declared.answers.Counted.{Counted}
-use Rattle.records.specs.declared.answers.Counted.TheVariants as counted
-use Rattle.records.specs.declared.answers.Located.{Located}
-use Rattle.records.specs.declared.answers.Located.TheVariants as located
 use Rattle.records.proofs.Theorems.Bounds.{record_within}
 use Rattle.writer.specs.Additions.{Addition}
-use Rattle.writer.specs.Answers as writer
 use Rattle.writer.specs.Calls.{making, adding, new_length, buffer_after}
-use Rattle.writer.specs.declared.answers.Lengthened.{Lengthened}
-use Rattle.writer.specs.declared.answers.Lengthened.TheVariants as lengthened
 use Rattle.types.specs.declared.answers.Counts.{Counts}
-use Rattle.types.specs.Comparison.{equal, different, counts_of, comparison}
+use Rattle.types.specs.Comparison.{equal, different, comparison}
 use Rattle.types.specs.Bitmap.{written, HoldsSurvivors}
 use Rattle.types.specs.Answers as types
 use Rattle.types.specs.declared.answers.Compared.{Compared}
 use Rattle.types.specs.declared.answers.Compared.TheVariants as compared
 use Rattle.types.proofs.Theorems.Comparison.{Tally, tally, verdict_tally, different-first}
 use Rattle.taxonomy.specs.Taxonomy.{taxonomy_bytes, taxonomy, classification, tabulated}
-use Rattle.taxonomy.specs.Answers as answers
-use Rattle.taxonomy.specs.declared.answers.Classified.{Classified}
-use Rattle.taxonomy.specs.declared.answers.Classified.TheVariants as classified
 use Rattle.taxonomy.proofs.Theorems.Answers.{answered}
 use Rattle.records.proofs.Laws.Tests.{clash}
 use Rattle.scripts.specs.Format.{chain}
 use Rattle.scripts.specs.Run.{script_check}
-use Rattle.scripts.specs.Answers as scripts
-use Rattle.scripts.specs.declared.answers.Judged.{Judged}
-use Rattle.scripts.specs.declared.answers.Judged.TheVariants as judged
 use Rattle.scripts.proofs.Theorems.Scripts.{checked_parts, accepted-derives, accepted-within}
 use Rattle.demands.specs.Table.{Row, Follows}
 use Rattle.demands.specs.Returns.{VocabularyReturns, OffsetReturns, RecordReturns, handed, empty, SurvivorsTold, Smallest}
@@ -52,13 +41,14 @@ use Rattle.demands.proofs.Theorems.Tables.{vocabulary_follows, record_follows, c
 use Rattle.demands.proofs.Theorems.Tables.{classification_follows, script_follows, making_follows, addition_follows}
 use Rattle.demands.proofs.Theorems.Denials.{right-verdict}
 
-pub vocabulary_returns : (v : List ℕ) (r : Counted) → records.counted r ≡ vocabulary_check v → VocabularyReturns v r
-vocabulary_returns v (counted.Records n) e = (vocabulary_follows v).accepted_only n (sym e)
-vocabulary_returns v (counted.Refused n p) e = (vocabulary_follows v).refused_only n p (sym e)
+pub vocabulary_returns : (v : List ℕ) (r : Result ℕ Refusal) → calls.answered r ≡ vocabulary_check v → VocabularyReturns v r
+vocabulary_returns v (Ok n) e = (vocabulary_follows v).accepted_only n (sym e)
+vocabulary_returns v (Err r) e = (vocabulary_follows v).refused_only _ _ (sym e)
 
-pub offset_returns : (v : List ℕ) (number : ℕ) (r : Located) → records.located r ≡ record_call v number → OffsetReturns v number r
-offset_returns v number (located.At n) e = (record_follows v number).accepted_only n (sym e)
-offset_returns v number (located.Refused n p) e = (record_follows v number).refused_only n p (sym e)
+pub offset_returns : (v : List ℕ) (number : ℕ) (r : Result ℕ Refusal)
+    → calls.answered r ≡ record_call v number → OffsetReturns v number r
+offset_returns v number (Ok n) e = (record_follows v number).accepted_only n (sym e)
+offset_returns v number (Err r) e = (record_follows v number).refused_only _ _ (sym e)
 
 pub record_returns : (v : List ℕ) (number : ℕ) (part : List ℕ) → part ≡ record_part v number → RecordReturns v number part
 record_returns v number part e = at (record_call v number) refl e
@@ -71,10 +61,10 @@ record_returns v number part e = at (record_call v number) refl e
     at (refused n p) q h = empty n p ((record_follows v number).refused_only n p q) h
 
 -- The answer of a call that follows its table and writes the survivors.
-survivors_told : {A : Type 0} {rows : List Row} {value : A} {o : Outcome A} (v before after : List ℕ) (x : A) (alive done : ℕ)
-    → Follows rows value o → o ≡ accepted x → after ≡ written o v before → Tally v alive done
-    → HoldsSurvivors v (written o v before) → SurvivorsTold rows v before after alive done
-survivors_told v before after x alive done f e w c held =
+survivors_told : {A : Type 0} {rows : List Row} {value : A} {o : Outcome A} (v before after : List ℕ) (x : A) (counts : Counts)
+    → Follows rows value o → o ≡ accepted x → after ≡ written o v before → Tally v counts.survivors counts.rounds
+    → HoldsSurvivors v (written o v before) → SurvivorsTold rows v before after counts
+survivors_told v before after x counts f e w c held =
     record {
       none = (f.accepted_only x e).0;
       counted = c.0;
@@ -89,78 +79,80 @@ module _ (v : List ℕ) (a b : ℕ) (before after : List ℕ) where
   smallest t s n e =
       let w = different-first v a b (length before) t s n e in record { survives = w.0; differ = w.1; before = w.2 }
 
-  pub comparison_returns : (r : Compared) → types.compared r ≡ comparison v a b (length before)
+  pub comparison_returns : (r : Result Compared Refusal) → types.compared r ≡ comparison v a b (length before)
       → after ≡ written (comparison v a b (length before)) v before → ComparisonReturns v a b before after r
-  comparison_returns (compared.Equal s n) e w =
+  comparison_returns (Ok (compared.Equal counts)) e w =
       let f = comparison_follows v a b (length before) in
-      let c = verdict_tally v a b (length before) (equal s n) (sym e) in
-      let held = writes-survivors.compares v before a b (equal s n) (sym e) in
-      (right-verdict v a b before (equal s n) (sym e), survivors_told v before after (equal s n) s n f (sym e) w c held)
-  comparison_returns (compared.Different t s n) e w =
+      let x = equal counts.survivors counts.rounds in
+      let c = verdict_tally v a b (length before) x (sym e) in
+      let held = writes-survivors.compares v before a b x (sym e) in
+      (right-verdict v a b before x (sym e), survivors_told v before after x counts f (sym e) w c held)
+  comparison_returns (Ok (compared.Different t counts)) e w =
       let f = comparison_follows v a b (length before) in
-      let c = verdict_tally v a b (length before) (different t s n) (sym e) in
-      let held = writes-survivors.compares v before a b (different t s n) (sym e) in
-      let apart = right-verdict v a b before (different t s n) (sym e) in (
+      let x = different t counts.survivors counts.rounds in
+      let c = verdict_tally v a b (length before) x (sym e) in
+      let held = writes-survivors.compares v before a b x (sym e) in
+      let apart = right-verdict v a b before x (sym e) in (
         apart.0,
         rw w apart.1,
-        smallest t s n (sym e),
-        survivors_told v before after (different t s n) s n f (sym e) w c held,
+        smallest t counts.survivors counts.rounds (sym e),
+        survivors_told v before after x counts f (sym e) w c held,
       )
-  comparison_returns (compared.Refused n p) e w =
-      ((comparison_follows v a b (length before)).refused_only n p (sym e), w ∙ rw (← e))
+  comparison_returns (Err r) e w =
+      ((comparison_follows v a b (length before)).refused_only _ _ (sym e), w ∙ rw (← e))
 
 module _ (v before after room filled : List ℕ) where
   abbrev outcome : Outcome Counts
   outcome = classification v (length before) (length room)
 
-  pub classification_returns : (r : Classified) → answers.classified r ≡ outcome → after ≡ written outcome v before
+  pub classification_returns : (r : Result Counts Refusal) → calls.answered r ≡ outcome → after ≡ written outcome v before
       → filled ≡ tabulated outcome v room → ClassificationReturns v before after room filled r
-  classification_returns (classified.Counts s n) e w k =
+  classification_returns (Ok counts) e w k =
       let f = classification_follows v (length before) (length room) in
-      let c = answered v (length before) (length room) (counts_of s n) (sym e) in
+      let c = answered v (length before) (length room) counts (sym e) in
       let wrote : filled ≡ taxonomy v ++ drop taxonomy_bytes room = k ∙ rw (← e) in (
-        survivors_told v before after (counts_of s n) s n f (sym e) w (tally v (counts_of s n) c.answer)
-            (writes-survivors.classifies v before room (counts_of s n) (sym e)),
+        survivors_told v before after counts counts f (sym e) w (tally v counts c.answer)
+            (writes-survivors.classifies v before room counts (sym e)),
         wrote,
         right-table v c.good c.few room filled c.second wrote,
       )
-  classification_returns (classified.Refused n p) e w k =
-      ((classification_follows v (length before) (length room)).refused_only n p (sym e), w ∙ rw (← e), k ∙ rw (← e))
+  classification_returns (Err r) e w k =
+      ((classification_follows v (length before) (length room)).refused_only _ _ (sym e), w ∙ rw (← e), k ∙ rw (← e))
 
-pub script_returns : (v s : List ℕ) (r : Judged) → scripts.judged r ≡ script_check v s → ScriptReturns v s r
-script_returns v s (judged.Accepted n) e =
+pub script_returns : (v s : List ℕ) (r : Result ℕ Refusal) → calls.answered r ≡ script_check v s → ScriptReturns v s r
+script_returns v s (Ok n) e =
     record {
       none = ((script_follows v s).accepted_only n (sym e)).0;
       always = accepted-within v s n (sym e);
       derives = accepted-derives v s n (sym e);
       counted = (checked_parts v s n (sym e)).counted;
     }
-script_returns v s (judged.Refused n p) e = (
-  (script_follows v s).refused_only n p (sym e),
+script_returns v s (Err r) e = (
+  (script_follows v s).refused_only _ _ (sym e),
   λ good kept derives.
       let accepts = (demand_2.exact v s good kept).always derives in
-      let no : refused n p ≡ accepted (length (chain s)) = e ∙ accepts in
+      let no : refused (calls.number_of r.row) r.place ≡ accepted (length (chain s)) = e ∙ accepts in
       clash (cc),
 )
 
-pub making_returns : (before : List ℕ) (roles : ℕ) (after : List ℕ) (r : Lengthened)
-    → writer.lengthened r ≡ new_length (making (length before) roles)
+pub making_returns : (before : List ℕ) (roles : ℕ) (after : List ℕ) (r : Result ℕ Refusal)
+    → calls.answered r ≡ new_length (making (length before) roles)
     → after ≡ buffer_after (making (length before) roles) before → MakingReturns before roles after r
-making_returns before roles after (lengthened.Length n) e w =
+making_returns before roles after (Ok n) e w =
     let f = (making_follows (length before) roles).accepted_only n (sym e) in
     (f.0, f.1, rw w (writes_vocabularies.makes before roles n (sym e)))
-making_returns before roles after (lengthened.Refused n p) e w = (
-  (making_follows (length before) roles).refused_only n p (sym e),
-  w ∙ demand_1.unmade before roles n p (sym e),
+making_returns before roles after (Err r) e w = (
+  (making_follows (length before) roles).refused_only _ _ (sym e),
+  w ∙ demand_1.unmade before roles _ _ (sym e),
 )
 
-pub addition_returns : (before : List ℕ) (used : ℕ) (x : Addition) (after : List ℕ) (r : Lengthened)
-    → writer.lengthened r ≡ new_length (adding before used x) → after ≡ buffer_after (adding before used x) before
+pub addition_returns : (before : List ℕ) (used : ℕ) (x : Addition) (after : List ℕ) (r : Result ℕ Refusal)
+    → calls.answered r ≡ new_length (adding before used x) → after ≡ buffer_after (adding before used x) before
     → AdditionReturns before used x after r
-addition_returns before used x after (lengthened.Length n) e w =
+addition_returns before used x after (Ok n) e w =
     let f = (addition_follows before used x).accepted_only n (sym e) in
     rw w (f.0, f.1, rw f.1 (addition-accepted before used x n (sym e)), writes_vocabularies.only before used n x (sym e))
-addition_returns before used x after (lengthened.Refused n p) e w = (
-  (addition_follows before used x).refused_only n p (sym e),
-  w ∙ demand_1.unadded before used n p x (sym e),
+addition_returns before used x after (Err r) e w = (
+  (addition_follows before used x).refused_only _ _ (sym e),
+  w ∙ demand_1.unadded before used _ _ x (sym e),
 )

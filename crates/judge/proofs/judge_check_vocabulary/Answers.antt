@@ -1,14 +1,14 @@
--- `judge::judge_check_vocabulary` meets its contract. The answer's count or place is at most 512, so that it fits its bits.
+-- `judge::judge_check_vocabulary` meets its contract. The answer fits its bits (`taken_apart`).
 -- Assumes nothing.
-use native.Mathlib.Omega.{arith}
+use Prim.Native.Nat.{ℕ, ◌<◌, ◌^◌}
 use mathlib.Core.Path.{sym, subst}
-use Rattle.records.specs.Outcome.{refused}
-use Rattle.records.specs.Format.{record_limit}
-use Rattle.demands.proofs.Theorems.Bounds.{Small, vocabulary-small}
+use Rattle.records.specs.Outcome.{Outcome}
+use Rattle.judge.specs.Packed.{value_of}
+use Rattle.judge.proofs.Unpacked.{taken_apart, unpacks_fits}
 use Rattle.judge.proofs.judge_check_vocabulary.Goals as goal
 
-pub pack-requires-in-Refused : goal.pack-requires-in-Refused
-pack-requires-in-Refused c =
-    let small : Small record_limit (refused c.in-Refused.number c.in-Refused.place) =
-    subst (Small _) (sym c.in-Refused.ensures.result_value) (vocabulary-small c.args.vocabulary.now) in
-    omega (arith, small)
+pub pack_answer-requires : goal.pack_answer-requires
+pack_answer-requires c =
+    let a = c.args in
+    subst (λ (o : Outcome ℕ). value_of o < 2 ^ 32) (sym c.check_vocabulary.ensures.result_value)
+    (unpacks_fits _ _ (taken_apart.vocabulary a.vocabulary.now))

@@ -1,17 +1,15 @@
--- `judge::judge_record` meets its contract. The answer's offset is below 4,096 and its place a 32-bit number, so that it fits
--- its bits.
+-- `judge::judge_record` meets its contract. The answer fits its bits (`taken_apart`).
 -- Assumes nothing.
-use Prim.Native.Nat.{◌*◌, max}
+use Prim.Native.Nat.{ℕ, ◌<◌, ◌^◌}
 use native.Mathlib.Omega.{arith}
 use mathlib.Core.Path.{sym, subst}
-use Rattle.records.specs.Outcome.{refused}
-use Rattle.records.specs.Format.{record_size, record_limit}
-use Rattle.demands.proofs.Theorems.Bounds.{Small, record_small}
+use Rattle.records.specs.Outcome.{Outcome}
+use Rattle.judge.specs.Packed.{value_of}
+use Rattle.judge.proofs.Unpacked.{taken_apart, unpacks_fits}
 use Rattle.judge.proofs.judge_record.Goals as goal
 
-pub pack-requires-in-Refused : goal.pack-requires-in-Refused
-pack-requires-in-Refused c =
+pub pack_answer-requires : goal.pack_answer-requires
+pack_answer-requires c =
     let a = c.args in
-    let small : Small (max (record_size * record_limit) a.number) (refused c.in-Refused.row c.in-Refused.place) =
-    subst (Small _) (sym c.in-Refused.ensures.result_value) (record_small a.vocabulary.now a.number) in
-    omega (arith, small)
+    subst (λ (o : Outcome ℕ). value_of o < 2 ^ 32) (sym c.find_record.ensures.result_value)
+    (unpacks_fits _ _ (taken_apart.recording a.vocabulary.now a.number (omega arith)))

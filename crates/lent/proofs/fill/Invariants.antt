@@ -1,12 +1,10 @@
--- The bytes before `i` are filled; the measure is the number of bytes that are left.
-use Rattle.std.proofs.Common.{◌≡◌, ◌-◌, ◌<◌, ◌≤◌, ◌+◌, ◌*◌, ℕ, length, take, slice_index}
+-- The bytes that the loop has passed are filled.
+use Rattle.std.proofs.Common.{◌≡◌, ◌<◌, ◌+◌, ◌*◌, ℕ, take, slice_index}
 use Rattle.std.specs.Prelude.{◌%◌}
 use Rattle.lent.specs.Told.{filled}
 use Rattle.lent.proofs.fill.Given as goal
 
-abbrev pub invariant-loop-i : goal.invariant-loop-i
-invariant-loop-i l = (l.value ≡ (7 * l.i + l.seed) % 256) × (length l.buffer ≡ length l.initial.buffer) × (l.i ≤ length l.buffer)
-    × (take l.i l.buffer ≡ filled l.i l.seed) × ((k : ℕ) → k < l.i → slice_index l.buffer k ≡ (7 * k + l.seed) % 256)
-
-abbrev pub decreases-loop-i : goal.decreases-loop-i
-decreases-loop-i l = length l.buffer - l.i
+abbrev pub invariant-loop-byte : goal.invariant-loop-byte
+invariant-loop-byte l = (l.value ≡ (7 * l.byte-index + l.seed) % 256)
+    × (take l.byte-index l.byte-items ≡ filled l.byte-index l.seed)
+    × ((k : ℕ) → k < l.byte-index → slice_index l.byte-items k ≡ (7 * k + l.seed) % 256)

@@ -1,5 +1,5 @@
 -- Numbers by their bits.
---   digit-small                a truth as a digit
+--   digit-small, digit-from    a truth as a digit
 --   bit-first, bit-rest        the bits of a number one bit longer
 --   bit-number, number_small   the bits of a number given by them
 --   number_cong, number_step   two numbers, and a number built from the top
@@ -17,11 +17,17 @@ use lib.Dec.{eqb, eqb-zero-suc, eqb-suc-zero, eqb-suc-suc}
 use lib.Bits.{bit_or, or_shr, or_mod, bit_and, and_shr, and_mod}
 use lib.Pow.{shr_lt, shr-shr}
 use borrow.Author.Tests.{eq-eqb, ne_eqb}
+use mir.Val.{bool_byte}
 use Rattle.records.specs.Finite.{bit, number, digit}
 
 pub digit-small : (b : Bool) → digit b < 2
 digit-small true = omega arith
 digit-small false = omega arith
+
+-- as `from` makes a number of a truth
+pub digit-from : (b : Bool) → bool_byte b ≡ digit b
+digit-from true = refl
+digit-from false = refl
 
 digit-eqb : (b : Bool) → eqb (digit b) 1 ≡ b
 digit-eqb true = refl

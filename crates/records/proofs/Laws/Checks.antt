@@ -3,11 +3,11 @@
 --   refusal_same, then_stops                   a refusal's number and place; what a check before a value refuses
 --   then_same                                  what comes after a check that passed
 --   RefusesAt, require_at, then_at, in_rows_at checks that refuse at one place
---   then_refused, then_refused_as, then_fine   a chain `a then b` where the first check refuses, or passes
+--   then_refused, then_fine                    a chain `a then b` where the first check refuses, or passes
 --   require_test                               a row whose test was made by a call
---   checked_fine                               a check whose answer is `Fine`
 --   in_rows-same                               `in_rows` of which each row is the same
 --   turn_refused, turn_passed, turns_end       `in_turn` at one turn, and past its end
+--   turns                                      these three: what a search for the goals of a loop applies
 --   require_passed, then_passed                a row that passed; both checks of a chain that was accepted
 --   turn_at, turns_pass, turns_last            each check of a run that passed; all of them; a run with one more at its end
 -- Assumes nothing.
@@ -22,9 +22,6 @@ use lib.Dec.{eqb}
 use borrow.Author.Tests.{eq-eqb}
 use Rattle.records.specs.Finite.{occurs}
 use Rattle.records.specs.Outcome.{Outcome, Check, accepted, refused, pass, ◌then◌, require, in_rows, in_turn}
-use Rattle.records.specs.Answers.{checked}
-use Rattle.records.specs.declared.answers.Checked.{Checked}
-use Rattle.records.specs.declared.answers.Checked.TheVariants.{Fine, Refused}
 use Rattle.records.proofs.Laws.Tests.{clash}
 
 pub then_assoc : {A B C : Type 0} (a : Outcome A) (b : Outcome B) (c : Outcome C) → ((a then b) then c) ≡ (a then b then c)
@@ -77,38 +74,31 @@ pub then_pass : (a : Check) → (a then pass) ≡ a
 then_pass (accepted u) = refl
 then_pass (refused n p) = refl
 
-module _ (k : Checked) {B : Type 0} (a : Check) (b : Outcome B) where
-  -- what was made of a refusal
-  pub then_refused_as : (o x : Outcome B) (n p : ℕ) → o ≡ (checked k then x) → checked k ≡ a → k ≡ Refused n p → o ≡ (a then b)
-  then_refused_as o x n p m e r = m ∙ rw (← e, r)
+pub then_refused : (o a b : Check) (n p : ℕ) → o ≡ a → o ≡ refused n p → o ≡ (a then b)
+then_refused o a b n p e r = r ∙ rw (← e, r)
 
-  pub then_fine : (o : Outcome B) → checked k ≡ a → k ≡ Fine → o ≡ b → o ≡ (a then b)
-  then_fine o e r q = q ∙ rw (← e, r)
+pub then_fine : {B : Type 0} (c a : Check) (b o : Outcome B) → c ≡ a → c ≡ pass → o ≡ b → o ≡ (a then b)
+then_fine c a b o e r q = q ∙ rw (← e, r)
 
 pub require_test : (o : Check) (t x : Bool) (n p : ℕ) → o ≡ require t n p → t ≡ x → o ≡ require x n p
 require_test o t x n p h e = h ∙ rw e
-
-pub checked_fine : (k : Checked) (a : Check) → checked k ≡ a → k ≡ Fine → a ≡ pass
-checked_fine k a e r = sym e ∙ rw r
-
-pub then_refused : (k : Checked) (a b : Check) (n p : ℕ) → checked k ≡ a → k ≡ Refused n p → checked k ≡ (a then b)
-then_refused k a b n p e r = rw (← e, r)
 
 module _ (check : ℕ → Check) (i n : ℕ) where
   turn : i < n → in_turn check i (n - i) ≡ (check i then in_turn check (i + 1) (n - (i + 1)))
   unfolding in_turn
   turn h = let e : n - i ≡ suc (n - (i + 1)) = omega arith in rw (e, add-one)
 
-  pub turns_end : n ≤ i → in_turn check i (n - i) ≡ pass
+  pub turn_refused : (o : Check) (a b : ℕ) → i < n → o ≡ in_turn check i (n - i) → refused a b ≡ check i → refused a b ≡ o
+  turn_refused o a b h e r = rw (e, turn h, ← r)
+
+  pub turn_passed : (o : Check) → i < n → o ≡ in_turn check i (n - i) → pass ≡ check i → o ≡ in_turn check (i + 1) (n - (i + 1))
+  turn_passed o h e r = e ∙ turn h ∙ rw (← r)
+
+  pub turns_end : (o : Check) → n ≤ i → o ≡ in_turn check i (n - i) → pass ≡ o
   unfolding in_turn
-  turns_end h = let e : n - i ≡ 0 = omega arith in rw e
+  turns_end o h e = let none : n - i ≡ 0 = omega arith in sym (e ∙ rw none)
 
-  pub turn_refused : (k : Checked) (a b : ℕ) → i < n → checked k ≡ check i → k ≡ Refused a b → checked k ≡ in_turn check i (n - i)
-  turn_refused k a b h e r = then_refused k (check i) _ a b e r ∙ sym (turn h)
-
-  pub turn_passed : (k : Checked) → i < n → checked k ≡ check i → k ≡ Fine
-      → in_turn check i (n - i) ≡ in_turn check (i + 1) (n - (i + 1))
-  turn_passed k h e r = turn h ∙ sym (then_fine k (check i) _ _ e r refl)
+pub ruleset turns = (turn_refused, turn_passed, turns_end)
 
 pub require_passed : (b : Bool) (n p : ℕ) → require b n p ≡ pass → b ≡ true
 require_passed true n p e = refl

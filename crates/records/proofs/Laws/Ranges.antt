@@ -16,10 +16,12 @@ use mathlib.Core.Logic.{◌⊎◌, inl, inr}
 use lib.ListN.{length, get_or, get_or-eq_default}
 use lib.Dec.{leb, eqb}
 use borrow.Author.Tests.{eq-eqb, ne_eqb, lt-leb, leb-true, eqb-true}
-use Rattle.records.specs.Kinds.{Class, Silent, Connective, Name, Restriction, Statement, are_terms, are_atoms, are_names}
+use Rattle.records.specs.Kinds.{are_terms, are_atoms, are_names}
 use Rattle.records.specs.Kinds.{are_restrictions, are_statements, Kind}
 use Rattle.records.specs.Kinds.{no_kind, kinds, kind_of, is_term, is_atom, is_name, is_restriction, is_statement}
 use Rattle.records.proofs.Laws.Tests.{clash, both_left, both_right}
+use Rattle.records.specs.declared.kinds.Class.{Class}
+use Rattle.records.specs.declared.kinds.Class.TheVariants.{Silent, Connective, Name, Restriction, Statement}
 
 -- What holds at each of n numbers from k on.
 abbrev pub Run : (ℕ → Type 0) → ℕ → ℕ → Type 0

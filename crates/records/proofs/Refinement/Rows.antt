@@ -1,10 +1,8 @@
 -- The rows of fields at a record, by the faults of its three fields.
 --   rows_fit             where all three fields fit, the rows pass
---   rows_unfit           where not all do, the smallest row of those that do not is the first that applies
---   rows_told            the same, where each field was asked once
+--   rows_told            where each was asked, the smallest row of those that do not fit is the first that applies
+--   record_passes        rows 3 to 7 at a record that fits
 --   rows_passed          where the rows pass, all three fit
---   rows_at, rows_of     the rows of a record, where its sorts were told by its kind, or asked for one by one
---   first-statement_at   row 8 at the header, put together from what the callees answered
 -- Assumes nothing.
 use Prim.Native.Nat.{ℕ, min, ◌<◌, ◌≤◌}
 use native.Mathlib.Omega.{arith}
@@ -17,14 +15,18 @@ use lib.Dec.{eqb}
 use borrow.Author.Tests.{eq-eqb, ne_eqb, eqb-true}
 use Rattle.records.specs.Finite.{occurs}
 use Rattle.records.specs.Outcome.{Check, refused, pass, require, in_rows}
-use Rattle.records.specs.Format.{record_at}
-use Rattle.records.specs.Kinds.{sorts_of, Sorts, sorts}
-use Rattle.records.specs.Check.{sort_fits, row, clear, row_check, field_rows, rows_check, link_fits, first_statement_check}
-use Rattle.records.specs.Code.Fields.{field_fits, all_fit, no_fault, first_of}
+use Rattle.records.specs.declared.kinds.Sorts.{Sorts}
+use Rattle.records.specs.Kinds.{sorts_of}
+use Rattle.records.specs.Check.{sort_fits, row, clear, row_check, field_rows, kind_fits, rows_check, fields_check}
+use Rattle.records.specs.Code.Fields.{field_fits, all_fit, no_fault, number_or_none, first_of, record_fits}
+use Rattle.records.specs.Refusals.{number_of}
+use Rattle.records.specs.declared.refusals.Row.{Row}
+use Rattle.records.specs.declared.refusals.Row.TheVariants as row
+use Rattle.std.proofs.Common.{Option, Some, None}
 use Rattle.records.specs.declared.fields.Record.{Record}
 use Rattle.records.specs.declared.kinds.Sort.{Sort}
 use Rattle.records.specs.declared.kinds.Sort.TheVariants.{Spare, Term, Role, Label, Link}
-use Rattle.records.proofs.Laws.Tests.{clash}
+use Rattle.records.proofs.Laws.Tests.{clash, both_left, both_right}
 use Rattle.records.proofs.Laws.Checks.{require_passed, in_rows-same}
 use Rattle.records.proofs.Laws.Lists.{All, occurs_nil, occurs_cons, all-occurs}
 use Rattle.records.proofs.Theorems.Following.{Rising, rising_above}
@@ -163,7 +165,47 @@ module _ (v : List ℕ) (i : ℕ) (s : Sorts) (r : Record) where
         clear_fault v i n s.next r.next o,
       ))
 
--- Where all fit, or not all, and the smallest row is of the first that applies.
+-- The answer for a row that refuses, or none.
+abbrev verdict : ℕ → Option Row → Check
+verdict i None = pass
+verdict i (Some row) = refused (number_of row) i
+
+number_small : (x : Row) → number_of x < no_fault
+number_small row.Length = omega arith
+number_small row.Header = omega arith
+number_small row.Kind = omega arith
+number_small row.Unused = omega arith
+number_small row.Operand = omega arith
+number_small row.Role = omega arith
+number_small row.Label = omega arith
+number_small row.Link = omega arith
+number_small row.RecordNumber = omega arith
+number_small row.QueryTerm = omega arith
+number_small row.AtomLimit = omega arith
+number_small row.SurvivorRoom = omega arith
+number_small row.ScriptLength = omega arith
+number_small row.ScriptHeader = omega arith
+number_small row.EntryKind = omega arith
+number_small row.EntryUnused = omega arith
+number_small row.EntryTerm = omega arith
+number_small row.Step = omega arith
+number_small row.StepLink = omega arith
+number_small row.Start = omega arith
+number_small row.Connection = omega arith
+number_small row.Reduction = omega arith
+number_small row.FrameLimit = omega arith
+number_small row.FrameLeft = omega arith
+number_small row.AllClosed = omega arith
+number_small row.TaxonomyRoom = omega arith
+number_small row.RecordRoom = omega arith
+number_small row.AtomsHeld = omega arith
+
+verdict_number : (i : ℕ) (o : Option Row)
+    → verdict i o ≡ require (eqb (number_or_none o) no_fault) (number_or_none o) i
+verdict_number i None = refl
+verdict_number i (Some x) = rw (ne_eqb (number_of x) no_fault (λ e. omega (arith, number_small x, e)))
+
+-- Where all fit, or each was asked and the smallest row is of the first that applies.
 module _ (v : List ℕ) (i : ℕ) (s : Sorts) (r : Record) where
   abbrev fit_a : Bool
   fit_a = field_fits v i s.a r.a
@@ -183,24 +225,16 @@ module _ (v : List ℕ) (i : ℕ) (s : Sorts) (r : Record) where
       at true false c e = absurd (clash (cc))
       at false b c e = absurd (clash (cc))
 
-  pub rows_unfit : (o a b c : Bool) (m : ℕ) → o ≡ all_fit v i s r → o ≡ false → a ≡ fit_a → b ≡ fit_b → c ≡ fit_next
-      → m ≡ first_of s a b c → refused m i ≡ rows_check v i s r
-  rows_unfit o a b c m e t fa fb fc q = rw (q, fa, fb, fc) (at fit_a fit_b fit_next (sym e ∙ t) ∙ rows-first v i s r)
-    where
-      under : (n : ℕ) → n < no_fault → refused n i ≡ require (eqb n no_fault) n i
-      under n h = rw (ne_eqb n no_fault (λ z. omega arith))
+  -- or each was asked
+  pub rows_told : (o : Option Row) (a b c : Bool) → number_or_none o ≡ first_of s a b c
+      → a ≡ fit_a → b ≡ fit_b → c ≡ fit_next → verdict i o ≡ rows_check v i s r
+  rows_told o a b c q e f g = verdict_number i o ∙ rw (q, e, f, g) (rows-first v i s r)
 
-      at : (a b c : Bool) → (a && (b && c)) ≡ false
-          → refused (first_of s a b c) i ≡ require (eqb (first_of s a b c) no_fault) (first_of s a b c) i
-      at true true true e = absurd (clash (cc))
-      at true true false e = under (first_of s true true false) (omega (arith, row_small s.next))
-      at true false c e = under (first_of s true false c) (omega (arith, row_small s.b))
-      at false b c e = under (first_of s false b c) (omega (arith, row_small s.a))
-
-  -- or each was asked once
-  pub rows_told : (o : Check) (m : ℕ) (a b c : Bool) → o ≡ require (eqb m no_fault) m i → m ≡ first_of s a b c
-      → a ≡ fit_a → b ≡ fit_b → c ≡ fit_next → o ≡ rows_check v i s r
-  rows_told o m a b c e q fa fb fc = e ∙ rw (q, fa, fb, fc) (rows-first v i s r)
+-- Rows 3 to 7, where all fit.
+pub record_passes : (v : List ℕ) (i : ℕ) (r : Record) → record_fits v i r ≡ true → pass ≡ fields_check v i r
+record_passes v i r e =
+    let rest = all_fit v i (sorts_of r.kind) r in
+    rw (both_left (kind_fits r) rest e) (rows_fit v i (sorts_of r.kind) r rest refl (both_right (kind_fits r) rest e))
 
 -- What passed rows tell.
 module _ (v : List ℕ) (i : ℕ) (s : Sorts) (r : Record) (e : rows_check v i s r ≡ pass) where
@@ -223,18 +257,3 @@ module _ (v : List ℕ) (i : ℕ) (s : Sorts) (r : Record) (e : rows_check v i s
     unfaulted s.b r.b (omega (arith, none)),
     unfaulted s.next r.next (omega (arith, none)),
   )
-
--- The sorts told by the kind.
-pub rows_at : (v : List ℕ) (i : ℕ) (r : Record) (s : Sorts) (o : Check)
-    → o ≡ rows_check v i s r → s ≡ sorts_of r.kind → o ≡ rows_check v i (sorts_of r.kind) r
-rows_at v i r s o h e = rw e at h
-
--- The sorts asked for one by one.
-pub rows_of : (v : List ℕ) (i : ℕ) (r : Record) (a b next : Sort) (o : Check) → o ≡ rows_check v i (sorts a b next) r
-    → a ≡ (sorts_of r.kind).a → b ≡ (sorts_of r.kind).b → next ≡ (sorts_of r.kind).next
-    → o ≡ rows_check v i (sorts_of r.kind) r
-rows_of v i r a b next o h p q s = h ∙ rw (p, q, s)
-
-pub first-statement_at : (v : List ℕ) (r : Record) (fit : Bool) (o : Check)
-    → r ≡ record_at v 0 → fit ≡ link_fits v 0 r.a → o ≡ require fit 8 0 → o ≡ first_statement_check v
-first-statement_at v r fit o e f h = h ∙ rw (f, e)

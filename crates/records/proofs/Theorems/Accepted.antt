@@ -23,9 +23,9 @@ use Rattle.records.specs.Finite.{occurs}
 use Rattle.records.specs.Outcome.{Outcome, Check, accepted, refused, pass, ◌then◌, in_turn}
 use Rattle.records.specs.Format.{record_size, record_limit, role_limit, record_at, count, first_statement, role_count}
 use Rattle.records.specs.Kinds.{Construct, none, top, bottom, name, negation, conjunction, disjunction, existential}
-use Rattle.records.specs.Kinds.{universal, inclusion, sorts, negation_fields, restriction_fields, Class, Silent, Connective}
-use Rattle.records.specs.Kinds.{Name, Restriction, Statement, Kind, no_kind, kinds, kind_of, sorts_of, is_term, is_statement}
-use Rattle.records.specs.Kinds.{Sorts}
+use Rattle.records.specs.Kinds.{universal, inclusion, sorts, negation_fields, restriction_fields}
+use Rattle.records.specs.Kinds.{Kind, no_kind, kinds, kind_of, sorts_of, is_term, is_statement}
+use Rattle.records.specs.declared.kinds.Sorts.{Sorts}
 use Rattle.records.specs.Check.{first_statement_check, length_fits, length_check, header_fits, header_check, kind_check, named}
 use Rattle.records.specs.Check.{labelled, term_fits, link_fits, rows_check, record_check, next_fits, link_check, links_check}
 use Rattle.records.specs.Check.{IsWellFormed, records_check, held_fits, held_check, vocabulary_rows, vocabulary_check}
@@ -41,6 +41,8 @@ use Rattle.records.proofs.Theorems.Following.{Ahead, Onward}
 use Rattle.records.proofs.Laws.Ranges.{statement_range, statement-kind}
 use Rattle.records.proofs.Refinement.Rows.{rows_passed}
 use Rattle.records.proofs.Laws.Lists.{All, all_map, all_default}
+use Rattle.records.specs.declared.kinds.Class.{Class}
+use Rattle.records.specs.declared.kinds.Class.TheVariants.{Silent, Connective, Name, Restriction, Statement}
 
 -- Row 1 passed: 8 to 4,096 bytes, a multiple of 8.
 pub record Sized (v : List ℕ) : Type 0 where

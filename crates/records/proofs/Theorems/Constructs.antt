@@ -18,13 +18,14 @@ use mathlib.Core.List.{List}
 use lib.ListN.{get_or, take, drop, drop_of_length-le}
 use lib.Seq.{get_or-drop}
 use Rattle.records.specs.Format.{record_size, record_at, count, role_count}
-use Rattle.records.specs.Kinds.{Construct, none, inclusion, construct_of, are_atoms, are_restrictions, are_statements, Class}
+use Rattle.records.specs.Kinds.{Construct, none, inclusion, construct_of, are_atoms, are_restrictions, are_statements}
 use Rattle.records.specs.Kinds.{Kind, no_kind, kind_of, kinds, is_atom, is_restriction, is_statement}
 use Rattle.records.specs.declared.fields.Record.{Record}
 use Rattle.records.proofs.Theorems.Accepted.{Sized, AcceptedFacts, WellFounded, Operand, Over, over-map, parts_of}
 use Rattle.records.proofs.Theorems.Accepted.{fields_well_founded}
 use Rattle.records.proofs.Laws.Ranges.{tested, kind_tested, same_true}
 use Rattle.records.proofs.Laws.Lists.{all_default}
+use Rattle.records.specs.declared.kinds.Class.{Class}
 pub use Rattle.records.proofs.Laws.Ranges.{kind_past}
 pub use Rattle.records.proofs.Theorems.Accepted.{RoleBelow}
 

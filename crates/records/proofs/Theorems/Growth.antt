@@ -21,7 +21,8 @@ use borrow.Author.Tests.{lt-ltb, le-ltb, le-leb, eq-eqb, ne_eqb, eqb-true}
 use Rattle.records.specs.Outcome.{accepted, pass, ◌then◌, in_turn}
 use Rattle.records.specs.Finite.{digit, occurs, last_or}
 use Rattle.records.specs.Format.{record_size, record_limit, record_at, count, first_statement, edition, atoms_held}
-use Rattle.records.specs.Kinds.{Sorts, kind_of, is_atom, is_statement, sorts_of}
+use Rattle.records.specs.Kinds.{kind_of, is_atom, is_statement, sorts_of}
+use Rattle.records.specs.declared.kinds.Sorts.{Sorts}
 use Rattle.records.specs.Atoms.{rank, atoms}
 use Rattle.records.specs.Chain.{next_statement, follow, chain, chain_end}
 use Rattle.records.specs.Check.{length_check, header_fits, header_check, named, labelled, term_fits, link_fits}

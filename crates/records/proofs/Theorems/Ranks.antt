@@ -13,13 +13,15 @@ use mathlib.Core.Path.{◌≡◌, refl}
 use mathlib.Core.Bool.{Bool, true}
 use mathlib.Core.List.{List}
 use Rattle.records.specs.Format.{record_at, count}
-use Rattle.records.specs.Kinds.{Class, Silent, Connective, Name, Restriction, Statement, are_atoms, are_names, kind_of}
+use Rattle.records.specs.Kinds.{are_atoms, are_names, kind_of}
 use Rattle.records.specs.Kinds.{is_atom, is_name}
 use Rattle.records.specs.Finite.{digit}
 use Rattle.records.specs.Atoms.{rank, atoms}
 use Rattle.records.proofs.Laws.Bits.{digit-small}
 use Rattle.records.proofs.Laws.Tests.{clash}
 use Rattle.records.proofs.Laws.Listing.{entries, entries_none, entries-length}
+use Rattle.records.specs.declared.kinds.Class.{Class}
+use Rattle.records.specs.declared.kinds.Class.TheVariants.{Silent, Connective, Name, Restriction, Statement}
 
 pub rank_turn : (v : List ℕ) (i found : ℕ) (b : Bool) → found ≡ rank v i → is_atom (record_at v i).kind ≡ b
     → found + digit b ≡ rank v (i + 1)

@@ -31,13 +31,14 @@ use Rattle.scripts.proofs.Refinement.Terms.{First, Applied, term_record, applied
 use Rattle.scripts.proofs.Refinement.Terms.{term-positive, header_code, first_code, applied_code, code_unique}
 
 -- tables of zeros
-pub blank_tables : (s : List ℕ) (n : ℕ) → TermsBefore s n → 1 < n → Blank s (replicate (link_count * n) 0) (replicate n 0)
-blank_tables s n h some =
+pub blank_tables : (s : List ℕ) (m n end : ℕ) → TermsBefore s end → end ≤ n → 1 < n → m ≡ link_count * n
+    → Blank s (replicate m 0) (replicate n 0)
+blank_tables s m n end h k some e =
     record {
-      room = λ m r. rw (length-replicate {A = ℕ} n 0) (h m r);
+      room = λ t r. rw (length-replicate {A = ℕ} n 0) (omega (arith, h t r));
       some = rw (length-replicate {A = ℕ} n 0) some;
-      size = rw (length-replicate {A = ℕ} n 0) (length-replicate {A = ℕ} (link_count * n) 0);
-      empty = zeros (link_count * n);
+      size = rw (length-replicate {A = ℕ} n 0) (length-replicate {A = ℕ} m 0 ∙ e);
+      empty = zeros m;
       header = zeros n 0;
     }
 

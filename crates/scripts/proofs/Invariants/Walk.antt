@@ -7,15 +7,12 @@
 -- Assumes nothing.
 use Prim.Native.Nat.{ℕ, suc, ◌+◌, ◌≤◌, ◌<◌}
 use native.Mathlib.Omega.{arith}
-use mathlib.Core.Path.{◌≡◌, sym, ap, subst, ◌∙◌}
+use mathlib.Core.Path.{◌≡◌, sym, subst, ◌∙◌}
 use mathlib.Core.List.{List, [], ◌∷◌}
 use mathlib.Core.Logic.{inl, inr}
 use lib.ListN.{length}
-use lib.Dec.{eqb}
+use Rattle.records.specs.Finite.{is_nil}
 use Rattle.records.specs.Outcome.{Outcome, Check, accepted, refused, pass, ◌then◌, require}
-use Rattle.records.specs.Answers.{checked}
-use Rattle.records.specs.declared.answers.Checked.{Checked}
-use Rattle.records.specs.declared.answers.Checked.TheVariants.{Refused}
 use Rattle.records.proofs.Theorems.Following.{Onward, follow_nil, follow-step, left, left_falls}
 use Rattle.scripts.specs.Format.{entry_limit, entries, record_step, next_step, chain_from}
 use Rattle.scripts.specs.Run.{Frames, step_check, stepped, run}
@@ -23,7 +20,6 @@ use Rattle.scripts.specs.Code.Numbered.{numbered}
 use Rattle.scripts.specs.Code.Tested.{steps_after, run_after}
 use Rattle.scripts.specs.Code.Ready.{IsStep, Reached}
 use Rattle.scripts.proofs.Theorems.Form.{KeepsForm, IsStepAt, OnChain, chain-few}
-use Rattle.scripts.proofs.Refinement.Frames.{nil_frames}
 
 pub standing : (s : List ℕ) (i : ℕ) → Reached s i → (i ≡ 0 → ⊥) → IsStep s i
 standing s i (inl e) n = absurd (n e)
@@ -105,17 +101,13 @@ module _ (v s : List ℕ) (f : KeepsForm v s) where
           few = rw n (omega arith);
         }
 
-    pub walk_refused : (answer : Outcome ℕ) (k : Checked) (n p : ℕ) → IsStep s at → checked k ≡ check
-        → k ≡ Refused n p → answer ≡ (checked k then accepted 0) → answer ≡ whole
-    walk_refused answer k n p t e r a =
-        let no : check ≡ refused n p = sym e ∙ ap checked r in
-        a ∙ (rw (r) (sym (w.run ∙ (further t ∙ rw no))))
+    pub walk_refused : (n p : ℕ) → IsStep s at → refused n p ≡ check → refused n p ≡ whole
+    walk_refused n p t e = sym (w.run ∙ (further t ∙ rw (← e)))
 
-pub walk_done : (v s : List ℕ) (whole : Outcome ℕ) (frames : Frames ℕ) (n last at steps : ℕ)
-    → Walk v s whole frames last at steps → n ≡ length frames → at ≡ 0 → (answer : Outcome ℕ) (k : Check)
-    → k ≡ require (eqb n 0) 24 last → answer ≡ (k then accepted steps) → answer ≡ whole
+pub walk_done : (v s : List ℕ) (whole : Outcome ℕ) (frames : Frames ℕ) (last at steps : ℕ)
+    → Walk v s whole frames last at steps → at ≡ 0 → (require (is_nil frames) 24 last then accepted steps) ≡ whole
 unfolding run
-walk_done v s whole frames n last at steps w d z answer k e a =
+walk_done v s whole frames last at steps w z =
     let none : chain_from s at ≡ [] = rw z (chain_end_lem s) in
     let same : steps + 0 ≡ steps = omega arith in
-    a ∙ (rw (e, nil_frames frames n d) (sym (w.run ∙ rw (none, same))))
+    sym (w.run ∙ rw (none, same))

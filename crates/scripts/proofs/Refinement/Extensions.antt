@@ -16,12 +16,13 @@ use Rattle.records.proofs.Laws.Tests.{both_left, both_right}
 use Rattle.records.proofs.Theorems.Accepted.{AcceptedFacts, accepted-vocabulary}
 use Rattle.columns.specs.Literals.{SkolemTerm, apply}
 use Rattle.columns.specs.Columns.{column_at, takes_y}
+use Rattle.records.specs.Outcome.{pass}
+use Rattle.records.specs.Check.{IsAccepted}
 use Rattle.scripts.specs.Steps.{Extension, extension}
 use Rattle.scripts.specs.Format.{entries, query_of, extension_of, term_at}
-use Rattle.scripts.specs.Form.{earlier_term, x_fits, y_fits, step_fits}
+use Rattle.scripts.specs.Form.{earlier_term, x_fits, y_fits, step_fits, form_check}
 use Rattle.scripts.specs.Code.Codes.{TermRecord, origin, function_limit, code_of, code_at, code_term}
-use Rattle.scripts.specs.Code.Ready.{Ready, IsExtension}
-use Rattle.scripts.specs.declared.entry.Entry.{Entry}
+use Rattle.scripts.specs.Code.Ready.{IsExtension}
 use Rattle.scripts.specs.declared.entry.StepRecord.{StepRecord}
 use Rattle.scripts.proofs.Refinement.Lines.{step-extension}
 use Rattle.scripts.proofs.Theorems.Form.{KeepsForm, keeps_form}
@@ -81,12 +82,12 @@ module _ (v s : List ℕ) (good : AcceptedFacts v) (f : KeepsForm v s) where
       }
 
 -- The same of a step that was read.
-pub read_extends : (v s : List ℕ) (marks : List Bool) (header : Entry) → Ready v s marks header → (t : StepRecord)
-    → IsExtension s t → Extends v s (extension_of t.entry)
-read_extends v s marks header r t x =
-    let f = keeps_form v s r.form in
+pub read_extends : (v s : List ℕ) → IsAccepted v → form_check v s ≡ pass → (t : StepRecord) → IsExtension s t
+    → Extends v s (extension_of t.entry)
+read_extends v s accepted form t x =
+    let f = keeps_form v s form in
     let i = t.number in
     let here = x.read.step in
-    extends v s (accepted-vocabulary v _ r.begun.marked.vocabulary) f i (extension_of t.entry)
+    extends v s (accepted-vocabulary v _ accepted) f i (extension_of t.entry)
     (omega (arith, here.within))
     (step-extension v s i t.entry x.kind ∙ (rw x.read.read (f.steps i here.positive here.within)))

@@ -7,20 +7,14 @@
 -- Assumes nothing.
 use Prim.Native.Nat.{ℕ, zero, suc, ◌≤◌}
 use native.Mathlib.Omega.{arith}
-use mathlib.Core.Path.{◌≡◌, refl, sym, ap, ◌∙◌}
-use mathlib.Core.Bool.{Bool, true, false, not}
+use mathlib.Core.Path.{◌≡◌, sym, ap, ◌∙◌}
 use mathlib.Core.List.{List, [], ◌∷◌}
-use lib.ListN.{length, get_or}
-use lib.Dec.{eqb}
-use borrow.Author.Tests.{leb-true, eqb-true, eqb-false, ne_eqb, not-true, not-false}
-use Rattle.records.specs.Outcome.{Outcome, accepted, refused, pass, ◌then◌, require}
-use Rattle.records.specs.Answers.{checked}
-use Rattle.records.specs.declared.answers.Checked.{Checked}
-use Rattle.records.specs.declared.answers.Checked.TheVariants.{Refused}
-use Rattle.records.proofs.Laws.Tests.{clash}
+use lib.ListN.{get_or}
+use borrow.Author.Tests.{leb-true}
+use Rattle.records.specs.Outcome.{refused}
 use Rattle.columns.specs.Columns.{Query, query_columns, columns_at}
-use Rattle.columns.specs.Code.Packed.{packed_at, until_zero}
-use Rattle.scripts.specs.Format.{entry_at, query_in, first_step, record_step, chain_from, chain}
+use Rattle.columns.specs.Code.Packed.{packed_at}
+use Rattle.scripts.specs.Format.{entry_at, query_of, first_step, record_step, chain_from, chain}
 use Rattle.scripts.specs.Run.{stepped, chain_check}
 use Rattle.scripts.specs.Code.Numbered.{start_numbers, numbered}
 use Rattle.scripts.specs.Code.Tested.{steps_after, start_outcome, chain_outcome}
@@ -31,28 +25,16 @@ use Rattle.scripts.proofs.Refinement.Stepping.{step_starting, step_other}
 use Rattle.scripts.proofs.Theorems.Form.{KeepsForm}
 use Rattle.scripts.proofs.Invariants.Walk.{standing, reached, chain_at, chain_end_lem}
 
--- a row whose check refused
-row-refused : (k : Checked) (t : Bool) (a b n p : ℕ) → checked k ≡ require t a b → k ≡ Refused n p → t ≡ false
-row-refused k true a b n p e r = let no : refused n p ≡ pass = sym (ap checked r) ∙ e in absurd (clash (cc))
-row-refused k false a b n p e r = refl
+pub start_single : (q : Query) (n d : ℕ) (c : List ℕ) → n ≤ 1 → c ≡ packed_at 0 0 0 (get_or (query_columns q) n [])
+    → c ≡ get_or c 0 d ∷ []
+start_single q zero d c h e = rw e
+start_single q (suc zero) d c h e = rw e
+start_single q (suc (suc n)) d c h e = absurd (omega arith)
 
--- a list of one number
-single : (a b c x : ℕ) → until_zero a b c ≡ x ∷ [] → until_zero a b c ≡ a ∷ []
-single zero b c x e = let n : ◌≡◌ {A = ℕ} 0 1 = ap length e in absurd (clash n)
-single (suc a) zero c x e = refl
-single (suc a) (suc b) zero x e = let n : ◌≡◌ {A = ℕ} 2 1 = ap length e in absurd (omega arith)
-single (suc a) (suc b) (suc c) x e = let n : ◌≡◌ {A = ℕ} 3 1 = ap length e in absurd (omega arith)
-
-pub start_single : (q : Query) (n a b c : ℕ) → n ≤ 1 → until_zero a b c ≡ packed_at 0 0 0 (get_or (query_columns q) n [])
-    → until_zero a b c ≡ a ∷ []
-start_single q zero a b c h e = single a b c _ e
-start_single q (suc zero) a b c h e = single a b c _ e
-start_single q (suc (suc n)) a b c h e = absurd (omega arith)
-
-pub start-column : (v s : List ℕ) (h : Entry) → h ≡ entry_at s 0 → (n : ℕ) (c : List ℕ)
-    → c ≡ packed_at 0 0 0 (get_or (query_columns (query_in h)) n []) → c ≡ start_numbers v s n
+pub start-column : (v s : List ℕ) (q : Query) → q ≡ query_of s → (n : ℕ) (c : List ℕ)
+    → c ≡ packed_at 0 0 0 (get_or (query_columns q) n []) → c ≡ start_numbers v s n
 unfolding columns_at
-start-column v s h q n c e = e ∙ ap (λ (x : Entry). packed_at 0 0 0 (get_or (query_columns (query_in x)) n [])) q
+start-column v s q e n c h = h ∙ ap (λ (x : Query). packed_at 0 0 0 (get_or (query_columns x) n [])) e
 
 pub start-frames : (v s : List ℕ) (i : ℕ) (e : Entry) → e ≡ entry_at s i → e.w0 ≡ 3
     → start_numbers v s e.w1 ∷ [] ≡ stepped (numbered v s) [] (record_step s i)
@@ -63,28 +45,23 @@ module _ (v s : List ℕ) (f : KeepsForm v s) where
   pub start-listed : (i : ℕ) (e : Entry) → e ≡ entry_at s i → IsStep s i → e.w0 ≡ 3 → e.w1 ≤ 1
   start-listed i e q t h = leb-true e.w1 1 (step_start v s i e h ∙ (rw q (f.steps i t.positive t.within)))
 
-  pub first_step_lem : (first : ℕ) → first ≡ first_step s → not (eqb first 0) ≡ true → IsStep s first
+  pub first_step_lem : (first : ℕ) → first ≡ first_step s → (first ≡ 0 → ⊥) → IsStep s first
   first_step_lem first e n =
-      standing s first (rw e (reached s 0 (first_step s) f.first)) (eqb-false first 0 (not-true (eqb first 0) n))
+      standing s first (rw e (reached s 0 (first_step s) f.first)) n
 
-  pub chain-none : (answer : Outcome ℕ) (k : Checked) (first n p : ℕ) → first ≡ first_step s → k ≡ Refused n p
-      → checked k ≡ require (not (eqb first 0)) 20 0 → answer ≡ (checked k then accepted 0) → answer ≡ chain_outcome v s
+  pub chain-none : (first : ℕ) → first ≡ first_step s → first ≡ 0 → refused 20 0 ≡ chain_outcome v s
   unfolding chain_check
-  chain-none answer k first n p e r h a =
-      let zero' = eqb-true first 0 (not-false (eqb first 0) (row-refused k (not (eqb first 0)) 20 0 n p h r)) in
-      let none : chain s ≡ [] = ap (chain_from s) (sym e ∙ zero') ∙ chain_end_lem s in
-      a ∙ rw (h, zero', none)
+  chain-none first e z =
+      let none : chain s ≡ [] = ap (chain_from s) (sym e ∙ z) ∙ chain_end_lem s in
+      rw none
 
   module _ (first : ℕ) (same : first ≡ first_step s) (t : IsStep s first) (e : Entry) (read : e ≡ entry_at s first) where
     begun : chain s ≡ first ∷ steps_after s first
     begun = ap (chain_from s) (sym same) ∙ chain_at v s f first t
 
-    pub chain_other : (answer : Outcome ℕ) (k : Checked) (m p : ℕ) → k ≡ Refused m p
-        → checked k ≡ require (eqb e.w0 3) 20 first → answer ≡ (checked k then accepted 0) → answer ≡ chain_outcome v s
+    pub chain_other : (e.w0 ≡ 3 → ⊥) → refused 20 first ≡ chain_outcome v s
     unfolding chain_check
-    chain_other answer k m p r h a =
-        let n : e.w0 ≡ 3 → ⊥ = eqb-false e.w0 3 (row-refused k (eqb e.w0 3) 20 first m p h r) in
-        a ∙ rw (h, ne_eqb e.w0 3 n, begun, step_other s first e read t n)
+    chain_other n = rw (begun, step_other s first e read t n)
 
     pub chain_started : e.w0 ≡ 3 → start_outcome v s first ≡ chain_outcome v s
     unfolding chain_check

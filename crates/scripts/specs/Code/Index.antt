@@ -29,10 +29,6 @@ pub record NumberedBelow (s terms : List ℕ) (i : ℕ) : Type 0 where
 abbrev pub AllNumbered : List ℕ → List ℕ → Type 0
 AllNumbered s terms = NumberedBelow s terms (entries s)
 
--- Few records up to the last term, for which there are small tables.
-abbrev pub few_entries : ℕ
-few_entries = 64
-
 -- A record has three links: to the root of the tree of the terms that it is the inner term of, and to its two children. A
 -- link has the number of a record; 0 is none.
 abbrev pub link_count : ℕ

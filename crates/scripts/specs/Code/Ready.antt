@@ -1,28 +1,24 @@
--- What the code may rely on: at the form, the vocabulary was accepted, its chain is marked, row 13 passed and the header was
--- read; along the chain, the form passed; at the index of terms, it passed under some accepted vocabulary.
-use Rattle.std.specs.Prelude.{ℕ, ◌+◌, ◌*◌, ◌≤◌, ◌<◌, ◌≡◌, Bool, true, List, ◌⊎◌, length}
+-- What the code may rely on: at the form, the vocabulary was accepted, row 13 passed and the header was read; along the chain,
+-- the form passed; at the index of terms, it passed under some accepted vocabulary.
+use Rattle.std.specs.Prelude.{ℕ, ◌+◌, ◌*◌, ◌≤◌, ◌<◌, ◌≡◌, true, List, ◌⊎◌, length}
 use Rattle.records.specs.Outcome.{pass}
 use Rattle.records.specs.Check.{IsAccepted}
-use Rattle.columns.specs.Code.Packed.{Marked}
 use Rattle.scripts.specs.Format.{entry_size, entry_at, entries, is_step}
 use Rattle.scripts.specs.Form.{length_check, form_check}
 use Rattle.scripts.specs.declared.entry.Entry.{Entry}
 use Rattle.scripts.specs.declared.entry.StepRecord.{StepRecord}
 
--- The script has record i; it has those before record i.
+-- The script has record i.
 abbrev pub HasEntry : List ℕ → ℕ → Type 0
 HasEntry s i = entry_size * i + entry_size ≤ length s
 
-abbrev pub HasBefore : List ℕ → ℕ → Type 0
-HasBefore s i = entry_size * i ≤ length s
-
-pub record Begun (v s : List ℕ) (marks : List Bool) (header : Entry) : Type 0 where
-  pub marked : Marked v marks
+pub record Begun (v s : List ℕ) (header : Entry) : Type 0 where
+  pub accepted : IsAccepted v
   pub sized : length_check s ≡ pass
   pub read : header ≡ entry_at s 0
 
-pub record Ready (v s : List ℕ) (marks : List Bool) (header : Entry) : Type 0 where
-  pub begun : Begun v s marks header
+pub record Ready (v s : List ℕ) (header : Entry) : Type 0 where
+  pub begun : Begun v s header
   pub form : form_check v s ≡ pass
 
 -- A script that keeps the form over some accepted vocabulary.

@@ -1,53 +1,36 @@
--- What the code computes with: a step that was tested, and the outcome of a run over numbers.
-use Rattle.std.specs.Prelude.{ℕ, suc, ◌-◌, ◌<◌, ◌≡◌, Bool, ◌&&◌, ◌||◌, List, [], length, get_or, ltb}
-use Rattle.records.specs.Outcome.{Outcome, Check, accepted, pass, ◌then◌, require}
-use Rattle.records.specs.Answers.{checked}
-use Rattle.scripts.specs.Format.{entry_at, next_step, record_step, chain_from, chain}
+-- What the code computes with: a step's rows, and the outcome of a run over numbers.
+use Rattle.std.specs.Prelude.{ℕ, suc, ◌-◌, Bool, ◌&&◌, ◌||◌, List, [], length, get_or, ltb}
+use Rattle.records.specs.Outcome.{Outcome, Check, accepted, ◌then◌, require}
+use Rattle.scripts.specs.Format.{next_step, record_step, chain_from, chain}
 use Rattle.scripts.specs.Calculus.{frame_limit}
 use Rattle.scripts.specs.Run.{Frames, extend_by, step_check, stepped, run, chain_check}
 use Rattle.records.specs.Finite.{is_nil, without}
 use Rattle.scripts.specs.Code.Codes.{opposed}
-use Rattle.scripts.specs.Code.Machine.{left}
+use Rattle.scripts.specs.Code.Machine.{last_goal}
 use Rattle.scripts.specs.Code.Numbered.{no_number, numbered}
-use Rattle.scripts.specs.declared.entry.StepRecord.{StepRecord}
-use Rattle.scripts.specs.declared.machine.Aim.{Aim}
-use Rattle.scripts.specs.declared.run.Tested.{Tested}
 
--- Rows 21 and 23 at an extension by a column, whose literal at the position is connected, where the goal and the number of
--- frames are given.
-abbrev pub extension_check : List ℕ → ℕ → ℕ → ℕ → ℕ → Check
-extension_check column position i goal depth =
-    require (opposed (get_or column position no_number) goal) 21 i
-    then require (is_nil (without position column) || ltb depth frame_limit) 23 i
+-- Rows 21 and 23 at an extension by a column, whose literal at the position is connected.
+abbrev pub extension_check : List ℕ → ℕ → ℕ → Frames ℕ → Check
+extension_check column position i frames =
+    require (opposed (get_or column position no_number) (last_goal frames)) 21 i
+    then require (is_nil (without position column) || ltb (length frames) frame_limit) 23 i
 
--- Row 22, where the goal is given.
-abbrev pub reduces_to : Frames ℕ → ℕ → ℕ → Bool
-reduces_to frames f goal =
-    ltb (suc f) (length frames) && opposed (get_or (get_or frames (length frames - suc f) []) 0 no_number) goal
+-- The frames after one.
+abbrev pub extended : List ℕ → ℕ → Frames ℕ → Frames ℕ
+extended column position frames = extend_by (without position column) frames
 
--- What a step that may name frame f is tested against. There is a goal only where a frame is open.
-pub record Aims (aim : Aim) (frames : Frames ℕ) (f : ℕ) : Type 0 where
-  pub depth : aim.depth ≡ length frames
-  pub goal : 0 < length frames → aim.goal ≡ get_or (get_or frames 0 []) 0 no_number
-  pub lower : opposed aim.lower aim.goal ≡ reduces_to frames f aim.goal
+-- Row 22: frame f is below the last, and its goal is the complement.
+abbrev pub reduces_to : Frames ℕ → ℕ → Bool
+reduces_to frames f =
+    ltb (suc f) (length frames)
+    && opposed (get_or (get_or frames (length frames - suc f) []) 0 no_number) (last_goal frames)
 
--- An extension was tested: its answer; where it passed, the column's other literals, for which there is room.
-pub record ExtensionTested (column : List ℕ) (step : StepRecord) (aim : Aim) (t : Tested) : Type 0 where
-  pub rows : checked t.answer ≡ extension_check column step.entry.w5 step.number aim.goal aim.depth
-  pub remainder : checked t.answer ≡ pass → left t.remainder ≡ without step.entry.w5 column
-  pub room : checked t.answer ≡ pass → 0 < t.remainder.goal → aim.depth < frame_limit
+-- The rows at the step of record i, and the frames after it.
+abbrev pub check_at : List ℕ → List ℕ → ℕ → Frames ℕ → Check
+check_at v s i frames = step_check (numbered v s) i frames (record_step s i)
 
--- The step of record i was tested: its answer; where it passed, the literals that extend the frames, none for a reduction.
-pub record StepTested (v s : List ℕ) (i : ℕ) (frames : Frames ℕ) (t : Tested) : Type 0 where
-  pub rows : checked t.answer ≡ step_check (numbered v s) i frames (record_step s i)
-  pub after : checked t.answer ≡ pass
-      → extend_by (left t.remainder) frames ≡ stepped (numbered v s) frames (record_step s i)
-  pub room : checked t.answer ≡ pass → 0 < t.remainder.goal → length frames < frame_limit
-  pub reduced : (entry_at s i).w0 ≡ 5 → t.remainder.goal ≡ 0
-
--- The same of any frames that it was tested against.
-abbrev pub TestedAt : List ℕ → List ℕ → StepRecord → Aim → Tested → Type 0
-TestedAt v s step aim t = (frames : Frames ℕ) → Aims aim frames step.entry.w1 → StepTested v s step.number frames t
+abbrev pub stepped_at : List ℕ → List ℕ → ℕ → Frames ℕ → Frames ℕ
+stepped_at v s i frames = stepped (numbered v s) frames (record_step s i)
 
 -- The steps after record i, and the outcome of a run over them.
 abbrev pub steps_after : List ℕ → ℕ → List ℕ

@@ -29,7 +29,8 @@ use Rattle.types.proofs.Theorems.Survivors.{types-bound}
 use Rattle.types.proofs.Theorems.Truth.{truth_atom}
 use Rattle.taxonomy.specs.Taxonomy.{name_at, broader}
 use Rattle.taxonomy.specs.Code.Meets.{half_bits, halves, always, Meets, low, high, jointly, jointly_by}
-use Rattle.taxonomy.specs.Code.Meets.{NamesListed, MeetsListed, Above}
+use Rattle.taxonomy.specs.Code.Meets.{MeetsListed, Above}
+use Rattle.taxonomy.specs.Code.Names.{NamesListed}
 use Rattle.taxonomy.specs.declared.names.Names.{Names}
 use Rattle.taxonomy.proofs.Theorems.Names.{name_facts}
 

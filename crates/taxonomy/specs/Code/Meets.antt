@@ -1,12 +1,11 @@
 -- Broader names as the code finds them. The meet of a set of types, their bitwise and, has bit q where atom q is true at all of
 -- them: of the survivors at which a name is true it tells which names are broader. The code keeps the meets of the survivors
 -- that share the low half of their bits, and of those that share the high half; each atom's meet is a meet of these.
-use Rattle.std.specs.Prelude.{ℕ, ◌-◌, ◌*◌, ◌/◌, ◌%◌, ◌^◌, ◌<◌, ◌≡◌, Bool, cond, not, ◌&&◌, ◌||◌, List, eqb, ltb, length, get_or}
-use Rattle.records.specs.Finite.{any_below, all_below, has, digit, bit}
+use Rattle.std.specs.Prelude.{ℕ, ◌-◌, ◌/◌, ◌%◌, ◌^◌, ◌<◌, ◌≡◌, Bool, cond, not, ◌&&◌, ◌||◌, List, eqb, ltb, length, get_or}
+use Rattle.records.specs.Finite.{all_below, has, bit}
 use Rattle.records.specs.Atoms.{rank}
 use Rattle.types.specs.Comparison.{atom_limit}
 use Rattle.taxonomy.specs.Taxonomy.{name_count, name_at, broader}
-use Rattle.taxonomy.specs.declared.names.Names.{Names}
 
 -- Half of the bits of a type, and how many values they have.
 abbrev pub half_bits : ℕ
@@ -18,12 +17,6 @@ halves = 2 ^ half_bits
 -- All entries of a list number atoms.
 abbrev pub AtomNumbers : List ℕ → Type 0
 AtomNumbers atoms = (m : ℕ) → get_or atoms m 0 < atom_limit
-
--- The names, each by its number among the atoms; all entries are such numbers.
-pub record NamesListed (v : List ℕ) (names : Names) : Type 0 where
-  pub all : names.count ≡ name_count v
-  pub atom_at_lem : (m : ℕ) → m < name_count v → get_or names.atoms m 0 ≡ rank v (name_at v m)
-  pub small : AtomNumbers names.atoms
 
 -- A word has bit q where atom q is true at every type below n that passes a test: it is their meet.
 abbrev pub always : (ℕ → Bool) → ℕ → ℕ → Bool
@@ -61,20 +54,3 @@ abbrev pub Above : List ℕ → List ℕ → Type 0
 Above v meets =
     (i j : ℕ) → i < name_count v → j < name_count v
     → bit (get_or meets i 0) (rank v (name_at v j)) ≡ broader v (name_at v i) (name_at v j)
-
--- The table's entries by these words, where `atoms` has each name's number among the atoms.
-module _ (atoms meets : List ℕ) where
-  abbrev pub is_above : ℕ → ℕ → Bool
-  is_above i j = bit (get_or meets i 0) (get_or atoms j 0)
-
-  abbrev pub strictly_above : ℕ → ℕ → Bool
-  strictly_above i j = is_above i j && not (is_above j i)
-
-  abbrev pub amid : ℕ → ℕ → ℕ → Bool
-  amid n i j = any_below (λ m. strictly_above i m && strictly_above m j) n
-
-  abbrev pub entry_of : ℕ → ℕ → ℕ → ℕ
-  entry_of n i j = cond (is_above i j && is_above j i) 2 (digit (strictly_above i j && not (amid n i j)))
-
-  abbrev pub byte_at : ℕ → ℕ → ℕ
-  byte_at n e = cond (ltb e (n * n)) (entry_of n (e / n) (e % n)) 0

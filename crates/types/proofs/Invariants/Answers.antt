@@ -1,48 +1,41 @@
 -- What a set of types shows: the first at which the terms differ, and the bitmap.
---   in_both, first-..                              the first number in both of two sets, looked for in order
+--   found_least                                   the first number that passes a test, as a search finds it
 --   alive_first, alive_bitmap                     what a table that holds the survivors shows of them
 --   verdict-same, byte_none                       the verdict and an empty byte as the code makes them
---   cleared-start, cleared-length, cleared_turn   zeros written into a list, from a place on
---   cleared-over                                  zeros after a table, where it has zeros itself
+--   zeros_over                                    zeros after a table, where it would have zeros itself
 -- Assumes nothing.
-use Prim.Native.Nat.{ℕ, zero, suc, ◌+◌, ◌-◌, ◌*◌, ◌≤◌, ◌<◌}
+use Prim.Native.Nat.{ℕ, zero, suc, ◌+◌, ◌*◌, ◌≤◌, ◌<◌}
 use native.Mathlib.Omega.{arith}
-use mathlib.Core.Path.{◌≡◌, refl, sym, ap, ap₂, ◌∙◌}
-use mathlib.Core.Bool.{Bool, true, false, ◌&&◌, and-false}
-use mathlib.Core.List.{List}
-use lib.Dec.{ltb}
-use lib.ListN.{length, get_or, set, length-set}
-use Rattle.records.specs.Outcome.{Outcome, accepted}
-use Rattle.records.specs.Finite.{least, table, has, members, number}
+use borrow.Author.Tests.{lt-ltb, le-ltb}
+use borrow.Rule.Slice.PartMut.{put_mid}
+use mathlib.Core.Path.{◌≡◌, refl, ap, ap₂}
+use mathlib.Core.Bool.{Bool, true, false, ◌&&◌}
+use mathlib.Core.List.{List, [], ◌∷◌, ◌++◌}
+use lib.ListN.{length, get_or, drop, replicate}
+use Rattle.std.specs.Prelude.{Option, Some, None}
+use Rattle.std.specs.Option.{MatchOption}
+use Rattle.records.specs.Finite.{least, table, has, number}
 use Rattle.records.proofs.Laws.Bits.{number_cong}
 use Rattle.types.specs.Types.{types}
-use Rattle.types.specs.Survivors.{survivors, rounds}
-use Rattle.types.specs.Comparison.{Verdict, distinguishes, first_distinguishing, verdict_with, verdict}
-use Rattle.types.specs.Comparison.{bitmap_bytes}
+use Rattle.types.specs.Survivors.{survivors}
+use Rattle.types.specs.Comparison.{distinguishes, first_distinguishing, below, verdict_with, verdict, counts, bitmap_bytes}
 use Rattle.types.specs.Bitmap.{byte_of, bitmap}
+use Rattle.types.specs.declared.answers.Counts.{Counts}
 use Rattle.types.specs.Code.Words.{SameSet}
-use Rattle.types.specs.Code.Settling.{Differs, cleared}
-use Rattle.records.proofs.Laws.Tests.{both_true}
-use Rattle.records.proofs.Laws.Below.{least-is, least_end, least_cong, None, none_turn}
+use Rattle.types.specs.Code.Settling.{Differs}
+use Rattle.records.proofs.Laws.Below.{least-is, least_end, least_cong}
 use Rattle.records.proofs.Laws.Sets.{table_cong}
-use Rattle.records.proofs.Laws.Filling.{table_over, over_turn}
+use Rattle.records.proofs.Laws.Filling.{table_over}
 
--- Whether a number is in both of two sets.
-abbrev pub in_both : List Bool → List Bool → ℕ → Bool
-in_both S R t = has S t && has R t
-
-module _ (S R : List Bool) (t : ℕ) where
-  pub first_out : None (in_both S R) t → has S t ≡ false → None (in_both S R) (t + 1)
-  first_out none e = none_turn (in_both S R) t none (rw e)
-
-  pub first_other : None (in_both S R) t → has R t ≡ false → None (in_both S R) (t + 1)
-  first_other none e = none_turn (in_both S R) t none (rw e (and-false (has S t)))
-
-  pub first_found : (n : ℕ) → t < n → None (in_both S R) t → has S t ≡ true → has R t ≡ true → t ≡ least (in_both S R) n
-  first_found n l none e q = sym (least-is n (in_both S R) t l (both_true (has S t) (has R t) e q) none)
-
-  pub first-none : (n : ℕ) → n ≤ t → None (in_both S R) t → n ≡ least (in_both S R) n
-  first-none n l none = sym (least_end n (in_both S R) (λ u h. none u (omega arith)))
+-- The first number below a bound that passes a test, where a search found it or found none.
+pub found_least : (test : ℕ → Bool) (n : ℕ) (r : Option ℕ)
+    → MatchOption r ((k : ℕ) → 0 ≤ k → k < n → test k ≡ false)
+    (λ i. (0 ≤ i) × (i < n) × (test i ≡ true) × ((k : ℕ) → 0 ≤ k → k < i → test k ≡ false))
+    → r ≡ below (least test n) n
+found_least test n None none =
+    rw (least_end n test (λ k l. none k (omega arith) l), le-ltb n n (omega arith))
+found_least test n (Some i) f =
+    rw (least-is n test i f.1 f.2 (λ k l. f.3 k (omega arith) l), lt-ltb i n f.1)
 
 module _ (v : List ℕ) (alive : List Bool) (same : SameSet alive (survivors v)) where
   pub alive_first : (a b : ℕ) (differs : List Bool) → Differs v a b differs
@@ -58,41 +51,30 @@ module _ (v : List ℕ) (alive : List Bool) (same : SameSet alive (survivors v))
       (λ n l. number_cong 8 (λ j. has alive (8 * n + j)) (λ j. has (survivors v) (8 * n + j)) (λ j k. same (8 * n + j)))
 
 -- The verdict from its parts.
-pub verdict-same : (v : List ℕ) (a b element size found done : ℕ)
-    → element ≡ first_distinguishing v a b → size ≡ types v → found ≡ members (survivors v) → done ≡ rounds v
-    → ◌≡◌ {A = Outcome Verdict} (accepted (verdict_with (ltb element size) element found done)) (accepted (verdict v a b))
+pub verdict-same : (v : List ℕ) (a b : ℕ) (first : Option ℕ) (n : Counts)
+    → first ≡ below (first_distinguishing v a b) (types v) → n ≡ counts v → verdict_with first n ≡ verdict v a b
 unfolding verdict
-verdict-same v a b element size found done e s f d = rw (e, s, f, d)
+verdict-same v a b first n e f = rw (e, f)
 
 -- A byte with no bit.
 pub byte_none : (S : List Bool) (n : ℕ) → ((t : ℕ) → 8 * n ≤ t → has S t ≡ false) → byte_of S n ≡ 0
 unfolding number
 byte_none S n none = number_cong 8 (λ j. has S (8 * n + j)) (λ j. false) (λ j h. none (8 * n + j) (omega arith))
 
-module _ (l : List ℕ) (start : ℕ) where
-  pub cleared-start : l ≡ cleared l start (start - start)
-  unfolding cleared
-  cleared-start = let none : start - start ≡ 0 = omega arith in rw none
+none-table : (n : ℕ) (f : ℕ → ℕ) → ((i : ℕ) → f i ≡ 0) → replicate n 0 ≡ table n f
+unfolding table
+none-table zero f none = refl
+none-table (suc n) f none = rw (none 0) (ap (λ (l : List ℕ). 0 ∷ l) (none-table n (λ i. f (suc i)) (λ i. none (suc i))))
 
-  pub cleared-length : (n : ℕ) → length (cleared l start n) ≡ length l
-  unfolding cleared
-  cleared-length zero = refl
-  cleared-length (suc n) = length-set (cleared l start n) (start + n) 0 ∙ cleared-length n
-
-  pub cleared_turn : (n : ℕ) (now : List ℕ) → start ≤ n → now ≡ cleared l start (n - start)
-      → set now n 0 ≡ cleared l start (n + 1 - start)
-  unfolding cleared
-  cleared_turn n now h e =
-      let next : n + 1 - start ≡ suc (n - start) = omega arith in
-      let at : start + (n - start) ≡ n = omega arith in
-      rw (next, at, e)
-
--- Zeros over the front of a list, where the table has them.
-pub cleared-over : (f : ℕ → ℕ) (l : List ℕ) (start n : ℕ) → start + n ≤ length l → ((i : ℕ) → start ≤ i → f i ≡ 0)
-    → cleared (table_over f start l) start n ≡ table_over f (start + n) l
-unfolding cleared
-cleared-over f l start zero h none = ap (λ (n : ℕ). table_over f n l) (omega arith)
-cleared-over f l start (suc n) h none =
-    over_turn f (start + n) l (cleared (table_over f start l) start n) 0 (omega arith)
-    (cleared-over f l start n (omega arith) none) (sym (none (start + n) (omega arith)))
-    ∙ ap (λ (n : ℕ). table_over f n l) (omega arith)
+-- Zeros over a part of a list that follows a table, where the table would have zeros itself.
+pub zeros_over : (f : ℕ → ℕ) (l : List ℕ) (start n : ℕ) → ((i : ℕ) → start ≤ i → f i ≡ 0) → start ≤ length l
+    → put_mid start n (table_over f start l) (replicate n 0) ≡ table_over f (start + n) l
+unfolding table
+zeros_over f l zero n none h =
+    let e : 0 + n ≡ n = omega arith in
+    rw e (ap (λ (z : List ℕ). z ++ drop n l) (none-table n f (λ i. none i (omega arith))))
+zeros_over f [] (suc start) n none h = absurd (omega arith)
+zeros_over f (x ∷ l) (suc start) n none h =
+    let e : suc start + n ≡ suc (start + n) = omega arith in
+    rw e (ap (λ (z : List ℕ). f 0 ∷ z)
+    (zeros_over (λ i. f (suc i)) l start n (λ i k. none (suc i) (omega arith)) (omega arith)))

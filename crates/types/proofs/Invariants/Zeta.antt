@@ -1,26 +1,25 @@
 -- One turn of the loops of the zeta transform of a table of words, over plain values.
 --   joined-none, joined-set, joined_twice      entries joined: none; one more; a block more
---   Joining, join_start, join_turn, join_end   a block, entry by entry
 --   shifted, power                             a power of two, as the code has it
 --   words-room                                 the words of so few bits lie in the table
 --   zeta-step_end                              one bit, once a loop over its words is past them
 --   Paired, pair_start, pair_turn              one bit, block by block
---   pair_room, pair_less                       the next block lies in the table, and less is left after it
+--   pair_room                                  the next block lies in the table
 --   Stepped, step_start, step_turn             one bit, word by word
 --   step_back, step_less                       the word without the bit lies in the table, and less is left
---   zeta-start, zeta_turn, zeta_end            all bits
+--   zeta-start, zeta_turn                      all bits
 -- Assumes nothing.
 use Prim.Native.Nat.{ℕ, suc, ◌+◌, ◌-◌, ◌*◌, ◌/◌, ◌%◌, ◌^◌, ◌≤◌, ◌<◌}
 use native.Mathlib.Omega.{arith}
 use native.Mathlib.Decide.{ℕ_discrete, dec_lt}
 use native.Mathlib.Nat.{add-mul, mul-le-mul_right, lt_of_mul-lt-mul_right}
 use native.Mathlib.Numerals.{add-one}
-use mathlib.Core.Path.{◌≡◌, refl, sym, ap, ap₂, subst, ◌∙◌}
+use mathlib.Core.Path.{◌≡◌, refl, sym, ap, ap₂, ◌∙◌}
 use mathlib.Core.Bool.{Bool, true, false, ◌&&◌, and-false}
 use mathlib.Core.List.{List}
 use mathlib.Core.Logic.{◌⊎◌, inl, inr}
 use lib.Dec.{leb, ltb, eqb}
-use lib.ListN.{length, get_or, set, length-set}
+use lib.ListN.{length, get_or, set}
 use lib.Bits.{bit_or, or_block, or_zero_r, or_shifted}
 use lib.Pow.{pow_pos, pow-add, pow_mono, shl_exact, high}
 use lib.Seq.{get_or-set_same, get_or-set_other}
@@ -41,26 +40,26 @@ past a e y h = rw (le-ltb y e h) (and-false (leb a y))
 
 module _ (half : ℕ) (old : List ℕ) where
   joined-none : (test : ℕ → Bool) → ((y : ℕ) → test y ≡ false) → Joined test half old old
-  joined-none test none = record { size = refl; right = λ y. rw (none y) }
+  joined-none test none = λ y. rw (none y)
 
   -- an entry of which nothing was joined yet
   untouched : (test : ℕ → Bool) (l : List ℕ) → Joined test half old l → (y : ℕ) → test y ≡ false → get_or l y 0 ≡ get_or old y 0
-  untouched test l s y e = s.right y ∙ rw e
+  untouched test l s y e = s y ∙ rw e
 
-  joined-set : (f g : ℕ → Bool) (l : List ℕ) (x : ℕ) → x < length old → Joined f half old l
+  joined-set : (f g : ℕ → Bool) (l : List ℕ) (x : ℕ) → x < length l → Joined f half old l
       → f x ≡ false → f (x - half) ≡ false → g x ≡ true → ((y : ℕ) → (y ≡ x → ⊥) → f y ≡ g y)
       → Joined g half old (set l x (bit_or (get_or l x 0) (get_or l (x - half) 0)))
   joined-set f g l x h s here low new other =
-      record { size = length-set l x entry ∙ s.size; right = λ y. at y (ℕ_discrete y x) }
+      λ y. at y (ℕ_discrete y x)
     where
       entry : ℕ
       entry = bit_or (get_or l x 0) (get_or l (x - half) 0)
 
       at : (y : ℕ) → Dec (y ≡ x) → get_or (set l x entry) y 0 ≡ joined_if (g y) old half y
       at y (yes q) =
-          rw (q, new) (get_or-set_same l x entry 0 (omega (arith, s.size))
+          rw (q, new) (get_or-set_same l x entry 0 h
           ∙ ap₂ bit_or (untouched f l s x here) (untouched f l s (x - half) low))
-      at y (no q) = get_or-set_other l x y entry 0 q ∙ s.right y ∙ ap (λ (b : Bool). joined_if b old half y) (other y q)
+      at y (no q) = get_or-set_other l x y entry 0 q ∙ s y ∙ ap (λ (b : Bool). joined_if b old half y) (other y q)
 
   module _ (f g h : ℕ → Bool) (l m : List ℕ) (s : Joined f half old l) (t : Joined g half l m) where
     -- The entry at y is joined by the first tests or by none, or, untouched by them, by the second.
@@ -68,59 +67,13 @@ module _ (half : ℕ) (old : List ℕ) where
     Once y = ((g y ≡ false) × (f y ≡ h y)) ⊎ ((g y ≡ true) × (f y ≡ false) × (f (y - half) ≡ false) × (h y ≡ true))
 
     joined_twice : ((y : ℕ) → Once y) → Joined h half old m
-    joined_twice once = record { size = t.size ∙ s.size; right = λ y. at y (once y) }
+    joined_twice once = λ y. at y (once y)
       where
         at : (y : ℕ) → Once y → get_or m y 0 ≡ joined_if (h y) old half y
-        at y (inl k) = t.right y ∙ rw k.0 (s.right y ∙ ap (λ (b : Bool). joined_if b old half y) k.1)
+        at y (inl k) = t y ∙ rw k.0 (s y ∙ ap (λ (b : Bool). joined_if b old half y) k.1)
         at y (inr k) =
-            t.right y ∙ rw (k.0, k.3)
+            t y ∙ rw (k.0, k.3)
             (ap₂ bit_or (untouched f l s y k.1) (untouched f l s (y - half) k.2))
-
--- A table whose entries from `at + half` up to `x + half` are joined with those `half` places before them.
-pub record Joining (old : List ℕ) (at half : ℕ) (l : List ℕ) (x : ℕ) : Type 0 where
-  pub from : at ≤ x
-  pub to : x ≤ at + half
-  pub joined : Joined (between (at + half) (x + half)) half old l
-
-module _ (old : List ℕ) (at half : ℕ) where
-  pub join_start : Joining old at half old at
-  join_start =
-      record {
-        from = omega arith;
-        to = omega arith;
-        joined = joined-none half old (between (at + half) (at + half)) (λ y. none y (dec_lt y (at + half)));
-      }
-    where
-      none : (y : ℕ) → Dec (y < at + half) → between (at + half) (at + half) y ≡ false
-      none y (yes h) = before (at + half) (at + half) y h
-      none y (no h) = past (at + half) (at + half) y (omega arith)
-
-  module _ (l : List ℕ) (x : ℕ) (s : Joining old at half l x) where
-    pub join_turn : at + 2 * half ≤ length old → x < at + half
-        → Joining old at half (set l (x + half) (bit_or (get_or l (x + half) 0) (get_or l x 0))) (x + 1)
-    join_turn room h =
-        record { from = omega (arith, s.from); to = omega arith; joined = rw back at next }
-      where
-        back : x + half - half ≡ x
-        back = omega arith
-
-        same : (y : ℕ) → (y ≡ x + half → ⊥) → Dec (y < x + half) → ltb y (x + half) ≡ ltb y (x + 1 + half)
-        same y d (yes k) = lt-ltb y (x + half) k ∙ sym (lt-ltb y (x + 1 + half) (omega arith))
-        same y d (no k) = le-ltb y (x + half) (omega arith) ∙ sym (le-ltb y (x + 1 + half) (omega arith))
-
-        next : Joined (between (at + half) (x + 1 + half)) half old
-            (set l (x + half) (bit_or (get_or l (x + half) 0) (get_or l (x + half - half) 0)))
-        next =
-            joined-set half old (between (at + half) (x + half)) (between (at + half) (x + 1 + half)) l (x + half)
-            (omega arith) s.joined (past (at + half) (x + half) (x + half) (omega arith))
-            (before (at + half) (x + half) (x + half - half) (omega arith))
-            (inside (at + half) (x + 1 + half) (x + half) (omega (arith, s.from)) (omega arith))
-            (λ y d. ap (λ (b : Bool). leb (at + half) y && b) (same y d (dec_lt y (x + half))))
-
-    pub join_end : at + half ≤ x → Joined (between (at + half) (at + 2 * half)) half old l
-    join_end h =
-        let all : x + half ≡ at + 2 * half = omega (arith, s.to) in
-        subst (λ (e : ℕ). Joined (between (at + half) e) half old l) all s.joined
 
 -- `1 << k`, as the code has it.
 abbrev pub shifted : ℕ → ℕ
@@ -139,7 +92,7 @@ words_before x n y = ltb y x && bit y n
 pub zeta-step_end : (old l : List ℕ) (n words x : ℕ) → Joined (words_before x n) (2 ^ n) old l → words ≤ x
     → ZetaStep n words old l
 zeta-step_end old l n words x s h =
-    record { size = s.size; right = λ y k. s.right y ∙ rw (lt-ltb y x (omega arith)) }
+    λ y k. s y ∙ rw (lt-ltb y x (omega arith))
 
 -- A table whose entries below `at` are joined where they have bit n; `at` ends a block of two halves.
 pub record Paired (old : List ℕ) (n : ℕ) (l : List ℕ) (at : ℕ) : Type 0 where
@@ -216,9 +169,6 @@ module _ (old : List ℕ) (n : ℕ) where
           let next : 2 * s.blocks + 2 ≤ 2 ^ suc (most - 1 - n) = omega arith in
           let two = add-mul (2 * s.blocks) 2 (2 ^ n) in
           omega (arith, s.place, mul-le-mul_right (2 ^ n) next, two, power n (omega arith))
-
-      pub pair_less : at < words → words - (at + 2 * shifted n) < words - at
-      pair_less k = omega (arith, power n (omega arith), pow_pos n)
 
       pub pair_turn : (m : List ℕ) → Joined (between (at + shifted n) (at + 2 * shifted n)) (shifted n) l m
           → Paired old n m (at + 2 * shifted n)
@@ -306,7 +256,7 @@ module _ (old : List ℕ) (n : ℕ) (h : n < 64) where
     pub step_less : (words : ℕ) → x < words → words - bit_or (x + 1) (shifted n) < words - x
     step_less words k = rw (power n h) (omega (arith, (next_word n x s.word).later))
 
-    stepped : x < length old → (z : ℕ) → Next n x s.word z
+    stepped : x < length l → (z : ℕ) → Next n x s.word z
         → Stepped old n (set l x (bit_or (get_or l x 0) (get_or l (x - 2 ^ n) 0))) z
     stepped k z w =
         record {
@@ -324,27 +274,17 @@ module _ (old : List ℕ) (n : ℕ) (h : n < 64) where
             rw (w.between-none y (omega arith) r, and-false (ltb y x), and-false (ltb y z))
         same y d (no q) (no r) = rw (le-ltb y x (omega arith), le-ltb y z (omega arith))
 
-    pub step_turn : x < length old
+    pub step_turn : x < length l
         → Stepped old n (set l x (bit_or (get_or l x 0) (get_or l (x - shifted n) 0))) (bit_or (x + 1) (shifted n))
     step_turn k = rw (power n h) (stepped k (bit_or (x + 1) (2 ^ n)) (next_word n x s.word))
 
 module _ (old : List ℕ) (bits : ℕ) where
   pub zeta-start : ZetaTo 0 (2 ^ bits) old old
   unfolding zeta
-  zeta-start = record { size = refl; right = λ x h. refl }
+  zeta-start = λ x h. refl
 
   module _ (l : List ℕ) (n : ℕ) (s : ZetaTo n (2 ^ bits) old l) where
     pub zeta_turn : (m : List ℕ) → bits < 64 → ZetaStep n (shifted bits) l m → ZetaTo (n + 1) (2 ^ bits) old m
     unfolding zeta
     zeta_turn m few j =
-        record {
-          size = j.size ∙ s.size;
-          right = λ x k.
-              j.right x (omega (arith, power bits few))
-              ∙ rw (add-one n, s.right x k, s.right (x - 2 ^ n) (omega arith));
-        }
-
-    pub zeta_end : n ≤ bits → bits ≤ n → ZetaTo bits (2 ^ bits) old l
-    zeta_end h k =
-        let all : n ≡ bits = omega arith in
-        subst (λ (i : ℕ). ZetaTo i (2 ^ bits) old l) all s
+        λ x k. j x (omega (arith, power bits few)) ∙ rw (add-one n, s x k, s (x - 2 ^ n) (omega arith))

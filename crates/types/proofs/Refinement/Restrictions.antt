@@ -9,8 +9,9 @@ use mathlib.Core.Path.{◌≡◌, refl, subst}
 use mathlib.Core.Bool.{Bool, true, false}
 use mathlib.Core.List.{List}
 use Rattle.records.specs.Format.{record_at, count}
-use Rattle.records.specs.Kinds.{Class, Silent, Connective, Name, Restriction, Statement, are_atoms, are_restrictions}
-use Rattle.records.specs.Kinds.{is_restriction}
+use Rattle.records.specs.Kinds.{are_atoms, are_restrictions, is_restriction}
+use Rattle.records.specs.declared.kinds.Class.{Class}
+use Rattle.records.specs.declared.kinds.Class.TheVariants.{Silent, Connective, Name, Restriction, Statement}
 use Rattle.records.specs.Atoms.{atoms, rank}
 use Rattle.records.specs.Finite.{digit, all_below}
 use Rattle.types.specs.Code.Words.{width, restriction}

@@ -1,5 +1,5 @@
 -- A round by removals, role after role, and the rounds one after the other.
---   other_role_word_done, full_word                     the words of the other roles, and of all bits, as the code makes them
+--   full_word                                         the word of all bits, as the code makes it
 --   AfterRoles, roles-start, roles_skip, roles_turn   what is left after the roles below r
 --   round_same                                        a round goes by the set, not by its table
 --   stage-ends, survivors_end, round_rests            a set that has nothing past the types; a round that removes nothing
@@ -18,25 +18,24 @@ use native.Mathlib.Decide.{dec_lt}
 use mathlib.Core.Path.{◌≡◌, refl, sym, ap, ap₂, ◌∙◌}
 use mathlib.Core.Bool.{Bool, true, false, cond, not, ◌&&◌, and-true}
 use mathlib.Core.List.{List}
-use lib.ListN.{get_or}
+use lib.ListN.{length, get_or}
 use lib.Dec.{eqb}
 use lib.Bits.{bit_or}
 use lib.Pow.{pow_mono, shl_exact}
 use borrow.Author.Tests.{not-false}
 use Rattle.records.specs.Format.{role_count, count}
-use Rattle.records.specs.Finite.{any_below, all_below, has, members, number}
+use Rattle.records.specs.Finite.{any_below, all_below, has, members}
 use Rattle.records.proofs.Laws.Tests.{clash, both_left, both_right, both_true, same_truth, unless_true, unless_false}
 use Rattle.records.proofs.Laws.Search.{any_at, any_intro, any_elim}
 use Rattle.records.proofs.Theorems.Accepted.{AcceptedFacts, accepted-vocabulary}
 use Rattle.types.specs.Types.{types, served}
 use Rattle.types.specs.Survivors.{satisfies, round, removes, stage, rounds, survivors}
 use Rattle.types.specs.Comparison.{atom_limit, type_limit, counts_of, counts}
-use Rattle.types.specs.Code.Words.{width, other_role_word, filler_word, reached, present_word, zeta, role_served, Roles}
+use Rattle.types.specs.Code.Words.{width, filler_word, reached, present_word, zeta, role_served}
 use Rattle.types.specs.Code.Words.{FillerWords, SameSet}
-use Rattle.types.specs.Code.Elimination.{other_role, Enters, ZetaTo, Joins, met_at, Keeps, Enumerates, Eliminating}
+use Rattle.types.specs.Code.Elimination.{Enters, ZetaTo, Joins, met_at, Keeps, Enumerates, Eliminating}
 use Rattle.types.specs.Code.Elimination.{AtStage}
 use Rattle.records.proofs.Laws.Sets.{table_at, table_past, table_cong, members-same}
-use Rattle.records.proofs.Laws.Bits.{number_cong}
 use Rattle.types.proofs.Theorems.Survivors.{Removing, stage-length, round_less, stage_falls, rounds-is}
 use Rattle.types.proofs.Laws.Zeta.{zeta_cong}
 use Rattle.records.proofs.Laws.Filling.{Ends}
@@ -44,11 +43,6 @@ use Rattle.types.proofs.Refinement.Restrictions.{width-bound}
 use Rattle.types.proofs.Refinement.Words.{reached-small, filler_word-small}
 use Rattle.types.proofs.Refinement.Served.{served_by_words, served_cong, role-unused}
 use Rattle.types.proofs.Invariants.Elimination.{keeps_all, keeps_both, keeps_cong}
-
-pub other_role_word_done : (v roles : List ℕ) (bits role : ℕ) → bits ≡ width v → Roles v roles
-    → number bits (other_role roles role) ≡ other_role_word v role
-unfolding other_role_word
-other_role_word_done v roles bits role e r = rw e (number_cong (width v) _ _ (λ m h. ap (λ (x : ℕ). not (eqb x role)) (r m h)))
 
 pub full_word : (bits : ℕ) → bits < 16 → (1 * 2 ^ bits) % 2 ^ 16 ≡ 2 ^ bits
 full_word bits h = shl_exact {a = 1} 1 bits 16 (omega arith) (omega arith) ∙ omega arith
@@ -117,8 +111,8 @@ module _ (v : List ℕ) where
           round_at S t h ∙ stays (has S t) (served v S t) (any_at (λ t. has S t && not (served v S t)) (types v) e t h)
       at (no h) = round-ends S t (omega arith) ∙ sym (ends t (omega arith))
 
-module _ {v : List ℕ} {bits : ℕ} {masks held remaining : List ℕ} {left : ℕ} {alive : List Bool}
-    (s : Eliminating v bits masks held remaining left alive) where
+module _ {v : List ℕ} {bits : ℕ} {masks held remaining : List ℕ} {alive : List Bool}
+    (s : Eliminating v bits masks held remaining alive) where
   pub good : AcceptedFacts v
   good = accepted-vocabulary v (count v) s.accepts
 
@@ -159,13 +153,13 @@ module _ {v : List ℕ} {bits : ℕ} {masks held remaining : List ℕ} {left : �
             (λ t m. sym (served_by_words v good alive t ∙ ap (λ (n : ℕ). below v alive n t) (sym e)))
 
         at : Dec (t < types v) → has R t ≡ has (round v alive) t
-        at (yes h) = w.kept t ∙ sym (round_at v alive t h)
+        at (yes h) = w t ∙ sym (round_at v alive t h)
         at (no h) =
-            w.kept t ∙ ap (λ (x : Bool). x && served v alive t) (s.ends t (omega arith)) ∙ sym
+            w t ∙ ap (λ (x : Bool). x && served v alive t) (s.ends t (omega arith)) ∙ sym
             (round-ends v alive t (omega arith))
 
-    pub eliminating_on : (list : List ℕ) (rest : ℕ) → Enumerates list rest R → Eliminating v bits masks held list rest R
-    eliminating_on list rest l =
+    pub eliminating_on : (list : List ℕ) → Enumerates list R → Eliminating v bits masks held list R
+    eliminating_on list l =
         record {
           accepts = s.accepts;
           few = s.few;
@@ -174,17 +168,16 @@ module _ {v : List ℕ} {bits : ℕ} {masks held remaining : List ℕ} {left : �
           held_words = s.held_words;
           listed = l;
           ends = λ t h. round_done t ∙ round-ends v alive t h;
-          size = roles.size ∙ s.size;
         }
 
   module _ (filling : List ℕ) (o : FillerWords v filling) where
-    pub filler_word_in : (j : ℕ) → j < left → get_or filling (get_or remaining j 0) 0 < type_limit
+    pub filler_word_in : (j : ℕ) → j < length remaining → get_or filling (get_or remaining j 0) 0 < type_limit
     filler_word_in j h =
         let t = get_or remaining j 0 in
         rw (o t (member_below t (s.listed.sound j h))) (word_in (filler_word v t) (filler_word-small v t))
 
     -- the words entered are those of the set
-    present_listed : (first : List ℕ) (words : ℕ) → Enters filling remaining left words first → (x : ℕ) → x < words
+    present_listed : (first : List ℕ) (words : ℕ) → Enters filling remaining (length remaining) words first → (x : ℕ) → x < words
         → get_or first x 0 ≡ present_word v alive x
     present_listed first words enters x h = enters x h ∙ ap (λ (b : Bool). cond b x 0) (same_truth _ _ onward back)
       where
@@ -197,27 +190,27 @@ module _ {v : List ℕ} {bits : ℕ} {masks held remaining : List ℕ} {left : �
         has_word_lem : (t : ℕ) → t < types v → eqb (get_or filling t 0) x ≡ eqb (filler_word v t) x
         has_word_lem t k = ap (λ (y : ℕ). eqb y x) (o t k)
 
-        onward : any_below listed left ≡ true → any_below all (types v) ≡ true
+        onward : any_below listed (length remaining) ≡ true → any_below all (types v) ≡ true
         onward e =
-            let f = any_elim listed left e in
+            let f = any_elim listed (length remaining) e in
             let t = get_or remaining f.0 0 in
             let m = s.listed.sound f.0 f.1 in
             let k = member_below t m in
             any_intro all (types v) t k (both_true (has alive t) (eqb (filler_word v t) x) m (sym (has_word_lem t k) ∙ f.2))
 
-        back : any_below all (types v) ≡ true → any_below listed left ≡ true
+        back : any_below all (types v) ≡ true → any_below listed (length remaining) ≡ true
         back e =
             let f = any_elim all (types v) e in
             let g = s.listed.finds f.0 (both_left (has alive f.0) (eqb (filler_word v f.0) x) f.2) in
-            any_intro listed left g.0 g.1
+            any_intro listed (length remaining) g.0 g.1
             (ap (λ (t : ℕ). eqb (get_or filling t 0) x) g.2
             ∙ has_word_lem f.0 f.1 ∙ both_right (has alive f.0) (eqb (filler_word v f.0) x) f.2)
 
-    pub joins_done : (words : ℕ) (first last : List ℕ) → words ≡ 2 ^ bits → Enters filling remaining left words first
-        → ZetaTo bits (2 ^ bits) first last → Joins v alive last
+    pub joins_done : (words : ℕ) (first last : List ℕ) → words ≡ 2 ^ bits
+        → Enters filling remaining (length remaining) words first → ZetaTo bits (2 ^ bits) first last → Joins v alive last
     joins_done words first last e enters zeta-step x h =
         let k : x < 2 ^ bits = omega (arith, ap (λ (n : ℕ). 2 ^ n) s.wide) in
-        zeta-step.right x k
+        zeta-step x k
         ∙ zeta_cong (λ y. get_or first y 0) (present_word v alive) bits x
         (λ y l. present_listed first words enters y (omega arith))
         ∙ ap (λ (n : ℕ). zeta (present_word v alive) n x) s.wide

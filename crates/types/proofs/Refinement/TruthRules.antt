@@ -1,74 +1,34 @@
 -- The truth rules of the code are the paper's.
---   rule-restriction, rule-low, rule-high, first-.., second-..   the tables of shapes by the ranges of a `match`
---   agree                                                        rules that agree at all four places
---   rule_evaluates                                               what a record says, by its rule
---   operands_earlier                                             its operands come no later than the record
+--   from-digit                              a truth as a number is its digit
+--   agree                                   rules that agree at all four places
+--   rule_evaluates                          what a record says, by its rule
+--   operands_earlier                        its operands come no later than the record
 -- Assumes nothing.
-use Prim.Native.Nat.{ℕ, zero, suc, ◌≤◌, ◌<◌}
+use Prim.Native.Nat.{ℕ, ◌≤◌, ◌<◌}
 use native.Mathlib.Omega.{arith}
 use native.Mathlib.Decide.{dec_lt}
-use mathlib.Core.Path.{◌≡◌, refl, sym, ap}
+use mathlib.Core.Path.{◌≡◌, refl, ap}
 use mathlib.Core.Bool.{Bool, true, false, not, ◌&&◌, ◌||◌}
 use lib.ListN.{get_or-eq_default}
 use Rattle.records.specs.Kinds.{kind_of, construct_of}
+use Rattle.records.specs.Code.Kinds.{numbered_kinds}
 use Rattle.records.specs.declared.fields.Record.{Record}
+use Rattle.std.proofs.Common.{None}
 use Rattle.records.proofs.Laws.Ranges.{between}
 use Rattle.records.proofs.Theorems.Constructs.{Earlier, says_past}
-use Rattle.records.specs.Finite.{bit}
+use Rattle.records.specs.Finite.{bit, digit}
+use Rattle.std.specs.Int.{from_bool}
 use Rattle.types.specs.Meaning.{evaluate}
-use Rattle.types.specs.Code.Rules.{Shape, shape, shapes, shape_of, rule_of, first_operand_of, second_operand_of, select}
+use Rattle.types.specs.Code.Rules.{shape, shape_read, shape_of, rule_of, first_operand_of, second_operand_of, select}
 
 shape_past : (k : ℕ) → 10 ≤ k → shape_of k ≡ shape 0 false false
 unfolding shape_of
-shape_past k h = get_or-eq_default shapes (shape 0 false false) h
+shape_past k h = ap shape_read (get_or-eq_default numbered_kinds None h)
 
--- The rule, A and B of the kinds in an arm of a `match`.
-pub rule-restriction : (k : ℕ) → 7 ≤ k → k < 9 → 10 ≡ rule_of k
-unfolding shape_of
-rule-restriction = between (λ k. 10 ≡ rule_of k) 2 7 (refl, (refl, tt))
-
-pub rule-low : (k : ℕ) → k < 7 → (k ≡ 1 → ⊥) → (k ≡ 3 → ⊥) → (k ≡ 4 → ⊥) → (k ≡ 5 → ⊥) → (k ≡ 6 → ⊥) → 0 ≡ rule_of k
-unfolding shape_of
-rule-low zero h a b c d e = refl
-rule-low (suc zero) h a b c d e = absurd (a refl)
-rule-low (suc (suc zero)) h a b c d e = refl
-rule-low (suc (suc (suc zero))) h a b c d e = absurd (b refl)
-rule-low (suc (suc (suc (suc zero)))) h a b c d e = absurd (c refl)
-rule-low (suc (suc (suc (suc (suc zero))))) h a b c d e = absurd (d refl)
-rule-low (suc (suc (suc (suc (suc (suc zero)))))) h a b c d e = absurd (e refl)
-rule-low (suc (suc (suc (suc (suc (suc (suc k))))))) h a b c d e = absurd (omega arith)
-
-pub rule-high : (k : ℕ) → 10 ≤ k → 0 ≡ rule_of k
-rule-high k h = sym (ap (λ (s : Shape). s.rule) (shape_past k h))
-
-module _ (x n : ℕ) where
-  pub first_operand : (k : ℕ) → 4 ≤ k → k < 7 → x ≡ first_operand_of k x n
-  unfolding shape_of
-  first_operand = between (λ k. x ≡ first_operand_of k x n) 3 4 (refl, (refl, (refl, tt)))
-
-  pub first-low : (k : ℕ) → k < 4 → n ≡ first_operand_of k x n
-  unfolding shape_of
-  first-low k h = between (λ k. n ≡ first_operand_of k x n) 4 0 (refl, (refl, (refl, (refl, tt)))) k (omega arith) h
-
-  pub first_above : (k : ℕ) → 7 ≤ k → (k ≡ 9 → ⊥) → n ≡ first_operand_of k x n
-  unfolding shape_of
-  first_above k l m = at (dec_lt k 9)
-    where
-      at : Dec (k < 9) → n ≡ first_operand_of k x n
-      at (yes h) = between (λ k. n ≡ first_operand_of k x n) 2 7 (refl, (refl, tt)) k l h
-      at (no h) = rw (shape_past k (omega arith))
-
-module _ (x : ℕ) where
-  pub second_operand : (k : ℕ) → 5 ≤ k → k < 10 → x ≡ second_operand_of k x
-  unfolding shape_of
-  second_operand = between (λ k. x ≡ second_operand_of k x) 5 5 (refl, (refl, (refl, (refl, (refl, tt)))))
-
-  pub second-low : (k : ℕ) → k < 5 → 0 ≡ second_operand_of k x
-  unfolding shape_of
-  second-low k h = between (λ k. 0 ≡ second_operand_of k x) 5 0 (refl, (refl, (refl, (refl, (refl, tt))))) k (omega arith) h
-
-  pub second-high : (k : ℕ) → 10 ≤ k → 0 ≡ second_operand_of k x
-  second-high k h = rw (shape_past k h)
+-- A truth as a number.
+pub from-digit : (b : Bool) → from_bool b ≡ digit b
+from-digit true = refl
+from-digit false = refl
 
 -- Two rules that agree at all four places.
 abbrev Agree : (Bool → Bool → Bool) → (Bool → Bool → Bool) → Type 0

@@ -12,7 +12,7 @@
 use Prim.Native.Nat.{ℕ, ◌≤◌, ◌<◌}
 use native.Mathlib.Omega.{arith}
 use mathlib.Core.Path.{◌≡◌, refl, sym, ap, subst, ◌∙◌}
-use mathlib.Core.Bool.{Bool, true, false, not, beq, ◌&&◌}
+use mathlib.Core.Bool.{Bool, true, false, cond, not, beq, ◌&&◌}
 use mathlib.Core.List.{List, [], ◌++◌}
 use lib.Dec.{ltb, leb}
 use borrow.Author.Tests.{ltb-true, ltb-false, leb-true, le-leb}
@@ -28,7 +28,8 @@ use Rattle.records.specs.Finite.{has, members}
 use Rattle.types.specs.Meaning.{Interpretation, Element, belongs, Model, AlwaysEqual}
 use Rattle.types.specs.Types.{types, truth}
 use Rattle.types.specs.Survivors.{rounds, survivors}
-use Rattle.types.specs.Comparison.{Verdict, equal, different, distinguishes, first_distinguishing, verdict_with, verdict}
+use Rattle.std.specs.Prelude.{Some, None}
+use Rattle.types.specs.Comparison.{Verdict, equal, different, distinguishes, first_distinguishing, counts, verdict_with, verdict}
 use Rattle.types.specs.Comparison.{atom_limit, bitmap_bytes, term_check, atoms_check, lent_check, size_check, query_check}
 use Rattle.types.specs.Comparison.{comparison}
 use Rattle.types.specs.Bitmap.{bitmap, read_back}
@@ -116,7 +117,7 @@ unfolding verdict
 verdict_decided v a b x e = at (ltb (first_distinguishing v a b) (types v)) refl e
   where
     at : (z : Bool) → ltb (first_distinguishing v a b) (types v) ≡ z
-        → verdict_with z (first_distinguishing v a b) (members (survivors v)) (rounds v) ≡ x → Decided v a b x
+        → verdict_with (cond z (Some (first_distinguishing v a b)) None) (counts v) ≡ x → Decided v a b x
     at true q h = apart (ltb-true (first_distinguishing v a b) (types v) q) (sym h)
     at false q h =
         same (λ t l. least-before (types v) (distinguishes v a b) t

@@ -1,6 +1,6 @@
 -- Type elimination as the code does it: the tables that a round works on, and what a removal and a round leave. Refinement.Rounds
 -- shows that the rounds are the paper's.
-use Rattle.std.specs.Prelude.{ℕ, ◌-◌, ◌^◌, ◌≤◌, ◌<◌, ◌≡◌, Bool, true, false, cond, not, ◌&&◌, List, length, get_or, ltb, leb, eqb}
+use Rattle.std.specs.Prelude.{ℕ, ◌-◌, ◌^◌, ◌≤◌, ◌<◌, ◌≡◌, Bool, true, false, cond, ◌&&◌, List, length, get_or, ltb, leb, eqb}
 use Rattle.std.specs.Int.Bits.{bit_or}
 use Rattle.records.specs.Format.{role_count}
 use Rattle.records.specs.Finite.{any_below, has, members, bit}
@@ -8,36 +8,30 @@ use Rattle.records.specs.Check.{IsAccepted}
 use Rattle.records.specs.Atoms.{atoms}
 use Rattle.types.specs.Types.{types}
 use Rattle.types.specs.Survivors.{stage}
-use Rattle.types.specs.Comparison.{atom_limit, type_limit}
+use Rattle.types.specs.Comparison.{atom_limit}
 use Rattle.types.specs.Code.Words.{width, other_role_word, zeta, joins, RestrictionWords, SameSet}
 
--- Whether restriction m is of another role than r; a table of the words of that, one for each role.
-abbrev pub other_role : List ℕ → ℕ → ℕ → Bool
-other_role roles r m = not (eqb (get_or roles m 0) r)
-
+-- A table of the words of the restrictions of other roles, one for each role.
 abbrev pub Masks : List ℕ → List ℕ → Type 0
 Masks v masks = (r : ℕ) → r < role_count v → get_or masks r 0 ≡ other_role_word v r
 
--- "Lower the count as each type is removed": a list, in a table with room for all types, of each member of a set once and
--- nothing else, whose length is the count.
-pub record Enumerates (list : List ℕ) (left : ℕ) (S : List Bool) : Type 0 where
-  pub size : length list ≡ type_limit
-  pub sound : (j : ℕ) → j < left → has S (get_or list j 0) ≡ true
-  pub finds : (t : ℕ) → has S t ≡ true → (j : ℕ) × (j < left) × (get_or list j 0 ≡ t)
-  pub apart : (i j : ℕ) → i < left → j < left → get_or list i 0 ≡ get_or list j 0 → i ≡ j
-  pub counted : left ≡ members S
+-- "Lower the count as each type is removed": a list of each member of a set once and nothing else, whose length is the count.
+pub record Enumerates (list : List ℕ) (S : List Bool) : Type 0 where
+  pub sound : (j : ℕ) → j < length list → has S (get_or list j 0) ≡ true
+  pub finds : (t : ℕ) → has S t ≡ true → (j : ℕ) × (j < length list) × (get_or list j 0 ≡ t)
+  pub apart : (i j : ℕ) → i < length list → j < length list → get_or list i 0 ≡ get_or list j 0 → i ≡ j
+  pub counted : length list ≡ members S
 
 -- The state of an elimination: an accepted vocabulary of few enough atoms, the tables of its roles and types, and the set of
 -- types that are left, with a list of them.
-pub record Eliminating (v : List ℕ) (bits : ℕ) (masks held remaining : List ℕ) (left : ℕ) (alive : List Bool) : Type 0 where
+pub record Eliminating (v : List ℕ) (bits : ℕ) (masks held remaining : List ℕ) (alive : List Bool) : Type 0 where
   pub accepts : IsAccepted v
   pub few : atoms v ≤ atom_limit
   pub wide : bits ≡ width v
   pub masked : Masks v masks
   pub held_words : RestrictionWords v held
-  pub listed : Enumerates remaining left alive
+  pub listed : Enumerates remaining alive
   pub ends : (t : ℕ) → types v ≤ t → has alive t ≡ false
-  pub size : length alive ≡ type_limit
 
 -- x itself where one of the first n types listed has it as its word of fillers, else 0; a table of that below a bound.
 abbrev pub present_among : List ℕ → List ℕ → ℕ → ℕ → ℕ
@@ -54,19 +48,16 @@ between a e y = leb a y && ltb y e
 abbrev pub joined_if : Bool → List ℕ → ℕ → ℕ → ℕ
 joined_if b old half y = cond b (bit_or (get_or old y 0) (get_or old (y - half) 0)) (get_or old y 0)
 
-pub record Joined (test : ℕ → Bool) (half : ℕ) (old new : List ℕ) : Type 0 where
-  pub size : length new ≡ length old
-  pub right : (y : ℕ) → get_or new y 0 ≡ joined_if (test y) old half y
+abbrev pub Joined : (ℕ → Bool) → ℕ → List ℕ → List ℕ → Type 0
+Joined test half old new = (y : ℕ) → get_or new y 0 ≡ joined_if (test y) old half y
 
 -- One bit's pass: below a bound, each word with bit n is joined with the word without it.
-pub record ZetaStep (n words : ℕ) (old new : List ℕ) : Type 0 where
-  pub size : length new ≡ length old
-  pub right : (x : ℕ) → x < words → get_or new x 0 ≡ joined_if (bit x n) old (2 ^ n) x
+abbrev pub ZetaStep : ℕ → ℕ → List ℕ → List ℕ → Type 0
+ZetaStep n words old new = (x : ℕ) → x < words → get_or new x 0 ≡ joined_if (bit x n) old (2 ^ n) x
 
 -- The passes over the bits below n.
-pub record ZetaTo (n words : ℕ) (old new : List ℕ) : Type 0 where
-  pub size : length new ≡ length old
-  pub right : (x : ℕ) → x < words → get_or new x 0 ≡ zeta (λ y. get_or old y 0) n x
+abbrev pub ZetaTo : ℕ → ℕ → List ℕ → List ℕ → Type 0
+ZetaTo n words old new = (x : ℕ) → x < words → get_or new x 0 ≡ zeta (λ y. get_or old y 0) n x
 
 -- A table of the joins of all words.
 abbrev pub Joins : List ℕ → List Bool → List ℕ → Type 0
@@ -80,9 +71,8 @@ abbrev pub met_at : List ℕ → ℕ → List ℕ → ℕ → Bool
 met_at table mask held t = met_by table mask (get_or held t 0)
 
 -- What a test keeps of a set.
-pub record Keeps (test : ℕ → Bool) (S R : List Bool) : Type 0 where
-  pub size : length R ≡ length S
-  pub kept : (t : ℕ) → has R t ≡ (has S t && test t)
+abbrev pub Keeps : (ℕ → Bool) → List Bool → List Bool → Type 0
+Keeps test S R = (t : ℕ) → has R t ≡ (has S t && test t)
 
 -- The types left after n rounds, and their count: "at each round's end it is the number of types left".
 pub record AtStage (v : List ℕ) (n : ℕ) (S : List Bool) (left : ℕ) : Type 0 where

@@ -1,42 +1,40 @@
 -- What the comparison and the classification settle before their answers, as the code keeps it: lists, the data of each type,
 -- and the tables that are lent from call to call. No promise of a call speaks of them.
-use Rattle.std.specs.Prelude.{ℕ, zero, suc, ◌+◌, ◌≤◌, ◌<◌, ◌≡◌, Bool, true, false, not, List, length, get_or, set}
+use Rattle.std.specs.Prelude.{ℕ, ◌≤◌, ◌<◌, ◌≡◌, Bool, true, false, not, List, length, get_or, eqb}
 use Rattle.std.specs.Bool.{beq}
-use Rattle.records.specs.Format.{record_at, count, record_limit}
+use Rattle.records.specs.Format.{record_at, count}
 use Rattle.records.specs.Check.{IsAccepted}
 use Rattle.records.specs.Chain.{in_force}
 use Rattle.records.specs.Atoms.{atoms}
 use Rattle.types.specs.declared.type_data.TypeData.{TypeData}
-use Rattle.types.specs.declared.type_data.Plan.{Plan}
-use Rattle.types.specs.declared.restrict.Restrictions.{Restrictions}
-use Rattle.records.specs.Finite.{has, number}
+use Rattle.types.specs.declared.decode.Rule.{Rule}
+use Rattle.types.specs.declared.restrict.Restriction.{Restriction}
+use Rattle.records.specs.Finite.{has, number, any_below}
 use Rattle.types.specs.Types.{types, truth}
 use Rattle.types.specs.Survivors.{satisfies, stage, survivors}
-use Rattle.types.specs.Comparison.{atom_limit, type_limit}
+use Rattle.types.specs.Comparison.{atom_limit}
 use Rattle.types.specs.Code.Rules.{Decoded, AtomsListed}
-use Rattle.types.specs.Code.Words.{width, restriction, signed, negated, restriction_word, filler_word, Roles}
+use Rattle.types.specs.Code.Words.{width, restriction, signed, negated, restriction_word, filler_word}
 use Rattle.types.specs.Code.Words.{RestrictionWords, FillerWords, SameSet}
 
--- The restrictions, and of each its filler, its role and whether it is negated.
-pub record RestrictionsListed (v : List ℕ) (r : Restrictions) : Type 0 where
-  pub all : r.count ≡ width v
-  pub place_at : (m : ℕ) → m < width v → get_or r.places m 0 ≡ restriction v m
-  pub filler_at : (m : ℕ) → m < width v → get_or r.fillers m 0 ≡ (record_at v (restriction v m)).b
-  pub role_at : Roles v r.roles
-  pub sign_at : (m : ℕ) → m < width v → get_or r.signs m false ≡ negated v (restriction v m)
+-- What is kept of restriction i: its place, its filler, its role and whether it is negated; nothing; a list of that.
+abbrev pub kept_of : List ℕ → ℕ → Restriction
+kept_of v i =
+    record { place = i; filler = (record_at v i).b; role = (record_at v i).a; universal = negated v i }
 
--- There is room for as many, and they and their fillers name records.
-pub record Bounded (r : Restrictions) : Type 0 where
-  pub few : r.count ≤ atom_limit
-  pub place_below : (m : ℕ) → m < r.count → get_or r.places m 0 < record_limit
-  pub filler_below : (m : ℕ) → m < r.count → get_or r.fillers m 0 < record_limit
+abbrev pub no_restriction : Restriction
+no_restriction = record { place = 0; filler = 0; role = 0; universal = false }
+
+pub record RestrictionsListed (v : List ℕ) (list : List Restriction) (found : ℕ) : Type 0 where
+  pub all : found ≡ width v
+  pub kept : (m : ℕ) → m < found → get_or list m no_restriction ≡ kept_of v (restriction v m)
 
 -- A list of the statements in force.
 pub record Stating (v statements : List ℕ) (found : ℕ) : Type 0 where
   pub few : found ≤ count v
   pub within : (j : ℕ) → j < found → get_or statements j 0 < count v
   pub states : (j : ℕ) → j < found → in_force v (get_or statements j 0) ≡ true
-  pub finds : (i : ℕ) → in_force v i ≡ true → (j : ℕ) × (j < found) × (get_or statements j 0 ≡ i)
+  pub finds : (i : ℕ) → in_force v i ≡ true → any_below (λ j. eqb (get_or statements j 0) i) found ≡ true
 
 -- What a call may go on with after the checks: an accepted vocabulary of k atoms, few enough; for a comparison, and two of its
 -- records.
@@ -51,12 +49,14 @@ pub record Comparable (v : List ℕ) (a b k : ℕ) : Type 0 where
   pub second : b < count v
 
 -- What the data of a type is taken from: that, decoded, and its atoms, statements and restrictions listed.
-pub record Prepared (v : List ℕ) (plan : Plan) (code statements : List ℕ) : Type 0 where
-  pub query : Comparable v plan.a plan.b plan.k
+pub record Prepared (v : List ℕ) (a b : ℕ) (code : List Rule) (places statements : List ℕ) (restrictions : List Restriction)
+    : Type 0 where
+  pub query : Comparable v a b (length places)
+  pub whole : length code ≡ count v
   pub decoded : Decoded v code
-  pub placed : AtomsListed v plan.places
-  pub stated : Stating v statements plan.found
-  pub listed : RestrictionsListed v plan.restrictions
+  pub placed : AtomsListed v places
+  pub stated : Stating v statements (length statements)
+  pub listed : RestrictionsListed v restrictions (length restrictions)
 
 -- Whether the terms a and b differ at t.
 abbrev pub differ : List ℕ → ℕ → ℕ → ℕ → Bool
@@ -69,41 +69,25 @@ type_data_at v a b t =
 abbrev pub Differs : List ℕ → ℕ → ℕ → List Bool → Type 0
 Differs v a b differs = (t : ℕ) → t < types v → get_or differs t false ≡ differ v a b t
 
--- The word of the truths at listed places, signed.
-abbrev pub truth_word : List Bool → List ℕ → List Bool → ℕ → ℕ
-truth_word values places signs bits = number bits (λ m. signed (get_or signs m false) (get_or values (get_or places m 0) false))
+-- The word of the truths at a place of each restriction, signed.
+abbrev pub truth_word : List Bool → (Restriction → ℕ) → List Restriction → ℕ
+truth_word values place list =
+    number (length list) (λ m. signed (get_or list m no_restriction).universal
+    (get_or values (place (get_or list m no_restriction)) false))
 
--- Tables as they are lent: for the survivors, of which there are none yet; for where two terms differ; for the data of all
--- types.
-pub record Empty (alive : List Bool) : Type 0 where
-  pub none : (t : ℕ) → has alive t ≡ false
-  pub size : length alive ≡ type_limit
+-- A table as it is lent for the survivors: there are none yet.
+abbrev pub Empty : List Bool → Type 0
+Empty alive = (t : ℕ) → has alive t ≡ false
 
-pub record Vacant (alive differs : List Bool) : Type 0 where
-  pub empty : Empty alive
-  pub differs_size : length differs ≡ type_limit
-
-pub record Blank (values alive differs : List Bool) (held filling : List ℕ) : Type 0 where
-  pub vacant : Vacant alive differs
-  pub values_size : length values ≡ record_limit
-  pub held_size : length held ≡ type_limit
-  pub filling_size : length filling ≡ type_limit
-
--- And as they are left: by the data of all types, before any round; by the rounds.
+-- Tables as they are left: by the data of all types, before any round; by the rounds.
 pub record Worded (v held filling : List ℕ) : Type 0 where
   pub held_at : RestrictionWords v held
   pub filling_at : FillerWords v filling
 
 pub record Started (v : List ℕ) (a b : ℕ) (alive differs : List Bool) : Type 0 where
   pub alive_at : SameSet alive (stage v 0)
-  pub alive_size : length alive ≡ type_limit
   pub differs_at : Differs v a b differs
 
 pub record Settled (v : List ℕ) (a b : ℕ) (alive differs : List Bool) : Type 0 where
   pub alive_at : SameSet alive (survivors v)
   pub differs_at : Differs v a b differs
-
--- A list with n zeros written from `start` on.
-unfoldable pub cleared : List ℕ → ℕ → ℕ → List ℕ
-cleared l start zero = l
-cleared l start (suc n) = set (cleared l start n) (start + n) 0

@@ -58,10 +58,6 @@ reached v t r = bit_or (restriction_word v t) (other_role_word v r)
 abbrev pub role_served : List ℕ → List Bool → ℕ → ℕ → Bool
 role_served v S t r = eqb (bit_or (joins v S (reached v t r)) (other_role_word v r)) (reached v t r)
 
--- A table that holds each restriction's role.
-abbrev pub Roles : List ℕ → List ℕ → Type 0
-Roles v roles = (m : ℕ) → m < width v → get_or roles m 0 ≡ (record_at v (restriction v m)).a
-
 -- Tables that hold the two words of each type.
 abbrev pub RestrictionWords : List ℕ → List ℕ → Type 0
 RestrictionWords v held = (t : ℕ) → t < types v → get_or held t 0 ≡ restriction_word v t

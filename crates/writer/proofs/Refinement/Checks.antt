@@ -1,19 +1,16 @@
 -- What the code checks of an addition, one check after the other.
---   room-refused, room_fine         the rows of the bytes in use, by what the vocabulary check answered, then row 27
+--   room_refused, room_fine         the rows of the bytes in use, by what the vocabulary check answered, then row 27
 --   new_record_split, room_passed   these come first; what they tell where they passed
 -- Assumes nothing.
 use Prim.Native.Nat.{ℕ, ◌+◌}
-use mathlib.Core.Path.{◌≡◌, sym, ap, ◌∙◌}
+use mathlib.Core.Path.{◌≡◌, sym, ◌∙◌}
 use mathlib.Core.Bool.{Bool, ◌&&◌}
 use mathlib.Core.List.{List}
 use lib.ListN.{length}
 use lib.Dec.{ltb, leb}
-use Rattle.records.specs.Answers.{counted}
-use Rattle.records.specs.Outcome.{Check, pass, ◌then◌, require}
+use Rattle.records.specs.Outcome.{Check, accepted, refused, pass, ◌then◌, require}
 use Rattle.records.specs.Format.{record_size, record_limit, count}
 use Rattle.records.specs.Check.{fields_check, vocabulary_rows, vocabulary_check}
-use Rattle.records.specs.declared.answers.Counted.{Counted}
-use Rattle.records.specs.declared.answers.Counted.TheVariants.{Records, Refused}
 use Rattle.records.specs.declared.fields.Record.{Record}
 use Rattle.records.proofs.Laws.Checks.{then_assoc, then_passed}
 use Rattle.records.proofs.Theorems.Accepted.{AcceptedFacts, rows-vocabulary, accepted-rows, vocabulary-refused}
@@ -22,17 +19,13 @@ use Rattle.writer.specs.Calls.{room_check}
 use Rattle.writer.specs.Code.Checks.{new_record_check}
 
 module _ (v : List ℕ) (size : ℕ) where
-  pub room-refused : (k : Counted) (n p : ℕ) (o : Check) → counted k ≡ vocabulary_check v → k ≡ Refused n p
-      → o ≡ (counted k then pass) → o ≡ (vocabulary_rows v then room_check v size)
-  room-refused k n p o e r q =
-      q ∙ rw (r, vocabulary-refused v n p (sym e ∙ ap counted r))
+  pub room_refused : (n p : ℕ) → refused n p ≡ vocabulary_check v → refused n p ≡ (vocabulary_rows v then room_check v size)
+  room_refused n p e = rw (vocabulary-refused v n p (sym e))
 
-  pub room_fine : (k : Counted) (n : ℕ) (o : Check) (b : Bool) → counted k ≡ vocabulary_check v → k ≡ Records n
+  pub room_fine : (n : ℕ) (o : Check) (b : Bool) → accepted n ≡ vocabulary_check v
       → o ≡ require b 27 n → b ≡ (ltb n record_limit && leb (length v + record_size) size)
       → o ≡ (vocabulary_rows v then room_check v size)
-  room_fine k n o b e r q t =
-      let accepts = sym e ∙ ap counted r in
-      q ∙ rw (t, accepted-rows v n accepts, vocabulary-count v n accepts)
+  room_fine n o b e q t = q ∙ rw (t, accepted-rows v n (sym e), vocabulary-count v n (sym e))
 
   pub new_record_split : (addable : Bool) (r : Record)
       → ((vocabulary_rows v then room_check v size) then require addable 3 (count v) then fields_check v (count v) r)

@@ -42,7 +42,7 @@ module _ (v : List ℕ) (good : AcceptedFacts v) where
   whole : record_size * count v ≡ length v
   whole = omega (arith, good.sized.whole)
 
-  end_within : chain_end v < count v
+  pub end_within : chain_end v < count v
   end_within = at (dec_lt 0 (chain_end v))
     where
       at : Dec (0 < chain_end v) → chain_end v < count v

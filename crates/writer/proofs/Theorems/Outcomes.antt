@@ -18,13 +18,10 @@ use lib.Seq.{length-take-le}
 use lib.Dec.{ltb, leb}
 use borrow.Author.Tests.{ltb-true, leb-true, le-leb}
 use Rattle.records.specs.Outcome.{Outcome, Check, accepted, refused, pass, ◌then◌, require}
-use Rattle.records.specs.Answers.{checked}
 use Rattle.records.specs.Format.{record_size, record_limit, role_limit, record_bytes, count}
 use Rattle.records.specs.Check.{fields_check, record_check, vocabulary_rows, vocabulary_check, IsWellFormed}
-use Rattle.records.specs.declared.answers.Checked.{Checked}
-use Rattle.records.specs.declared.answers.Checked.TheVariants.{Fine, Refused}
 use Rattle.records.proofs.Laws.Tests.{clash, both_left, both_right}
-use Rattle.records.proofs.Laws.Checks.{refusal_same, then_assoc, then_same, require_passed, then_passed, checked_fine}
+use Rattle.records.proofs.Laws.Checks.{refusal_same, then_assoc, then_same, require_passed, then_passed}
 use Rattle.records.proofs.Theorems.Accepted.{RowsAccepted, rows-accepted, rows-vocabulary, vocabulary_then}
 use Rattle.records.proofs.Theorems.Growth.{Grows, grows-rows, grows_check, grown_record}
 use Rattle.writer.specs.Additions.{Addition, term, statement, new_record, grown}
@@ -205,15 +202,11 @@ module _ (buffer : List ℕ) (used : ℕ) (x : Addition) where
         rows-own in_use (length buffer) x accepts fits adds,
       )
 
-  module _ (k : Checked) (e : checked k ≡ checks) where
-    pub adding-refused : (n p : ℕ) → k ≡ Refused n p → adding buffer used x ≡ refused n p
-    adding-refused n p r = adding-checks ∙ rw (← e, r)
+  pub adding-refused : (n p : ℕ) → refused n p ≡ checks → adding buffer used x ≡ refused n p
+  adding-refused n p e = adding-checks ∙ rw (← e)
 
-    pub adding_fine : k ≡ Fine → adding buffer used x ≡ accepted (grown in_use x)
-    adding_fine r = adding-checks ∙ rw (← e, r)
-
-    pub fine_fit : k ≡ Fine → Fit buffer used x
-    fine_fit r = checks-fit (checked_fine k checks e r)
+  pub adding_fine : pass ≡ checks → adding buffer used x ≡ accepted (grown in_use x)
+  adding_fine e = adding-checks ∙ rw (← e)
 
   -- An addition that succeeded.
   pub record Succeeded (n : ℕ) : Type 0 where

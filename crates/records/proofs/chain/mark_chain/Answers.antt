@@ -4,6 +4,7 @@
 -- Assumes nothing.
 use native.Mathlib.Omega.{arith}
 use mathlib.Core.Path.{ap, subst}
+use Rattle.std.proofs.Common.{rules}
 use Rattle.records.specs.declared.fields.Record.{Record}
 use Rattle.records.proofs.Theorems.Accepted.{AcceptedFacts, Later, well_formed_vocabulary}
 use Rattle.records.proofs.Theorems.Chains.{linked-here, walk_falls}
@@ -20,7 +21,7 @@ pub loop-at-init : goal.loop-at-init
 loop-at-init c =
     let good : AcceptedFacts c.args.v.now =
     well_formed_vocabulary c.args.v.now c.requires.well_formed in
-    start _ good _ _ c.requires.marks_len c.requires.by_index (ap (λ (r : Record). r.a) c.read_at-at.ensures)
+    start _ good _ _ (search rules) c.requires.by_index (ap (λ (r : Record). r.a) c.read_at-at.ensures)
 
 pub bounds-marks-at : goal.bounds-marks-at
 bounds-marks-at c =

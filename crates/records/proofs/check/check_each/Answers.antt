@@ -1,35 +1,39 @@
--- `records::check::check_each` meets its contract. The loop's invariant: the records from `i` on decide, and `roles` is the
--- header's count.
+-- `records::check::check_each` meets its contract. The loop's invariant: the records from `i` on decide.
 -- Assumes nothing.
-use native.Mathlib.Omega.{arith}
-use mathlib.Core.Path.{◌∙◌, refl, sym, ap}
-use Rattle.records.specs.declared.fields.Record.{Record}
+use mathlib.Core.Path.{◌≡◌, ◌∙◌, sym, ap}
+use Rattle.std.proofs.Common.{rules}
+use Rattle.records.specs.Check.{fields_check, record_check}
+use Rattle.records.specs.Code.Fields.{record_fits}
+use Rattle.records.specs.Format.{record_at}
+use Rattle.records.specs.Outcome.{refused}
+use Rattle.records.specs.Refusals.{answered, number_of}
 use Rattle.records.proofs.Laws.Checks.{turn_refused, turn_passed, turns_end}
+use Rattle.records.proofs.Refinement.Rows.{record_passes}
 use Rattle.records.proofs.check.check_each.Goals as goal
+use Rattle.records.proofs.check.check_each.Goals.{then-not-fits+in_ok-check, else-not-fits}
 
-pub loop-i-init : goal.loop-i-init
-loop-i-init c =
-    (refl, ap (λ (r : Record). r.b) c.read_at-roles.ensures)
-
-pub check_record-record-requires : goal.check_record-record-requires
-check_record-record-requires c =
-    record {
-      record_size_in_bounds = omega arith;
-      roles_value = c.loop-i.invariant.1;
-    }
-
-pub returns-in_default : goal.returns-in_default
-returns-in_default c =
-    turn_refused _ _ _ _ _ _ c.loop-i-test.true c.check_record-record.ensures
-    c.in_default.is ∙ sym c.loop-i.invariant.0
+pub returns-in_err-check : goal.returns-in_err-check
+unfolding record_check
+returns-in_err-check c =
+    let r = c.in_err-check.field-0.0 in
+    let told : answered c.from_residual.result ≡ refused (number_of r.row) r.place = search rules in
+    let row : refused (number_of r.row) r.place ≡ fields_check c.args.v.now c.loop-i.i c.read_at-f.result = search rules in
+    told ∙ turn_refused (record_check c.args.v.now) _ _ _ _ _ c.loop-i-test.true c.loop-i.invariant
+    (row ∙ ap (fields_check c.args.v.now c.loop-i.i) c.read_at-f.ensures)
 
 pub loop-i-preserved : goal.loop-i-preserved
-loop-i-preserved c = (
-  c.loop-i.invariant.0 ∙ turn_passed _ _ _ _ c.loop-i-test.true
-      c.check_record-record.ensures c.in-Fine.is,
-  c.loop-i.invariant.1,
-)
+unfolding record_check
+loop-i-preserved c =
+    let v = c.args.v.now in
+    let i = c.loop-i.i in
+    turn_passed (record_check v) _ _ _ c.loop-i-test.true c.loop-i.invariant
+    (elim c.if-not-fits.branch [
+      | then-not-fits+in_ok-check w ↦
+          sym (ap answered w.in_ok-check.was) ∙ w.check.ensures ∙ ap (fields_check v i) c.read_at-f.ensures
+      | else-not-fits w ↦
+          let fits = c.fits.ensures ∙ ap (record_fits v i) c.read_at-f.ensures in
+          record_passes v i (record_at v i) (sym fits ∙ w.if-not-fits.false)
+    ])
 
 pub returns : goal.returns
-returns c =
-    sym (c.loop-i.invariant.0 ∙ turns_end _ _ _ c.loop-i-test.false)
+returns c = turns_end _ _ _ _ c.loop-i-test.false c.loop-i.invariant

@@ -3,25 +3,19 @@
 use Prim.Native.Nat.{ℕ}
 use native.Mathlib.Omega.{arith}
 use mathlib.Core.Path.{◌≡◌, sym, ap, ◌∙◌}
-use mathlib.Core.Bool.{Bool, not}
 use mathlib.Core.List.{List}
-use lib.Dec.{eqb}
-use borrow.Author.Tests.{eqb-true}
-use Rattle.records.specs.Outcome.{require}
-use Rattle.records.specs.Answers.{checked}
-use Rattle.records.specs.declared.answers.Checked.{Checked}
-use Rattle.records.specs.declared.answers.Checked.TheVariants.{Fine}
-use Rattle.records.proofs.Laws.Checks.{require_passed, checked_fine}
-use Rattle.scripts.specs.Format.{entry_at, entry_limit, first_step}
+use Rattle.std.proofs.lemmas.Grind.{common_steps}
+use Rattle.records.specs.Outcome.{refused}
+use Rattle.records.specs.Refusals.{answered}
+use Rattle.scripts.specs.Format.{entry_at, first_step}
 use Rattle.scripts.specs.Code.Tested.{start_outcome, chain_outcome}
 use Rattle.scripts.specs.Code.Ready.{Ready, IsStep, IsStart}
 use Rattle.scripts.specs.declared.entry.Entry.{Entry}
 use Rattle.scripts.proofs.Theorems.Form.{KeepsForm, keeps_form}
 use Rattle.scripts.proofs.Refinement.Starting.{chain-none, chain_other, chain_started, first_step_lem}
-use Rattle.scripts.proofs.Invariants.Indexing.{blank_tables}
 use Rattle.scripts.proofs.run.check_chain.Goals as goal
 
-module _ (v s : List ℕ) (marks : List Bool) (header : Entry) (r : Ready v s marks header) where
+module _ (v s : List ℕ) (header : Entry) (r : Ready v s header) where
   form : KeepsForm v s
   form = keeps_form v s r.form
 
@@ -29,64 +23,63 @@ module _ (v s : List ℕ) (marks : List Bool) (header : Entry) (r : Ready v s ma
   first_at : header.w3 ≡ first_step s
   first_at = ap (λ (x : Entry). x.w3) r.begun.read
 
+  none : header.w3 ≡ 0 → refused 20 0 ≡ chain_outcome v s
+  none z = chain-none v s form header.w3 first_at z
+
   -- there is a first step
-  module _ (present : Checked) (tried : checked present ≡ require (not (eqb header.w3 0)) 20 0) (fine : present ≡ Fine) where
+  module _ (some : header.w3 ≡ 0 → ⊥) where
     first : IsStep s header.w3
-    first = first_step_lem v s form header.w3 first_at (require_passed _ _ _ (checked_fine _ _ tried fine))
+    first = first_step_lem v s form header.w3 first_at some
 
-    -- it is a start
-    module _ (e : Entry) (read : e ≡ entry_at s header.w3) (begun : Checked)
-        (asked : checked begun ≡ require (eqb e.w0 3) 20 header.w3) (yes : begun ≡ Fine) where
-      started : e.w0 ≡ 3
-      started = eqb-true e.w0 3 (require_passed _ _ _ (checked_fine _ _ asked yes))
+    module _ (e : Entry) (read : e ≡ entry_at s header.w3) where
+      other : (e.w0 ≡ 3 → ⊥) → refused 20 header.w3 ≡ chain_outcome v s
+      other n = chain_other v s form header.w3 first_at first e read n
 
-      is-start : IsStart s header.w3
-      is-start = record { step = first; kind = sym (ap (λ (x : Entry). x.w0) read) ∙ started }
+      -- it is a start
+      is-start : e.w0 ≡ 3 → IsStart s header.w3
+      is-start k = record { step = first; kind = sym (ap (λ (x : Entry). x.w0) read) ∙ k }
 
-      answered : start_outcome v s header.w3 ≡ chain_outcome v s
-      answered = chain_started v s form header.w3 first_at first e read started
+      started : e.w0 ≡ 3 → start_outcome v s header.w3 ≡ chain_outcome v s
+      started k = chain_started v s form header.w3 first_at first e read k
 
-pub returns-in_default : goal.returns-in_default
-returns-in_default c =
-    let a = c.args in
-    chain-none a.v.now a.s.now (form _ _ _ _ c.requires) _ _ _ _ _ (first_at _ _ _ _ c.requires) c.in_default.is
-    c.pass_if-present.ensures c.judge_after.ensures
+pub returns-in_err-require : goal.returns-in_err-require
+returns-in_err-require c =
+    let zero' : c.args.header.w3 ≡ 0 = grind (arith, common_steps) in
+    let answer : answered c.from_residual.result ≡ refused 20 0 = grind (arith, common_steps) in
+    answer ∙ none _ _ _ c.requires zero'
 
-pub read_entry-requires : goal.read_entry-requires
-read_entry-requires c =
-    omega (arith, (first _ _ _ _ c.requires _ c.pass_if-present.ensures c.in-Fine.is).within)
+pub read_at-requires : goal.read_at-requires
+read_at-requires c =
+    let some : c.args.header.w3 ≡ 0 → ⊥ = grind (arith, common_steps) in
+    omega (arith, (first _ _ _ c.requires some).within)
 
-pub returns-in_default-begun : goal.returns-in_default-begun
-returns-in_default-begun c =
-    let a = c.args in
-    let p = c.requires in
-    chain_other a.v.now a.s.now (form _ _ _ _ p) _ (first_at _ _ _ _ p)
-    (first _ _ _ _ p _ c.pass_if-present.ensures c.in-Fine.is) _ c.read_entry.ensures
-    _ _ _ _ c.in_default-begun.is c.pass_if-begun.ensures c.judge_after-in_default-begun.ensures
+pub returns-in_err-require-2 : goal.returns-in_err-require-2
+returns-in_err-require-2 c =
+    let some : c.args.header.w3 ≡ 0 → ⊥ = grind (arith, common_steps) in
+    let kind : c.read_at.result.w0 ≡ 3 → ⊥ = grind (arith, common_steps) in
+    let answer : answered c.from_residual-in_err-require-2.result ≡ refused 20 c.args.header.w3 = grind (arith, common_steps) in
+    answer ∙ other _ _ _ c.requires some _ c.read_at.ensures kind
 
-pub run_few-requires-clause-start : goal.run_few-requires-clause-start
-run_few-requires-clause-start c =
-    is-start _ _ _ _ c.requires _ c.pass_if-present.ensures c.in-Fine.is _ c.read_entry.ensures _
-    c.pass_if-begun.ensures c.in-Fine-begun.is
+pub run_in_tables-requires-clause-start : goal.run_in_tables-requires-clause-start
+run_in_tables-requires-clause-start c =
+    let some : c.args.header.w3 ≡ 0 → ⊥ = grind (arith, common_steps) in
+    let kind : c.read_at.result.w0 ≡ 3 = grind (arith, common_steps) in
+    is-start _ _ _ c.requires some _ c.read_at.ensures kind
 
 pub returns-then-end-le-FEW : goal.returns-then-end-le-FEW
 returns-then-end-le-FEW c =
-    c.run_few.ensures
-    ∙ answered _ _ _ _ c.requires _ c.pass_if-present.ensures c.in-Fine.is _ c.read_entry.ensures _
-    c.pass_if-begun.ensures c.in-Fine-begun.is
+    let some : c.args.header.w3 ≡ 0 → ⊥ = grind (arith, common_steps) in
+    let kind : c.read_at.result.w0 ≡ 3 = grind (arith, common_steps) in
+    c.run_in_tables.ensures ∙ started _ _ _ c.requires some _ c.read_at.ensures kind
 
-pub run_numbering-requires-clause-start : goal.run_numbering-requires-clause-start
-run_numbering-requires-clause-start c =
-    is-start _ _ _ _ c.requires _ c.pass_if-present.ensures c.in-Fine.is _ c.read_entry.ensures _
-    c.pass_if-begun.ensures c.in-Fine-begun.is
-
-pub run_numbering-requires-clause-blank : goal.run_numbering-requires-clause-blank
-run_numbering-requires-clause-blank c =
-    let most = (form _ _ _ _ c.requires).sized.most in
-    blank_tables c.args.s.now entry_limit (λ n r. omega (arith, r.within, most)) (omega arith)
+pub run_in_tables-requires-2-clause-start : goal.run_in_tables-requires-2-clause-start
+run_in_tables-requires-2-clause-start c =
+    let some : c.args.header.w3 ≡ 0 → ⊥ = grind (arith, common_steps) in
+    let kind : c.read_at.result.w0 ≡ 3 = grind (arith, common_steps) in
+    is-start _ _ _ c.requires some _ c.read_at.ensures kind
 
 pub returns : goal.returns
 returns c =
-    c.run_numbering.ensures
-    ∙ answered _ _ _ _ c.requires _ c.pass_if-present.ensures c.in-Fine.is _ c.read_entry.ensures _
-    c.pass_if-begun.ensures c.in-Fine-begun.is
+    let some : c.args.header.w3 ≡ 0 → ⊥ = grind (arith, common_steps) in
+    let kind : c.read_at.result.w0 ≡ 3 = grind (arith, common_steps) in
+    c.run_in_tables-2.ensures ∙ started _ _ _ c.requires some _ c.read_at.ensures kind

@@ -3,11 +3,10 @@
 -- Assumes nothing.
 use Prim.Native.Nat.{ℕ}
 use mathlib.Core.Path.{◌≡◌, ap, ◌∙◌}
-use lib.ListN.{length}
 use mathlib.Core.List.{List}
-use Rattle.records.specs.Answers.{checked}
+use lib.ListN.{length}
+use Rattle.std.proofs.lemmas.Result.{err_from_is_err_and}
 use Rattle.records.specs.Atoms.{atoms}
-use Rattle.records.specs.declared.answers.Checked.{Checked}
 use Rattle.records.specs.Outcome.{◌then◌}
 use Rattle.types.specs.Comparison.{size_check}
 use Rattle.taxonomy.specs.Taxonomy.{table_check}
@@ -15,49 +14,50 @@ use Rattle.taxonomy.proofs.Refinement.Outcomes.{size_rows, refused-vocabulary, r
 use Rattle.taxonomy.proofs.Refinement.Outcomes.{sizes_settleable, tabulated_call}
 use Rattle.taxonomy.proofs.call.classify.Goals as goal
 
-pub returns-in_default : goal.returns-in_default
-returns-in_default c =
+pub returns-in_err-check_vocabulary : goal.returns-in_err-check_vocabulary
+returns-in_err-check_vocabulary c =
     let a = c.args in
-    let left = refused-vocabulary a.v.now a.lent.now a.room.now c.classify_after_count.result _ _ _ _
-    c.check_vocabulary-vocabulary.ensures c.in_default.is c.classify_after_count.ensures in
-    record { result_value = left.0; lent_after = left.1.0; room_after = left.1.1 }
+    let left = refused-vocabulary a.v.now a.lent.now a.room.now _ _ c.in_err-check_vocabulary.ensures in
+    let p = err_from_is_err_and c.from_residual.result c.from_residual.ensures.1 in
+    rw (p.1, p.2) record { result_value = left.0; lent_after = left.1.0; room_after = left.1.1 }
 
--- rows 11, 12 and 26 were asked of the number of atoms
-asked : (v lent room : List ℕ) (k : ℕ) (q : Checked) → checked q ≡ (size_check k (length lent) then table_check (length room))
-    → k ≡ atoms v → checked q ≡ size_rows v lent room
-asked v lent room k q e f = e ∙ ap (λ (k : ℕ). size_check k (length lent) then table_check (length room)) f
+-- rows 11, 12 and 26 are asked of the number of atoms
+asked : (v lent room : List ℕ) (k : ℕ) → k ≡ atoms v
+    → (size_check k (length lent) then table_check (length room)) ≡ size_rows v lent room
+asked v lent room k e = ap (λ (k : ℕ). size_check k (length lent) then table_check (length room)) e
 
-pub returns-in_default-check : goal.returns-in_default-check
-returns-in_default-check c =
-    let v = c.args.v.now in
-    let lent = c.args.lent.now in
-    let room = c.args.room.now in
-    let rows = asked v lent room _ _ c.check_sizes-check.ensures c.count_atoms-k.ensures in
-    let left = refused_sizes v lent room _ _ c.check_vocabulary-vocabulary.ensures c.in-Records.is c.classify_after.result _ _ _ _
-    rows c.in_default-check.is c.classify_after.ensures in
-    record { result_value = left.0; lent_after = left.1.0; room_after = left.1.1 }
+pub returns-in_err-check_sizes : goal.returns-in_err-check_sizes
+returns-in_err-check_sizes c =
+    let a = c.args in
+    let rows = c.in_err-check_sizes.ensures ∙ asked a.v.now a.lent.now a.room.now _ c.count_atoms-k.ensures in
+    let left = refused_sizes a.v.now a.lent.now a.room.now _ c.in_ok-check_vocabulary.ensures _ _ rows in
+    let r = c.from_residual-in_err-check_sizes in
+    let p = err_from_is_err_and r.result r.ensures.1 in
+    rw (p.1, p.2) record { result_value = left.0; lent_after = left.1.0; room_after = left.1.1 }
+
+pub invariant_of-v : goal.invariant_of-v
+invariant_of-v c =
+    let a = c.args in
+    let rows = c.in_ok-check_sizes.ensures ∙ asked a.v.now a.lent.now a.room.now _ c.count_atoms-k.ensures in
+    let q = sizes_settleable a.v.now a.lent.now a.room.now _ c.in_ok-check_vocabulary.ensures rows _ c.count_atoms-k.ensures in
+    record { accepted = q.accepts; few = q.few; counted = q.counts }
 
 pub tabulate-requires : goal.tabulate-requires
 tabulate-requires c =
-    let v = c.args.v.now in
-    let lent = c.args.lent.now in
-    let room = c.args.room.now in
-    let rows = asked v lent room _ _ c.check_sizes-check.ensures c.count_atoms-k.ensures in
-    let known = c.check_vocabulary-vocabulary.ensures in
-    let passed = sizes_passed v lent room _ _ known c.in-Records.is _ rows c.in-Fine.is in
+    let a = c.args in
+    let known = c.in_ok-check_vocabulary.ensures in
+    let rows = c.in_ok-check_sizes.ensures ∙ asked a.v.now a.lent.now a.room.now _ c.count_atoms-k.ensures in
+    let passed = sizes_passed a.v.now a.lent.now a.room.now _ known rows in
     record {
-      settleable = sizes_settleable v lent room _ _ known c.in-Records.is _ rows c.in-Fine.is _ c.count_atoms-k.ensures;
       bitmap_bytes_in_bounds = passed.first;
       taxonomy_bytes_in_bounds = passed.second;
     }
 
 pub returns : goal.returns
 returns c =
-    let v = c.args.v.now in
-    let lent = c.args.lent.now in
-    let room = c.args.room.now in
-    let rows = asked v lent room _ _ c.check_sizes-check.ensures c.count_atoms-k.ensures in
+    let a = c.args in
+    let rows = c.in_ok-check_sizes.ensures ∙ asked a.v.now a.lent.now a.room.now _ c.count_atoms-k.ensures in
     let e = c.tabulate.ensures in
-    let done = tabulated_call v lent room _ _ c.check_vocabulary-vocabulary.ensures c.in-Records.is _ rows c.in-Fine.is
-    c.tabulate.result _ _ e.result_value e.lent_after e.room_after in
+    let done = tabulated_call a.v.now a.lent.now a.room.now _ c.in_ok-check_vocabulary.ensures rows _ _ _ e.result_value
+    e.lent_after e.room_after in
     record { result_value = done.0; lent_after = done.1.0; room_after = done.1.1 }

@@ -1,6 +1,6 @@
 -- `types::bitmap::byte_of` meets its contract. The loop's invariant: `byte` is the number of the bits from `j` on.
 -- Assumes nothing.
-use Prim.Native.Nat.{ℕ, ◌+◌, ◌*◌, ◌≤◌}
+use Prim.Native.Nat.{ℕ, ◌+◌, ◌*◌}
 use mathlib.Core.Bool.{Bool}
 use mathlib.Core.List.{List}
 use mathlib.Core.Path.{◌≡◌}
@@ -14,8 +14,4 @@ bits alive n j = has alive (8 * n + j)
 
 abbrev pub invariant-loop-j : goal.invariant-loop-j
 invariant-loop-j l =
-    (l.j ≤ 8) × (l.byte ≡ word_from 8 (bits l.alive l.n) l.j)
-
-abbrev pub decreases-loop-j : goal.decreases-loop-j
-decreases-loop-j l =
-    l.j
+    l.byte ≡ word_from 8 (bits l.alive l.n) l.j

@@ -8,12 +8,10 @@ use Rattle.types.proofs.bitmap.write_types.Goals as goal
 
 pub loop-n-init : goal.loop-n-init
 loop-n-init c =
-    (omega arith, over-start (byte_of c.args.alive.now) c.args.lent.now)
+    over-start (byte_of c.args.alive.now) c.args.lent.now
 
 pub loop-n-preserved : goal.loop-n-preserved
 loop-n-preserved c =
-    let a = c.args in (
-      omega arith,
-      over_turn (byte_of a.alive.now) c.loop-n.n a.lent.now c.loop-n.lent c.byte_of.result (omega arith)
-          c.loop-n.invariant.1 c.byte_of.ensures,
-    )
+    let a = c.args in
+    over_turn (byte_of a.alive.now) c.loop-n.n a.lent.now c.loop-n.lent c.byte_of.result (omega arith)
+    c.loop-n.invariant c.byte_of.ensures

@@ -1,7 +1,6 @@
 -- `types::bitmap::write_types` meets its contract. The loop's invariant: the first `n` bytes of the bitmap stand over what
 -- was lent.
 -- Assumes nothing.
-use Prim.Native.Nat.{◌-◌, ◌≤◌}
 use mathlib.Core.Path.{◌≡◌}
 use Rattle.types.specs.Bitmap.{byte_of}
 use Rattle.records.proofs.Laws.Filling.{table_over}
@@ -9,8 +8,4 @@ use Rattle.types.proofs.bitmap.write_types.Given as goal
 
 abbrev pub invariant-loop-n : goal.invariant-loop-n
 invariant-loop-n l =
-    (l.n ≤ l.end) × (l.lent ≡ table_over (byte_of l.alive) l.n l.initial.lent)
-
-abbrev pub decreases-loop-n : goal.decreases-loop-n
-decreases-loop-n l =
-    l.end - l.n
+    l.lent ≡ table_over (byte_of l.alive) l.n l.initial.lent

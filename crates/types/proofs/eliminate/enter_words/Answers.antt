@@ -1,14 +1,17 @@
 -- `types::eliminate::enter_words` meets its contract. The loop's invariant: `joins` holds the words of the fillers at the
--- first `j` listed types.
+-- listed types that the loop is past.
 -- Assumes nothing.
 use native.Mathlib.Omega.{arith}
+use Rattle.std.proofs.lemmas.Grind.{common_steps}
 use Rattle.types.proofs.Invariants.Elimination.{enter_start, enter_turn}
 use Rattle.types.proofs.eliminate.enter_words.Goals as goal
 
-pub loop-j-init : goal.loop-j-init
-loop-j-init c =
-    (omega arith, enter_start _ _ _ _ _ c.clear_words.ensures.joins_len_2 c.clear_words.ensures.by_index)
+pub loop-t-init : goal.loop-t-init
+loop-t-init c =
+    enter_start c.args.filling.now c.args.remaining.now _ _ (λ x h. grind (arith, common_steps))
 
-pub loop-j-preserved : goal.loop-j-preserved
-loop-j-preserved c =
-    (omega arith, enter_turn _ _ _ _ _ _ c.loop-j.invariant.1 (c.requires.by_index_2 c.loop-j.j c.loop-j-test.true))
+pub loop-t-preserved : goal.loop-t-preserved
+loop-t-preserved c =
+    let a = c.args in
+    let i = c.loop-t.t-index in
+    enter_turn a.filling.now a.remaining.now _ _ i c.loop-t.invariant (omega (arith, c.requires.by_index_2 i c.loop-t-test.true))

@@ -1,17 +1,31 @@
--- `types::eliminate::remove_by_roles` meets its contract. The loop's invariant: what is left is what the roles below `role`
--- serve, and the list has it, `rest` types in all.
+-- `types::eliminate::remove_by_roles` meets its contract. The loop's invariant: what is left is what the roles that the loop
+-- is past serve, and the list has it.
 -- Assumes nothing.
-use Prim.Native.Nat.{◌<◌}
+use Prim.Native.Nat.{ℕ, ◌<◌}
 use native.Mathlib.Omega.{arith}
 use mathlib.Core.Path.{◌≡◌, ap}
+use mathlib.Core.List.{List}
+use lib.ListN.{length, get_or, take}
 use lib.Pow.{pow_pos}
-use Rattle.records.specs.Format.{role_limit, role_count}
+use Rattle.std.proofs.lemmas.List.{get_or-take, length-take}
+use Rattle.records.specs.Format.{record_at, role_count}
 use Rattle.records.specs.declared.fields.Record.{Record}
 use Rattle.types.proofs.Refinement.Rounds.{roles-start, roles_skip, roles_turn, round_done}
 use Rattle.types.proofs.Refinement.Rounds.{good, bits_few, reached_in, met-role, role_skipped, full_word}
 use Rattle.types.proofs.Invariants.Elimination.{keeps_within}
 use Rattle.types.proofs.eliminate.remove_by_roles.Goals as goal
 use Rattle.types.proofs.eliminate.remove_by_roles.Goals.{then-mask-full, else-mask-full}
+
+-- the number of roles, as the code reads it
+role_count_is : (v : List ℕ) (r : Record) → r ≡ record_at v 0 → r.b ≡ role_count v
+role_count_is v r e = ap (λ (r : Record). r.b) e
+
+-- the masks that the loop goes over are those of the roles
+mask_of : {b n r : ℕ} (masks : List ℕ) → r < length (take b masks) → b ≡ n
+    → (r < n) × (get_or (take b masks) r 0 ≡ get_or masks r 0)
+mask_of {b} {n} {r} masks h e =
+    let below : r < b = omega (arith, length-take b masks) in
+    (omega arith, get_or-take b masks r 0 below)
 
 pub read_at-count-requires : goal.read_at-count-requires
 read_at-count-requires c =
@@ -30,49 +44,46 @@ overflow_sub-full c =
     let few = bits_few c.requires.eliminating in
     omega (arith, full_word c.args.bits (omega arith), pow_pos c.args.bits)
 
-pub loop-role-init : goal.loop-role-init
-loop-role-init c =
-    let s = c.requires.eliminating in (omega arith, roles-start _ _, s.listed)
+pub shared_ref_as_front-mask-items : goal.shared_ref_as_front-mask-items
+shared_ref_as_front-mask-items c =
+    omega (arith, role_count_is c.args.v.now _ c.read_at-count.ensures, (good c.requires.eliminating).roles)
 
-pub bounds-masks-role : goal.bounds-masks-role
-bounds-masks-role c =
-    let below : c.loop-role.role < role_count c.args.v.now =
-    omega (arith, c.loop-role-test.true, ap (λ (r : Record). r.b) c.read_at-count.ensures) in
-    let inside : c.loop-role.role < role_limit =
-    omega (arith, below, (good c.requires.eliminating).roles) in
-    omega (arith, inside)
+pub loop-mask-init : goal.loop-mask-init
+loop-mask-init c =
+    let s = c.requires.eliminating in (roles-start _ _, s.listed)
 
-pub remove_unmet-rest-requires-clause-by_index : goal.remove_unmet-rest-requires-clause-by_index
-remove_unmet-rest-requires-clause-by_index c =
-    let below : c.loop-role.role < role_count c.args.v.now =
-    omega (arith, c.loop-role-test.true, ap (λ (r : Record). r.b) c.read_at-count.ensures) in
-    λ t h. reached_in c.requires.eliminating _ t below (keeps_within _ _ _ c.loop-role.invariant.1 t h)
+pub remove_unmet-requires-clause-by_index : goal.remove_unmet-requires-clause-by_index
+remove_unmet-requires-clause-by_index c =
+    let r = mask_of c.args.masks.now c.loop-mask-test.true (role_count_is c.args.v.now _ c.read_at-count.ensures) in
+    rw r.1 (λ t h. reached_in c.requires.eliminating _ t r.0 (keeps_within _ _ _ c.loop-mask.invariant.0 t h))
 
-pub loop-role-preserved : goal.loop-role-preserved
-loop-role-preserved c =
-    let below : c.loop-role.role < role_count c.args.v.now =
-    omega (arith, c.loop-role-test.true, ap (λ (r : Record). r.b) c.read_at-count.ensures) in
-    let i = c.loop-role.invariant in
+pub loop-mask-preserved : goal.loop-mask-preserved
+loop-mask-preserved c =
+    let r = mask_of c.args.masks.now c.loop-mask-test.true (role_count_is c.args.v.now _ c.read_at-count.ensures) in
+    let i = c.loop-mask.invariant in
     let s = c.requires.eliminating in
     let few = bits_few s in
     let full = full_word c.args.bits (omega arith) in
     elim c.if-mask-full.branch [
-      | then-mask-full z ↦ let after = z.remove_unmet-rest.ensures in rw (z.rest-is, z.remaining-is, z.alive-is) (
-        omega (arith, below),
-        roles_turn _ _ _ _ i.1 _ _ after.keeps
-            (λ t m. met-role s c.args.joins.now c.requires.joins _ t below m),
-        after.enumerates_2,
+      | then-mask-full z ↦ rw (z.remaining-is, z.alive-is) (
+        roles_turn _ _ _ _ i.0 _ _ z.remove_unmet.ensures.keeps
+            (λ t m. rw r.1 (met-role s c.args.joins.now c.requires.joins _ t r.0 m)),
+        z.remove_unmet.ensures.enumerates_2,
       )
-      | else-mask-full z ↦ rw (z.rest-is, z.remaining-is, z.alive-is) (
-        omega (arith, below),
-        roles_skip _ _ _ _ i.1 (λ t. role_skipped s _ t below (omega (arith, z.if-mask-full.false, full))),
-        i.2,
+      | else-mask-full z ↦ rw (z.remaining-is, z.alive-is) (
+        roles_skip _ _ _ _ i.0 (λ t. role_skipped s _ t r.0 (omega (arith, r.1, z.if-mask-full.false, full))),
+        i.1,
       )
     ]
 
 pub returns-clause-same_set : goal.returns-clause-same_set
 returns-clause-same_set c =
-    let i = c.loop-role.invariant in
-    let e : c.loop-role.role ≡ role_count c.args.v.now =
-    omega (arith, i.0, c.loop-role-test.false, ap (λ (r : Record). r.b) c.read_at-count.ensures) in
-    round_done c.requires.eliminating _ _ e i.1
+    let n = role_count_is c.args.v.now _ c.read_at-count.ensures in
+    round_done c.requires.eliminating _ _
+    (omega (
+      arith,
+      c.loop-mask-test.false,
+      n,
+      length-take c.read_at-count.result.b c.args.masks.now,
+      (good c.requires.eliminating).roles,
+    )) c.loop-mask.invariant.0

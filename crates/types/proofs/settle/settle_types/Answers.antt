@@ -6,9 +6,8 @@ use Rattle.records.specs.Format.{count}
 use Rattle.records.proofs.Theorems.Accepted.{accepted-vocabulary}
 use Rattle.types.proofs.settle.settle_types.Goals as goal
 
-pub settle_query-requires-clause-comparable : goal.settle_query-requires-clause-comparable
-settle_query-requires-clause-comparable c =
+pub invariant_of-header : goal.invariant_of-header
+invariant_of-header c =
     let v = c.args.v.now in
-    let q = c.requires.settleable in
-    let some : 0 < count v = omega (arith, (accepted-vocabulary v _ q.accepts).sized.least) in
-    record { settles = q; first = some; second = some }
+    let some : 0 < count v = omega (arith, (accepted-vocabulary v _ c.requires.settleable.accepts).sized.least) in
+    record { first = some; second = some }

@@ -2,12 +2,12 @@
 -- halves, are joined where they have bit n, all others are the caller's.
 -- Assumes nothing.
 use native.Mathlib.Omega.{arith}
-use Rattle.types.proofs.Invariants.Zeta.{pair_room, pair_turn}
+use Rattle.types.proofs.Invariants.Zeta.{pair_room, pair_turn, zeta-step_end}
 use Rattle.types.specs.Comparison.{atom_limit}
 use Rattle.types.proofs.zeta.zeta_blocks.Goals as goal
 
-pub join_block-requires-clause-half_bound : goal.join_block-requires-clause-half_bound
-join_block-requires-clause-half_bound c =
+pub join_block-requires : goal.join_block-requires
+join_block-requires c =
     let start = c.requires in
     pair_room _ _ _ _ c.loop-at.invariant atom_limit _ start.size_le_type_limit start.n_lt_atom_limit (omega arith)
     c.loop-at-test.true
@@ -17,3 +17,10 @@ loop-at-preserved c =
     let start = c.requires in
     pair_turn _ _ _ _ c.loop-at.invariant atom_limit _ start.size_le_type_limit start.n_lt_atom_limit (omega arith) _
     c.join_block.ensures
+
+pub returns-2 : goal.returns-2
+returns-2 c =
+    let start = c.requires in
+    let last = pair_turn _ _ _ _ c.loop-at.invariant atom_limit _ start.size_le_type_limit start.n_lt_atom_limit
+    (omega arith) _ c.join_block.ensures in
+    zeta-step_end _ _ _ _ _ last.joined (omega arith)

@@ -19,4 +19,4 @@ loop-x-smaller c =
 
 pub loop-x-preserved : goal.loop-x-preserved
 loop-x-preserved c =
-    step_turn _ _ (omega arith) _ _ c.loop-x.invariant (omega (arith, c.requires.joins_len))
+    step_turn _ _ (omega arith) _ _ c.loop-x.invariant (omega arith)

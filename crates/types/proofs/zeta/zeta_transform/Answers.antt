@@ -8,12 +8,12 @@ use Rattle.types.proofs.zeta.zeta_transform.Goals as goal
 
 pub loop-n-init : goal.loop-n-init
 loop-n-init c =
-    (omega arith, zeta-start _ _)
+    zeta-start _ _
 
 pub zeta_bit-requires-clause-size_le_type_limit : goal.zeta_bit-requires-clause-size_le_type_limit
 zeta_bit-requires-clause-size_le_type_limit c =
-    words-room _ atom_limit c.requires.bits_le_atom_limit (omega arith)
+    words-room _ atom_limit c.requires (omega arith)
 
 pub loop-n-preserved : goal.loop-n-preserved
 loop-n-preserved c =
-    (omega arith, zeta_turn _ _ _ _ c.loop-n.invariant.1 _ (omega arith) c.zeta_bit.ensures)
+    zeta_turn _ _ _ _ c.loop-n.invariant _ (omega arith) c.zeta_bit.ensures

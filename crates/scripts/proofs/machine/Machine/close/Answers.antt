@@ -3,29 +3,19 @@
 -- Assumes nothing.
 use Prim.Native.Nat.{◌-◌}
 use native.Mathlib.Omega.{arith}
+use mathlib.Core.Path.{ap, ◌∙◌}
+use Rattle.scripts.specs.Run.{close}
 use Rattle.scripts.proofs.Refinement.Frames.{close-all, close-back}
 use Rattle.scripts.proofs.machine.Machine.close.Goals as goal
 
-pub returns-then-depth-eq0 : goal.returns-then-depth-eq0
-returns-then-depth-eq0 c =
-    let m = c.args.self in
-    let p = c.requires in
-    record {
-      standing = record { deep = omega (arith, c.if-depth-eq0.true); back = omega arith; backs = p.backs };
-      shown = close-all m.below m.others m.backs m.goal m.back m.depth 0 0 c.if-depth-eq0.true;
-    }
+pub returns-then-self-gt0 : goal.returns-then-self-gt0
+returns-then-self-gt0 c =
+    let m = c.self.inside in
+    let p = c.self.invariant in
+    close-back m.frames p.backs (m.back - 1) m.goal m.back m.depth (omega (arith, c.if-self-gt0.true)) p.leads
+    ∙ ap close c.self.view_is
 
-pub returns : goal.returns
-returns c =
-    let m = c.args.self in
-    let p = c.requires in
-    let f = m.back - 1 in
-    record {
-      standing = record {
-        deep = omega (arith, p.deep, p.back);
-        back = omega (arith, c.widen-back.ensures, p.backs f, c.if-depth-eq0.false);
-        backs = p.backs;
-      };
-      shown = close-back m.below m.others m.backs p.backs f m.goal m.back m.depth _
-          (omega (arith, c.if-depth-eq0.false)) p.back c.widen-back.ensures;
-    }
+pub returns-else-self-gt0 : goal.returns-else-self-gt0
+returns-else-self-gt0 c =
+    let m = c.self.inside in
+    close-all m.frames m.goal m.back m.depth m.goal m.back (omega (arith, c.if-self-gt0.false)) ∙ ap close c.self.view_is

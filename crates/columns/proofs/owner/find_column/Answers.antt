@@ -1,8 +1,0 @@
--- `columns::owner::find_column` meets its contract. Owner 0 is the query; of another its record's kind decides.
--- Assumes nothing.
-use Rattle.columns.specs.Columns.{columns_at}
-use Rattle.columns.proofs.owner.find_column.Goals as goal
-
-pub returns-then-owner-eq0 : goal.returns-then-owner-eq0
-unfolding columns_at
-returns-then-owner-eq0 c = rw c.if-owner-eq0.true (c.query_column.ensures _ _ _)
