@@ -99,8 +99,8 @@ enum {
 };
 
 /* Stack that is enough for any call; measured, not proved (tests/stack.c, over the stored cases; the kit's compiler,
- * x86-64): the vocabulary check needs 88 bytes, the record call 8, the comparison 46,088, the classification 46,456,
- * the script check 27,448, making 8, adding a term 200, adding a statement 184, and at most 3,100 more where the
+ * x86-64): the vocabulary check needs 192 bytes, the record call 8, the comparison 46,600, the classification 47,544,
+ * the script check 22,872, making 8, adding a term 272, adding a statement 272, and at most 3,100 more where the
  * program binds memset or memcpy only at the first call. */
 enum { JUDGE_STACK_BYTES = 131072 };
 
