@@ -25,14 +25,6 @@ loop-at-init c =
     let first = ap (λ (r : Record). r.a) c.read_at-at.ensures in
     (subst (Linked v 0) (sym first) good.first, ap (λ (i : ℕ). last_or 0 (chain_from v i)) first)
 
-pub read_at-at-requires-in-loop-at : goal.read_at-at-requires-in-loop-at
-read_at-at-requires-in-loop-at c =
-    let good : AcceptedFacts c.args.v.now =
-    well_formed_vocabulary c.args.v.now c.requires in
-    let here : Later c.args.v.now 0 c.loop-at.at =
-    linked-here _ good _ c.loop-at.invariant.0 c.loop-at-test.true in
-    omega (arith, here.within)
-
 pub loop-at-smaller : goal.loop-at-smaller
 loop-at-smaller c =
     let good : AcceptedFacts c.args.v.now =

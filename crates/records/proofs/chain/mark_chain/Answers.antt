@@ -31,14 +31,6 @@ bounds-marks-at c =
     linked-here _ good _ c.loop-at.invariant.linked c.loop-at-test.true in
     omega (arith, good.sized.most, here.within)
 
-pub read_at-at-requires-in-loop-at : goal.read_at-at-requires-in-loop-at
-read_at-at-requires-in-loop-at c =
-    let good : AcceptedFacts c.args.v.now =
-    well_formed_vocabulary c.args.v.now c.requires.well_formed in
-    let here : Later c.args.v.now 0 c.loop-at.at =
-    linked-here _ good _ c.loop-at.invariant.linked c.loop-at-test.true in
-    omega (arith, here.within)
-
 pub loop-at-smaller : goal.loop-at-smaller
 loop-at-smaller c =
     let good : AcceptedFacts c.args.v.now =

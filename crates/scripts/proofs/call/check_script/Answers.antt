@@ -33,19 +33,6 @@ pub invariant_of-vocabulary-clause-accepted : goal.invariant_of-vocabulary-claus
 invariant_of-vocabulary-clause-accepted c =
     vocabulary_at _ _ c.in_ok-check_vocabulary.ensures
 
-pub check_form-requires : goal.check_form-requires
-check_form-requires c =
-    begun _ _ _ _ _ c.in_ok-check_vocabulary.ensures c.in_ok-require.ensures c.length_fits.ensures
-    c.read_at-header.ensures
-
-pub check_chain-requires : goal.check_chain-requires
-check_chain-requires c =
-    record {
-      begun = begun _ _ _ _ _ c.in_ok-check_vocabulary.ensures c.in_ok-require.ensures c.length_fits.ensures
-          c.read_at-header.ensures;
-      form = sym c.in_ok-check_form.ensures;
-    }
-
 pub returns : goal.returns
 returns c =
     decided _ _ _ (vocabulary_at _ _ c.in_ok-check_vocabulary.ensures) (sym c.in_ok-check_form.ensures)

@@ -10,7 +10,7 @@ use Rattle.records.specs.Atoms.{atoms}
 use Rattle.records.specs.Outcome.{◌then◌}
 use Rattle.types.specs.Comparison.{size_check}
 use Rattle.taxonomy.specs.Taxonomy.{table_check}
-use Rattle.taxonomy.proofs.Refinement.Outcomes.{size_rows, refused-vocabulary, refused_sizes, sizes_passed}
+use Rattle.taxonomy.proofs.Refinement.Outcomes.{size_rows, refused-vocabulary, refused_sizes}
 use Rattle.taxonomy.proofs.Refinement.Outcomes.{sizes_settleable, tabulated_call}
 use Rattle.taxonomy.proofs.call.classify.Goals as goal
 
@@ -41,17 +41,6 @@ invariant_of-v c =
     let rows = c.in_ok-check_sizes.ensures ∙ asked a.v.now a.lent.now a.room.now _ c.count_atoms-k.ensures in
     let q = sizes_settleable a.v.now a.lent.now a.room.now _ c.in_ok-check_vocabulary.ensures rows _ c.count_atoms-k.ensures in
     record { accepted = q.accepts; few = q.few; counted = q.counts }
-
-pub tabulate-requires : goal.tabulate-requires
-tabulate-requires c =
-    let a = c.args in
-    let known = c.in_ok-check_vocabulary.ensures in
-    let rows = c.in_ok-check_sizes.ensures ∙ asked a.v.now a.lent.now a.room.now _ c.count_atoms-k.ensures in
-    let passed = sizes_passed a.v.now a.lent.now a.room.now _ known rows in
-    record {
-      bitmap_bytes_in_bounds = passed.first;
-      taxonomy_bytes_in_bounds = passed.second;
-    }
 
 pub returns : goal.returns
 returns c =

@@ -9,9 +9,3 @@ invariant_of-v c =
     let q = query_comparable c.args.v.now c.args.a c.args.b _ _ (sym c.in_ok-check_vocabulary.ensures)
     (sym c.in_ok-check_query.ensures) _ c.count_atoms-k.ensures in
     record { accepted = q.settles.accepts; few = q.settles.few; counted = q.settles.counts }
-
-pub invariant_of-query : goal.invariant_of-query
-invariant_of-query c =
-    let q = query_comparable c.args.v.now c.args.a c.args.b _ _ (sym c.in_ok-check_vocabulary.ensures)
-    (sym c.in_ok-check_query.ensures) _ c.count_atoms-k.ensures in
-    record { first = q.first; second = q.second }

@@ -4,7 +4,6 @@
 use native.Mathlib.Omega.{arith}
 use mathlib.Core.Path.{◌∙◌}
 use Rattle.types.specs.Comparison.{atom_limit}
-use Rattle.types.proofs.Invariants.Elimination.{enumerates_inside}
 use Rattle.types.proofs.Invariants.Zeta.{power, words-room}
 use Rattle.types.proofs.Refinement.Rounds.{bits_few, filler_word_in, joins_done, round-stage}
 use Rattle.types.proofs.eliminate.remove_unserved.Goals as goal
@@ -12,10 +11,6 @@ use Rattle.types.proofs.eliminate.remove_unserved.Goals as goal
 pub overflow_shl-bits : goal.overflow_shl-bits
 overflow_shl-bits c =
     let few = bits_few c.requires.eliminating in omega arith
-
-pub enter_words-requires-clause-by_index : goal.enter_words-requires-clause-by_index
-enter_words-requires-clause-by_index c =
-    rw c.as_slice.ensures (enumerates_inside _ c.args.alive.now c.requires.eliminating.listed (omega arith))
 
 pub enter_words-requires-clause-by_index_2 : goal.enter_words-requires-clause-by_index_2
 enter_words-requires-clause-by_index_2 c =
