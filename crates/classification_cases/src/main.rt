@@ -109,19 +109,20 @@ impl Program for ClassificationCases {
     ghost line = { case_line };
 
     fn run_case<R: Read, W: Write>(input: &mut R, out: &mut W) -> io::Result<bool> {
+        // The spaces first: behind the reading of the head they would be cleared twice.
+        let mut space = [0u8; 8192];
+        let mut first = [0u8; 1024];
+        let mut second = [0u8; 1024];
         let Some(bytes) = read_array::<R, 7>(input)? else {
             return Ok(false);
         };
         let head = Head::from(bytes);
-        let mut space = [0u8; 8192];
         let Some(v) = read_part(input, &mut space, usize::from(head.length))? else {
             return Ok(false);
         };
-        let mut first = [0u8; 1024];
         let Some(survivors) = first.get_mut(..usize::from(head.first)) else {
             return Ok(false);
         };
-        let mut second = [0u8; 1024];
         let Some(taxonomy) = second.get_mut(..usize::from(head.second)) else {
             return Ok(false);
         };

@@ -96,15 +96,16 @@ impl Program for ComparisonCases {
     ghost line = { case_line };
 
     fn run_case<R: Read, W: Write>(input: &mut R, out: &mut W) -> io::Result<bool> {
+        // The spaces first: behind the reading of the head they would be cleared twice.
+        let mut space = [0u8; 8192];
+        let mut lent = [0u8; 1024];
         let Some(bytes) = read_array::<R, 13>(input)? else {
             return Ok(false);
         };
         let head = Head::from(bytes);
-        let mut space = [0u8; 8192];
         let Some(v) = read_part(input, &mut space, usize::from(head.length))? else {
             return Ok(false);
         };
-        let mut lent = [0u8; 1024];
         let Some(buffer) = lent.get_mut(..usize::from(head.lent)) else {
             return Ok(false);
         };

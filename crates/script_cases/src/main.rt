@@ -59,15 +59,16 @@ impl Program for ScriptCases {
     ghost line = { case_line };
 
     fn run_case<R: Read, W: Write>(input: &mut R, out: &mut W) -> io::Result<bool> {
+        // The spaces first: behind the reading of the head they would be cleared twice.
+        let mut space = [0u8; 8192];
+        let mut script_space = [0u8; 65536];
         let Some(bytes) = read_array::<R, 4>(input)? else {
             return Ok(false);
         };
         let head = Head::from(bytes);
-        let mut space = [0u8; 8192];
         let Some(v) = read_part(input, &mut space, usize::from(head.vocabulary))? else {
             return Ok(false);
         };
-        let mut script_space = [0u8; 65536];
         let Some(s) = read_part(input, &mut script_space, usize::from(head.script))? else {
             return Ok(false);
         };

@@ -130,6 +130,7 @@ fn remove_unserved(
     ensures same_set { SameSet alive.new (round v.now alive.old) }
     ensures by_index { (n : ℕ) → SameSet alive.old (stage v.now n)
         → AtStage v.now (n + 1) alive.new result }
+    ensures left { result ≡ length remaining.new }
 {
     enter_words(filling, remaining.as_slice(), 1 << bits, joins);
     zeta_transform(joins, bits);

@@ -88,11 +88,12 @@ impl Program for VocabularyCases {
     ghost line = { case_line };
 
     fn run_case<R: Read, W: Write>(input: &mut R, out: &mut W) -> io::Result<bool> {
+        // The space first: behind the reading of the head it would be cleared twice.
+        let mut space = [0u8; 8192];
         let Some(bytes) = read_array::<R, 6>(input)? else {
             return Ok(false);
         };
         let head = Head::from(bytes);
-        let mut space = [0u8; 8192];
         let Some(v) = read_part(input, &mut space, usize::from(head.length))? else {
             return Ok(false);
         };

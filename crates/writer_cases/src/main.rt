@@ -179,11 +179,12 @@ impl Program for WriterCases {
     ghost line = { case_line };
 
     fn run_case<R: Read, W: Write>(input: &mut R, out: &mut W) -> io::Result<bool> {
+        // The space first: behind the reading of the head it would be cleared twice.
+        let mut before = [0u8; 8192];
         let Some(bytes) = read_array::<R, 19>(input)? else {
             return Ok(false);
         };
         let head = Head::from(bytes);
-        let mut before = [0u8; 8192];
         if !read_beginning(input, &mut before, head.length, head.seed)? {
             return Ok(false);
         }

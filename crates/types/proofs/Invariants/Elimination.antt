@@ -64,7 +64,8 @@ module _ (filling list : List ℕ) (words : ℕ) (joins : List ℕ) where
 
   pub enter_turn : (j : ℕ) → Enters filling list j words joins → get_or filling (get_or list j 0) 0 < length joins
       → Enters filling list (j + 1) words (set joins (get_or filling (get_or list j 0) 0) (get_or filling (get_or list j 0) 0))
-  enter_turn j entered h x k = at (ℕ_discrete x o)
+      × (length (set joins (get_or filling (get_or list j 0) 0) (get_or filling (get_or list j 0) 0)) ≡ length joins)
+  enter_turn j entered h = (λ x k. at x k (ℕ_discrete x o), length-set joins o o)
     where
       o : ℕ
       o = get_or filling (get_or list j 0) 0
@@ -73,10 +74,10 @@ module _ (filling list : List ℕ) (words : ℕ) (joins : List ℕ) where
       has_word : ℕ → ℕ → Bool
       has_word x i = eqb (get_or filling (get_or list i 0) 0) x
 
-      at : Dec (x ≡ o) → get_or (set joins o o) x 0 ≡ cond (any_below (has_word x) (j + 1)) x 0
-      at (yes q) =
+      at : (x : ℕ) → x < words → Dec (x ≡ o) → get_or (set joins o o) x 0 ≡ cond (any_below (has_word x) (j + 1)) x 0
+      at x k (yes q) =
           rw q (get_or-set_same joins o o 0 h ∙ ap (λ (b : Bool). cond b o 0) (any_hit (has_word o) j (eq-eqb o o refl)))
-      at (no q) =
+      at x k (no q) =
           get_or-set_other joins o x o 0 q ∙ entered x k
           ∙ ap (λ (b : Bool). cond b x 0) (any_miss (has_word x) j _ refl (ne_eqb o x (λ e. q (sym e))))
 

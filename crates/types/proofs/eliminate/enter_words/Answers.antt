@@ -14,4 +14,5 @@ pub loop-t-preserved : goal.loop-t-preserved
 loop-t-preserved c =
     let a = c.args in
     let i = c.loop-t.t-index in
-    enter_turn a.filling.now a.remaining.now _ _ i c.loop-t.invariant (omega (arith, c.requires.by_index_2 i c.loop-t-test.true))
+    (enter_turn a.filling.now a.remaining.now _ _ i c.loop-t.invariant
+    (omega (arith, c.requires.by_index_2 i c.loop-t-test.true))).0
