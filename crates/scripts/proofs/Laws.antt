@@ -1,3 +1,3 @@
--- Generic laws: two runs whose literals correspond answer alike; ways through the trees of the index; checks in turn.
+-- Generic laws: two runs whose literals correspond answer alike; ways through the trees of the index.
 pub mod Correspondence
 pub mod SearchTree
